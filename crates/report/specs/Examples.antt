@@ -1,0 +1,102 @@
+-- Document 01, "Berths to try": H1 to H10 as one list of cases. Their theorem is proofs/ExamplesHold.
+use Prim.Native.Nat.{ℕ, zero, suc, _+_, _-_, _^_}
+use mathlib.Core.List.{List, [], _∷_, _++_}
+use lib.ListN.{replicate, length}
+use Rattle.report.specs.Tables.{Tables, tablesOf, entryCount, relationCount, comparisonCount, queryCount}
+use Rattle.report.specs.ColumnRows.{columnRows}
+use Rattle.report.specs.Configuring.{configured}
+use Rattle.report.specs.Checks.{Call, answer}
+use Rattle.report.specs.Text.{bytes}
+use Rattle.report.specs.Print.{print}
+use Rattle.report.specs.declared.Verdict.{Verdict}
+
+-- a call on tables, or the program on a text
+pub data Case : Type 0 where
+  call : Tables → Call → Case
+  program : List ℕ → Case
+
+-- what comes of it: a refusal; the column rows; the written tables with the counts that are returned; a print
+pub data Outcome : Type 0 where
+  refused : ℕ → ℕ → ℕ → ℕ → Outcome
+  rows : List ℕ → Outcome
+  counts : ℕ → ℕ → ℕ → ℕ → Tables → Outcome
+  printed : List ℕ → Outcome
+
+abbrev pub outcomeOr : Verdict → Outcome → Outcome
+outcomeOr Verdict.Accepted o = o
+outcomeOr (Verdict.Refused r) o = Outcome.refused (r .number) (r .place) (r .item) (r .configuration)
+
+abbrev pub writtenOutcome : Tables → Outcome
+writtenOutcome T = Outcome.counts (entryCount T) (relationCount T) (comparisonCount T) (queryCount T) T
+
+-- where an accepting check writes the rows that `rule` gives: the definition's are columnRows
+abbrev pub outcomeBy : (Tables → List ℕ) → Case → Outcome
+outcomeBy rule (Case.call T (Call.check room)) = let r = rule T in outcomeOr (answer T (Call.check room)) (Outcome.rows r)
+outcomeBy rule (Case.call T (Call.configure c r1 r2 r3 r4)) = outcomeOr (answer T (Call.configure c r1 r2 r3 r4)) (writtenOutcome (configured T c))
+outcomeBy rule (Case.program text) = Outcome.printed (print text)
+
+abbrev pub outcome : Case → Outcome
+outcome = outcomeBy columnRows
+
+pub record Example : Type 0 where
+  pub of : Case
+  pub gives : Outcome
+
+infix 5 _gives_
+abbrev pub _gives_ : Case → Outcome → Example
+c gives o = record { of = c; gives = o }
+
+-- tables with H1's attributes and relation: the expressions, entries and queries
+abbrev pub harbour : ℕ → List ℕ → List ℕ → List ℕ → Tables
+harbour n expressions entries queries = tablesOf n 3 0 expressions entries (0 ∷ 3 ∷ []) [] queries
+
+abbrev pub h1Expressions : List ℕ
+h1Expressions = 1 ∷ 0 ∷ 0 ∷ 2 ∷ 0 ∷ 0 ∷ 2 ∷ 1 ∷ 0 ∷ []
+
+-- the entries of the relation, and the two of the project form, of which the last has expression e
+abbrev pub schemaEntries : List ℕ
+schemaEntries = 0 ∷ 0 ∷ 1 ∷ 0 ∷ 2 ∷ 2 ∷ []
+
+abbrev pub h1Entries : ℕ → List ℕ
+h1Entries e = schemaEntries ++ (0 ∷ 0 ∷ 2 ∷ e ∷ [])
+
+abbrev pub h1Queries : List ℕ
+h1Queries = 1 ∷ 0 ∷ 0 ∷ 0 ∷ 3 ∷ 2 ∷ 0 ∷ 0 ∷ []
+
+-- H1 with n features
+abbrev pub h1 : ℕ → Tables
+h1 n = harbour n h1Expressions (h1Entries 2) h1Queries
+
+abbrev pub checked : Tables → Case
+checked T = Case.call T (Call.check 1024)
+
+abbrev pub h1Text : List ℕ
+h1Text =
+    bytes
+    "(head 2 3 0)\n(expression 1 0 0)\n(expression 2 0 0)\n(expression 2 1 0)\n(entry 0 0)\n(entry 1 0)\n(entry 2 2)\n(entry 0 0)\n(entry 2 2)\n(relation 0 3)\n(query 1 0 0 0)\n(query 3 2 0 0)\n"
+
+abbrev pub examples : List Example
+examples =
+    -- H1, as tables and as a file
+    (checked (h1 2) gives Outcome.rows (15 ∷ replicate 31 0 ++ 12 ∷ replicate 991 0))
+    ∷ (Case.program h1Text gives Outcome.printed (bytes "(accepted)\n(at 0 (has 0))\n(at 1 (has 0))\n(at 2 (has 0 2))\n(at 3 (has 0 2))\n"))
+    -- H2, H3
+    ∷ (checked (harbour 2 h1Expressions (h1Entries 1) h1Queries) gives Outcome.refused 17 1 2 1)
+    ∷ (checked (harbour 2 h1Expressions (h1Entries 0) h1Queries) gives Outcome.refused 17 1 2 0)
+    -- H4
+    ∷ (Case.call (h1 2) (Call.configure 0 10 2 0 8)
+    gives Outcome.counts 3 1 0 2
+    (tablesOf 0 3 0 (1 ∷ 0 ∷ 0 ∷ []) (0 ∷ 0 ∷ 1 ∷ 0 ∷ 0 ∷ 0 ∷ []) (0 ∷ 2 ∷ []) [] (1 ∷ 0 ∷ 0 ∷ 0 ∷ 3 ∷ 1 ∷ 0 ∷ 0 ∷ [])))
+    -- H5, H6, H7
+    ∷ (checked (harbour 2 h1Expressions schemaEntries (1 ∷ 0 ∷ 0 ∷ 0 ∷ 1 ∷ 0 ∷ 0 ∷ 0 ∷ 5 ∷ 0 ∷ 1 ∷ 0 ∷ [])) gives Outcome.refused 18 2 0 0)
+    ∷ (checked (harbour 2 h1Expressions schemaEntries (1 ∷ 0 ∷ 0 ∷ 0 ∷ 5 ∷ 0 ∷ 0 ∷ 0 ∷ [])) gives Outcome.refused 8 1 0 0)
+    ∷ (checked (harbour 2 h1Expressions schemaEntries (0 ∷ 0 ∷ 0 ∷ 0 ∷ 1 ∷ 0 ∷ 0 ∷ 0 ∷ 6 ∷ 0 ∷ 1 ∷ 0 ∷ [])) gives Outcome.refused 19 2 0 0)
+    -- H8
+    ∷ (checked (harbour 2 (0 ∷ 0 ∷ 0 ∷ 2 ∷ 0 ∷ 0 ∷ 2 ∷ 1 ∷ 0 ∷ []) (h1Entries 2) h1Queries) gives Outcome.refused 12 0 0 0)
+    -- H9, with 11 features and with 10
+    ∷ (checked (h1 11) gives Outcome.refused 1 0 0 0)
+    ∷ (checked (h1 10) gives Outcome.rows (replicate 16 (2 ^ 64 - 1) ++ replicate 16 0 ++ replicate 16 0xcccc_cccc_cccc_cccc ++ replicate 976 0))
+    -- H10
+    ∷ (checked (harbour 2 h1Expressions (h1Entries 2) (1 ∷ 0 ∷ 0 ∷ 0 ∷ 0 ∷ 0 ∷ 0 ∷ 0 ∷ 4 ∷ 2 ∷ 0 ∷ 1 ∷ 3 ∷ 2 ∷ 2 ∷ 0 ∷ []))
+    gives Outcome.refused 17 3 0 0)
+    ∷ []

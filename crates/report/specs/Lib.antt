@@ -1,0 +1,16 @@
+pub mod Values
+pub mod Tables
+pub mod Expressions
+pub mod Typing
+pub mod ColumnRows
+pub mod PlainAlgebra
+pub mod Configuring
+pub mod ConfiguredReport
+pub mod Verdicts
+pub mod FormChecks
+pub mod Checks
+pub mod Conditions
+pub mod Text
+pub mod HarbourFile
+pub mod Print
+pub mod Examples

@@ -1,0 +1,75 @@
+-- Document 01's "plain rules": relational algebra on trees, under a schema. Nothing here knows of features, expressions or choices.
+use Prim.Native.Nat.{ℕ, _^_}
+use mathlib.Core.Bool.{Bool, true, false, _&&_}
+use mathlib.Core.List.{List, [], _∷_}
+use mathlib.Core.Option.{Option, none, some}
+use lib.Dec.{eqb}
+use lib.Bits.{bitAnd, bitOr}
+use Rattle.sets.specs.Bits.{difference}
+
+-- a comparison of an attribute with a constant or with an attribute begins with its operator
+pub data Condition : Type 0 where
+  never always : Condition
+  constant attribute : ℕ → ℕ → ℕ → Condition
+  negation : Condition → Condition
+  both either : Condition → Condition → Condition
+
+-- a project has the list of its attributes, in order
+pub data Plain : Type 0 where
+  empty : Plain
+  relation : ℕ → Plain
+  select : Condition → Plain → Plain
+  project : List ℕ → Plain → Plain
+  product union intersection : Plain → Plain → Plain
+
+-- the set of attributes of each relation that is in the schema
+abbrev pub Schema : Type 0
+Schema = ℕ → Option ℕ
+
+-- the attributes that a condition names
+abbrev pub named : Condition → ℕ
+named never = 0
+named always = 0
+named (constant o a b) = 2 ^ a
+named (attribute o a b) = bitOr (2 ^ a) (2 ^ b)
+named (negation t) = named t
+named (both t u) = bitOr (named t) (named u)
+named (either t u) = bitOr (named t) (named u)
+
+-- the set of the attributes of a list
+abbrev pub setFrom : List ℕ → ℕ
+setFrom [] = 0
+setFrom (a ∷ l) = bitOr (2 ^ a) (setFrom l)
+
+abbrev pub inSchema : Option ℕ → Bool
+inSchema none = false
+inSchema (some s) = true
+
+abbrev pub attributesIn : Option ℕ → ℕ
+attributesIn none = 0
+attributesIn (some s) = s
+
+-- every member of x is one of y
+abbrev pub subset : ℕ → ℕ → Bool
+subset x y = eqb (difference x y) 0
+
+module _ (schema : Schema) where
+  -- "columns": the set of the whole report. Where a rule is broken no answer shows it
+  abbrev pub columns : Plain → ℕ
+  columns empty = 0
+  columns (relation r) = attributesIn (schema r)
+  columns (select t q) = columns q
+  columns (project l q) = setFrom l
+  columns (product p q) = bitOr (columns p) (columns q)
+  columns (union p q) = columns p
+  columns (intersection p q) = columns p
+
+  -- "passes": each form keeps its rule
+  abbrev pub passes : Plain → Bool
+  passes empty = true
+  passes (relation r) = inSchema (schema r)
+  passes (select t q) = passes q && subset (named t) (columns q)
+  passes (project l q) = passes q && subset (setFrom l) (columns q)
+  passes (product p q) = passes p && passes q && eqb (bitAnd (columns p) (columns q)) 0
+  passes (union p q) = passes p && passes q && eqb (columns p) (columns q)
+  passes (intersection p q) = passes p && passes q && eqb (columns p) (columns q)

@@ -1,0 +1,117 @@
+-- Document 01, "Typing rules", at one configuration c: what reaches each query form, its set of attributes, and what breaks its rule.
+use Prim.Native.Nat.{ℕ, zero, suc, _+_, _^_}
+use mathlib.Core.Bool.{Bool, true, false, cond, _&&_, _||_, not}
+use lib.Dec.{ltb, eqb}
+use lib.Bits.{bitAnd, bitOr, bitXor}
+use Rattle.sets.specs.Bits.{difference}
+use Rattle.report.specs.Values.{value}
+use Rattle.report.specs.Tables.{Tables, entryAttribute, entryExpression, relationExpression, relationLength, comparison, query}
+use Rattle.report.specs.Tables.{relationCount, report, relationStart, projectStart}
+use Rattle.report.specs.Expressions.{holds, permitted}
+use Rattle.report.specs.declared.Comparison.{Comparison}
+use Rattle.report.specs.declared.Query.{Query}
+
+module _ (T : Tables) (c : ℕ) where
+  -- expression e holds at c
+  abbrev pub at : ℕ → Bool
+  at e = holds (T .expressions) c e
+
+  -- which of two alternatives a choice on expression e takes at c
+  abbrev pub taken : ℕ → ℕ → ℕ → ℕ
+  taken e where-holds elsewhere = cond (at e) where-holds elsewhere
+
+  -- ---- reached
+
+  -- a query form passes c on to a form that is marked: a choice to the alternative it takes, any other form to all its operands
+  abbrev pub passesOn : (ℕ → Bool) → Query → Bool
+  passesOn marked Query.Malformed = false
+  passesOn marked Query.Empty = false
+  passesOn marked (Query.Relation a) = false
+  passesOn marked (Query.Select a b) = marked b
+  passesOn marked (Query.Project a b) = marked b
+  passesOn marked (Query.Choice a b d) = marked (taken a b d)
+  passesOn marked (Query.Product a b) = marked a || marked b
+  passesOn marked (Query.Union a b) = marked a || marked b
+  passesOn marked (Query.Intersection a b) = marked a || marked b
+
+  -- form q is x, or passes c on to x through any number of forms
+  unfoldable pub leads : ℕ → ℕ → Bool
+  leads x = value false (λ marked q. eqb x q || passesOn marked (query (T .queries) q))
+
+  -- "reached": c is permitted, and the report passes it on to form x
+  unfoldable pub reached : ℕ → Bool
+  reached x = permitted T c && leads x (report T)
+
+  -- ---- sets of attributes
+
+  -- the attributes of those entries that hold, of the `count` entries from `start` on
+  unfoldable pub listed : ℕ → ℕ → ℕ
+  listed start zero = 0
+  listed start (suc count) =
+      bitOr (listed start count) (cond (at (entryExpression (T .entries) (start + count))) (2 ^ entryAttribute (T .entries) (start + count)) 0)
+
+  -- relation r is in table 2, and "present": its expression holds
+  abbrev pub present : ℕ → Bool
+  present r = ltb r (relationCount T) && at (relationExpression (T .relations) r)
+
+  -- the attributes of relation r's entries that hold
+  abbrev pub relationSet : ℕ → ℕ
+  relationSet r = listed (relationStart (T .relations) r) (relationLength (T .relations) r)
+
+  -- the attributes that the list of the project form q, of `count` entries, names
+  abbrev pub projectSet : ℕ → ℕ → ℕ
+  projectSet q count = listed (projectStart T q) count
+
+  -- the attributes that a comparison names, its choices taken
+  abbrev pub namesOf : (ℕ → ℕ) → Comparison → ℕ
+  namesOf named Comparison.Malformed = 0
+  namesOf named Comparison.Never = 0
+  namesOf named Comparison.Always = 0
+  namesOf named (Comparison.Constant o a b) = 2 ^ a
+  namesOf named (Comparison.Attribute o a b) = bitOr (2 ^ a) (2 ^ b)
+  namesOf named (Comparison.Not a) = named a
+  namesOf named (Comparison.And a b) = bitOr (named a) (named b)
+  namesOf named (Comparison.Or a b) = bitOr (named a) (named b)
+  namesOf named (Comparison.Choice a b d) = named (taken a b d)
+
+  unfoldable pub names : ℕ → ℕ
+  names = value 0 (λ named f. namesOf named (comparison (T .comparisons) f))
+
+  -- The set of a query form. Document 01 gives one only where the rules are kept; there this is that set (proofs/SetLaws). Elsewhere, where
+  -- no answer shows it, an absent relation has no attributes, a project those of its list that its operand has, a union or intersection
+  -- those of its left operand
+  abbrev pub setRule : (ℕ → ℕ) → ℕ → Query → ℕ
+  setRule set q Query.Malformed = 0
+  setRule set q Query.Empty = 0
+  setRule set q (Query.Relation a) = cond (present a) (relationSet a) 0
+  setRule set q (Query.Select a b) = set b
+  setRule set q (Query.Project a b) = bitAnd (projectSet q a) (set b)
+  setRule set q (Query.Choice a b d) = set (taken a b d)
+  setRule set q (Query.Product a b) = bitOr (set a) (set b)
+  setRule set q (Query.Union a b) = set a
+  setRule set q (Query.Intersection a b) = set a
+
+  unfoldable pub setOf : ℕ → ℕ
+  setOf = value 0 (λ set q. setRule set q (query (T .queries) q))
+
+  -- ---- rules
+
+  -- What breaks the rule of form q at c, as a set of the refusal's items: an absent relation; attributes that are compared, or projected, and
+  -- missing; that both sides of a product have; that one side alone of a union or intersection has
+  abbrev pub faultsOf : ℕ → Query → ℕ
+  faultsOf q Query.Malformed = 0
+  faultsOf q Query.Empty = 0
+  faultsOf q (Query.Relation a) = cond (present a) 0 (2 ^ a)
+  faultsOf q (Query.Select a b) = difference (names a) (setOf b)
+  faultsOf q (Query.Project a b) = difference (projectSet q a) (setOf b)
+  faultsOf q (Query.Choice a b d) = 0
+  faultsOf q (Query.Product a b) = bitAnd (setOf a) (setOf b)
+  faultsOf q (Query.Union a b) = bitXor (setOf a) (setOf b)
+  faultsOf q (Query.Intersection a b) = bitXor (setOf a) (setOf b)
+
+  unfoldable pub faults : ℕ → ℕ
+  faults q = faultsOf q (query (T .queries) q)
+
+  -- form q breaks its rule at c. A form that c does not reach breaks nothing
+  abbrev pub fails : ℕ → Bool
+  fails q = reached q && not (eqb (faults q) 0)

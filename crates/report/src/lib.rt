@@ -1,0 +1,53 @@
+// A refusal: its number, and the place, item and configuration that document 01's table of refusals names for that number. A field that
+// the table does not name is 0.
+pub struct Refusal {
+    pub number: u64,
+    pub place: u64,
+    pub item: u64,
+    pub configuration: u64,
+}
+
+// What a check answers.
+pub enum Verdict {
+    Accepted,
+    Refused(Refusal),
+}
+
+// A form of table 0. Malformed: its kind is unknown, or a word that its kind leaves unused is not 0.
+pub enum Expression {
+    Malformed,
+    False,
+    True,
+    Feature(usize),
+    Not(usize),
+    And(usize, usize),
+    Or(usize, usize),
+}
+
+// A form of table 3. Constant is operator, attribute, constant; Attribute is operator, attribute, attribute; Choice is expression, comparison
+// where it holds, comparison elsewhere. Malformed as in table 0.
+pub enum Comparison {
+    Malformed,
+    Never,
+    Always,
+    Constant(usize, usize, usize),
+    Attribute(usize, usize, usize),
+    Not(usize),
+    And(usize, usize),
+    Or(usize, usize),
+    Choice(usize, usize, usize),
+}
+
+// A form of table 4. Select is comparison, query; Project is number of entries, query; Choice is expression, query where it holds, query
+// elsewhere. Malformed as in table 0.
+pub enum Query {
+    Malformed,
+    Empty,
+    Relation(usize),
+    Select(usize, usize),
+    Project(usize, usize),
+    Choice(usize, usize, usize),
+    Product(usize, usize),
+    Union(usize, usize),
+    Intersection(usize, usize),
+}
