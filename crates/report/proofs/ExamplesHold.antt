@@ -13,7 +13,7 @@ use Rattle.report.specs.Expressions.{holds, permitted}
 use Rattle.report.specs.Typing.{names, setOf, leads, reached, listed, faults}
 use Rattle.report.specs.ColumnRows.{hasColumn, columnRows}
 use Rattle.report.specs.Configuring.{comparisonTarget, queryTarget, configured}
-use Rattle.report.specs.FormChecks.{formCheck}
+use Rattle.report.specs.FormChecks.{formCheck, expressionsCheck, entriesCheck, relationsCheck, comparisonsCheck, queriesCheck, untakenCheck}
 use Rattle.report.specs.Checks.{Call, answer, typingCheck}
 use Rattle.report.specs.Text.{decimal, numbersIn}
 use Rattle.report.specs.HarbourFile.{linesOf, fileLines, fileOf}
@@ -22,7 +22,7 @@ use Rattle.report.specs.Examples.{Case, Outcome, outcomeOr, outcomeBy, o
 
 -- to unfold this is to unfold all that an outcome is computed with
 unfoldable pub computed : Unit {0}
-unfolding bitsOf holds permitted names setOf leads reached listed faults columnRows comparisonTarget queryTarget configured formCheck typingCheck answer decimal numbersIn linesOf fileLines fileOf print
+unfolding bitsOf holds permitted names setOf leads reached listed faults columnRows comparisonTarget queryTarget configured formCheck expressionsCheck entriesCheck relationsCheck comparisonsCheck queriesCheck untakenCheck typingCheck answer decimal numbersIn linesOf fileLines fileOf print
 computed = tt
 
 -- ---- the column rows, each configuration's set worked out once

@@ -1,1 +1,10 @@
+pub mod ValueLaws
+pub mod VerdictLaws
+pub mod Formed
+pub mod FormFacts
+pub mod FitLaws
+pub mod FormedFacts
+pub mod StepLaws
+pub mod SetLaws
+pub mod FirstFault
 pub mod ExamplesHold

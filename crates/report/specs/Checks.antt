@@ -88,13 +88,13 @@ pub data Call : Type 0 where
 
 module _ (T : Tables) where
   -- 12 to 14
-  abbrev pub soundnessCheck : Verdict
-  soundnessCheck = orElse (modelCheck T) (schemaCheck T)
+  abbrev pub modelAndSchemaCheck : Verdict
+  modelAndSchemaCheck = orElse (modelCheck T) (schemaCheck T)
 
   -- what a call runs before typing, and after it
   abbrev pub beforeTyping : Call → Verdict
-  beforeTyping (Call.check room) = orElse (formCheck T) (orElse (rowsLentCheck room) soundnessCheck)
-  beforeTyping (Call.configure c r1 r2 r3 r4) = orElse (formCheck T) soundnessCheck
+  beforeTyping (Call.check room) = orElse (formCheck T) (orElse (rowsLentCheck room) modelAndSchemaCheck)
+  beforeTyping (Call.configure c r1 r2 r3 r4) = orElse (formCheck T) modelAndSchemaCheck
 
   abbrev pub afterTyping : Call → Verdict
   afterTyping (Call.check room) = Verdict.Accepted
@@ -110,7 +110,7 @@ module _ (T : Tables) where
 
   -- "sound in form and schema": none of the conditions checked before typing holds, 11 left aside
   abbrev pub Sound : Type 0
-  Sound = orElse (formCheck T) soundnessCheck ≡ Verdict.Accepted
+  Sound = orElse (formCheck T) modelAndSchemaCheck ≡ Verdict.Accepted
 
   -- "gets as far as typing": the call runs the typing checks, and no earlier check refuses it
   abbrev pub GetsAsFarAsTyping : Call → Type 0

@@ -12,7 +12,7 @@ use Rattle.report.specs.Tables.{expressionCount, entryCount, relationCou
 use Rattle.report.specs.Expressions.{configurations, permitted}
 use Rattle.report.specs.Typing.{reached, faults}
 use Rattle.report.specs.Verdicts.{refusal, refuseIf, orElse}
-use Rattle.report.specs.FormChecks.{lengthFits, expressionOk, entryFits, relationFits, comparisonOk, queryOk, takenBelow, listsEnd}
+use Rattle.report.specs.FormChecks.{lengthFits, expressionOk, entryOk, relationOk, comparisonOk, queryOk, takenBelow, listsEnd}
 use Rattle.report.specs.Checks.{Call, ruleNumber, somewhere, absentEverywhere, apartEverywhere}
 use Rattle.report.specs.declared.Refusal.{Refusal}
 use Rattle.report.specs.declared.Verdict.{Verdict}
@@ -23,46 +23,50 @@ pub record Condition : Type 0 where
   pub gives : Refusal
 
 infix 5 _gives_
-abbrev pub _gives_ : Bool → Refusal → List Condition
+unfoldable pub _gives_ : Bool → Refusal → List Condition
 b gives r = record { holds = b; gives = r } ∷ []
 
+-- one condition for each number below n: forms ascending
+unfoldable pub each : ℕ → (ℕ → Bool) → (ℕ → Refusal) → List Condition
+each n test r = concat n (λ k. test k gives r k)
+
 -- the first of the conditions that holds
-abbrev pub firstOf : List Condition → Verdict
+unfoldable pub firstOf : List Condition → Verdict
 firstOf [] = Verdict.Accepted
 firstOf (x ∷ xs) = orElse (refuseIf (x .holds) (x .gives)) (firstOf xs)
 
 module _ (T : Tables) where
   -- 1 to 10
-  abbrev pub formConditions : List Condition
+  unfoldable pub formConditions : List Condition
   formConditions =
       (ltb 10 (T .features) gives refusal 1 0 0 0)
       ++ (ltb 64 (T .attributes) gives refusal 1 1 0 0)
-      ++ concat 5 (λ t. not (lengthFits (getD shapes t (shapeOf 1 0 0)) (length (getD (words T) t []))) gives refusal 2 t 0 0)
-      ++ concat (expressionCount T) (λ f. not (expressionOk T f) gives refusal 3 f 0 0)
+      ++ each 5 (λ t. not (lengthFits (getD shapes t (shapeOf 1 0 0)) (length (getD (words T) t [])))) (λ t. refusal 2 t 0 0)
+      ++ each (expressionCount T) (λ f. not (expressionOk T f)) (λ f. refusal 3 f 0 0)
       ++ (leb (expressionCount T) (T .model) gives refusal 4 0 0 0)
-      ++ concat (entryCount T) (λ i. not (entryFits T i) gives refusal 5 i 0 0)
-      ++ concat (relationCount T) (λ r. not (relationFits T r) gives refusal 6 r 0 0)
-      ++ concat (comparisonCount T) (λ f. not (comparisonOk T f) gives refusal 7 f 0 0)
-      ++ concat (queryCount T) (λ q. not (queryOk T q) gives refusal 8 q 0 0)
-      ++ concat (queryCount T - 1) (λ q. not (takenBelow (T .queries) (queryCount T) q) gives refusal 9 q 0 0)
+      ++ each (entryCount T) (λ i. not (entryOk T i)) (λ i. refusal 5 i 0 0)
+      ++ each (relationCount T) (λ r. not (relationOk T r)) (λ r. refusal 6 r 0 0)
+      ++ each (comparisonCount T) (λ f. not (comparisonOk T f)) (λ f. refusal 7 f 0 0)
+      ++ each (queryCount T) (λ q. not (queryOk T q)) (λ q. refusal 8 q 0 0)
+      ++ each (queryCount T - 1) (λ q. not (takenBelow (T .queries) (queryCount T) q)) (λ q. refusal 9 q 0 0)
       ++ (ltb (listsEnd T) (entryCount T) gives refusal 10 (listsEnd T) 0 0)
 
   -- 12, then 13 and 14 relation by relation, 14 in the order of the list
-  abbrev pub schemaConditions : List Condition
-  schemaConditions =
-      (not (somewhere T (λ c. true)) gives refusal 12 0 0 0)
-      ++ concat (relationCount T)
-      (λ r. (absentEverywhere T r gives refusal 13 r 0 0)
-      ++ concat (relationLength (T .relations) r)
-      (λ i. let e = relationStart (T .relations) r + i in apartEverywhere T r e gives refusal 14 r (entryAttribute (T .entries) e) 0))
+  abbrev pub relationConditions : ℕ → List Condition
+  relationConditions r =
+      let start = relationStart (T .relations) r in
+      (absentEverywhere T r gives refusal 13 r 0 0)
+      ++ each (relationLength (T .relations) r) (λ i. apartEverywhere T r (start + i)) (λ i. refusal 14 r (entryAttribute (T .entries) (start + i)) 0)
+
+  unfoldable pub schemaConditions : List Condition
+  schemaConditions = (not (somewhere T (λ c. true)) gives refusal 12 0 0 0) ++ concat (relationCount T) relationConditions
 
   -- 15 to 19: by form, then by configuration, then by item
-  abbrev pub typingConditions : List Condition
+  unfoldable pub typingConditions : List Condition
   typingConditions =
       concat (queryCount T)
       (λ q. concat (configurations T)
-      (λ c. concat 64
-      (λ a. reached T c q && bit (faults T c q) a gives refusal (ruleNumber (query (T .queries) q)) q a c)))
+      (λ c. each 64 (λ a. reached T c q && bit (faults T c q) a) (λ a. refusal (ruleNumber (query (T .queries) q)) q a c)))
 
   -- what each call runs: checking 1 to 19, configuring 1 to 10, 12 to 19, 20, 21
   abbrev pub conditions : Call → List Condition

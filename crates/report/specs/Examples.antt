@@ -1,4 +1,4 @@
--- Document 01, "Berths to try": H1 to H10 as one list of cases. Their theorem is proofs/ExamplesHold.
+-- Document 01, "Berths to try" and "Wrong ships": H1 to H10 and two cases more, as one list. Their theorem is proofs/ExamplesHold.
 use Prim.Native.Nat.{ℕ, zero, suc, _+_, _-_, _^_}
 use mathlib.Core.List.{List, [], _∷_, _++_}
 use lib.ListN.{replicate, length}
@@ -67,6 +67,11 @@ h1Queries = 1 ∷ 0 ∷ 0 ∷ 0 ∷ 3 ∷ 2 ∷ 0 ∷ 0 ∷ []
 abbrev pub h1 : ℕ → Tables
 h1 n = harbour n h1Expressions (h1Entries 2) h1Queries
 
+-- expressions true, feature 0 and its negation; one relation, present where feature 0 is on; a choice on feature 0 between it and empty
+abbrev pub guarded : List ℕ → ℕ → Tables
+guarded entries count =
+    tablesOf 1 2 0 (1 ∷ 0 ∷ 0 ∷ 2 ∷ 0 ∷ 0 ∷ 3 ∷ 1 ∷ 0 ∷ []) entries (1 ∷ count ∷ []) [] (1 ∷ 0 ∷ 0 ∷ 0 ∷ 0 ∷ 0 ∷ 0 ∷ 0 ∷ 4 ∷ 1 ∷ 0 ∷ 1 ∷ [])
+
 abbrev pub checked : Tables → Case
 checked T = Case.call T (Call.check 1024)
 
@@ -99,4 +104,8 @@ examples =
     -- H10
     ∷ (checked (harbour 2 h1Expressions (h1Entries 2) (1 ∷ 0 ∷ 0 ∷ 0 ∷ 0 ∷ 0 ∷ 0 ∷ 0 ∷ 4 ∷ 2 ∷ 0 ∷ 1 ∷ 3 ∷ 2 ∷ 2 ∷ 0 ∷ []))
     gives Outcome.refused 17 3 0 0)
+    -- W1 and W3, the first and third of the wrong ships: a relation guarded by its own feature, under a choice on it; the same with an entry that
+    -- holds only where the relation is absent. (The second and fourth are H2 and H7)
+    ∷ (checked (guarded (0 ∷ 0 ∷ []) 1) gives Outcome.rows (2 ∷ replicate 1023 0))
+    ∷ (checked (guarded (0 ∷ 0 ∷ 1 ∷ 2 ∷ []) 2) gives Outcome.refused 14 0 1 0)
     ∷ []

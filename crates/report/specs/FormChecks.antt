@@ -4,11 +4,11 @@ use mathlib.Core.Bool.{Bool, true, false, _&&_, _||_, not}
 use mathlib.Core.List.{List, [], _∷_}
 use lib.ListN.{length, getD}
 use lib.Dec.{leb, ltb, eqb}
-use Rattle.sets.specs.Search.{seek, lowest, someBelow, allBelow}
+use Rattle.sets.specs.Search.{lowest, someBelow}
 use Rattle.report.specs.Tables.{Tables, Shape, shapeOf, shapes, words, entryAttribute, entryExpression, relationExpression, relationLength}
 use Rattle.report.specs.Tables.{expression, comparison, query, expressionCount, entryCount, relationCount, comparisonCount, queryCount}
-use Rattle.report.specs.Tables.{relationStart, projectStart}
-use Rattle.report.specs.Verdicts.{refusal, refuseIf, refuseAt, orElse}
+use Rattle.report.specs.Tables.{relationStart, projectedBefore, projectStart}
+use Rattle.report.specs.Verdicts.{refusal, refuseIf, refuseAt, orElse, firstFrom}
 use Rattle.report.specs.declared.Verdict.{Verdict}
 use Rattle.report.specs.declared.Expression.{Expression}
 use Rattle.report.specs.declared.Comparison.{Comparison}
@@ -77,78 +77,110 @@ repeats entries start count =
 abbrev pub listFits : List ℕ → ℕ → ℕ → Bool
 listFits entries start count = leb (start + count) (length entries / 2) && not (repeats entries start count)
 
-module _ (T : Tables) where
-  abbrev pub entryFits : ℕ → Bool
-  entryFits i = ltb (entryAttribute (T .entries) i) (T .attributes) && ltb (entryExpression (T .entries) i) (expressionCount T)
+-- entry k: an attribute below m, one of e expressions
+abbrev pub entryFits : ℕ → ℕ → List ℕ → ℕ → Bool
+entryFits m e entries k = ltb (entryAttribute entries k) m && ltb (entryExpression entries k) e
 
-  abbrev pub relationFits : ℕ → Bool
-  relationFits r =
-      ltb (relationExpression (T .relations) r) (expressionCount T)
-      && listFits (T .entries) (relationStart (T .relations) r) (relationLength (T .relations) r)
+-- relation r: one of e expressions, and its list
+abbrev pub relationFits : ℕ → List ℕ → List ℕ → ℕ → Bool
+relationFits e entries relations r =
+    ltb (relationExpression relations r) e && listFits entries (relationStart relations r) (relationLength relations r)
 
+-- a query that stands as form q, where there are e expressions, r relations and p comparisons, and the lists of project forms lie in `entries`
+-- from `start` on
+module _ (e r p : ℕ) (entries : List ℕ) (start : ℕ) (queries : List ℕ) where
   abbrev pub queryFits : ℕ → Query → Bool
   queryFits q Query.Malformed = false
   queryFits q Query.Empty = true
-  queryFits q (Query.Relation a) = ltb a (relationCount T)
-  queryFits q (Query.Select a b) = ltb a (comparisonCount T) && free (T .queries) q b
-  queryFits q (Query.Project a b) = listFits (T .entries) (projectStart T q) a && free (T .queries) q b
-  queryFits q (Query.Choice a b d) = ltb a (expressionCount T) && freePair (T .queries) q b d
-  queryFits q (Query.Product a b) = freePair (T .queries) q a b
-  queryFits q (Query.Union a b) = freePair (T .queries) q a b
-  queryFits q (Query.Intersection a b) = freePair (T .queries) q a b
+  queryFits q (Query.Relation a) = ltb a r
+  queryFits q (Query.Select a b) = ltb a p && free queries q b
+  queryFits q (Query.Project a b) = listFits entries (start + projectedBefore queries q) a && free queries q b
+  queryFits q (Query.Choice a b d) = ltb a e && freePair queries q b d
+  queryFits q (Query.Product a b) = freePair queries q a b
+  queryFits q (Query.Union a b) = freePair queries q a b
+  queryFits q (Query.Intersection a b) = freePair queries q a b
 
+  -- 8: the lowest form that does not fit
+  unfoldable pub queriesCheck : Verdict
+  queriesCheck = refuseAt (λ q. refusal 8 q 0 0) (lowest (λ q. not (queryFits q (query queries q))) (length queries / 4))
+
+-- 2: the length of table t
+abbrev pub lengthCheck : Shape → ℕ → ℕ → Verdict
+lengthCheck shape t count = refuseIf (not (lengthFits shape count)) (refusal 2 t 0 0)
+
+-- 3: the lowest expression that does not fit, where there are n features
+unfoldable pub expressionsCheck : ℕ → List ℕ → Verdict
+expressionsCheck n expressions =
+    refuseAt (λ f. refusal 3 f 0 0) (lowest (λ f. not (expressionFits n f (expression expressions f))) (length expressions / 3))
+
+-- 4: the model is not in table 0
+abbrev pub modelFormCheck : ℕ → ℕ → Verdict
+modelFormCheck e model = refuseIf (leb e model) (refusal 4 0 0 0)
+
+-- 5: the lowest entry that does not fit
+unfoldable pub entriesCheck : ℕ → ℕ → List ℕ → Verdict
+entriesCheck m e entries = refuseAt (λ k. refusal 5 k 0 0) (lowest (λ k. not (entryFits m e entries k)) (length entries / 2))
+
+-- 6: the lowest relation that does not fit
+unfoldable pub relationsCheck : ℕ → List ℕ → List ℕ → Verdict
+relationsCheck e entries relations =
+    refuseAt (λ r. refusal 6 r 0 0) (lowest (λ r. not (relationFits e entries relations r)) (length relations / 2))
+
+-- 7: the lowest comparison that does not fit
+unfoldable pub comparisonsCheck : ℕ → ℕ → List ℕ → Verdict
+comparisonsCheck m e comparisons =
+    refuseAt (λ f. refusal 7 f 0 0) (lowest (λ f. not (comparisonFits m e f (comparison comparisons f))) (length comparisons / 5))
+
+-- 9: the lowest form other than the last that no form has taken
+unfoldable pub untakenCheck : List ℕ → Verdict
+untakenCheck queries =
+    refuseAt (λ q. refusal 9 q 0 0) (lowest (λ q. not (takenBelow queries (length queries / 4) q)) (length queries / 4 - 1))
+
+-- 10: the first entry after the last list, of `count` entries
+abbrev pub leftEntryCheck : ℕ → ℕ → Verdict
+leftEntryCheck end count = refuseIf (ltb end count) (refusal 10 end 0 0)
+
+module _ (T : Tables) where
   -- form k of each table fits
   abbrev pub expressionOk : ℕ → Bool
   expressionOk f = expressionFits (T .features) f (expression (T .expressions) f)
 
+  abbrev pub entryOk : ℕ → Bool
+  entryOk k = entryFits (T .attributes) (expressionCount T) (T .entries) k
+
+  abbrev pub relationOk : ℕ → Bool
+  relationOk r = relationFits (expressionCount T) (T .entries) (T .relations) r
+
   abbrev pub comparisonOk : ℕ → Bool
   comparisonOk f = comparisonFits (T .attributes) (expressionCount T) f (comparison (T .comparisons) f)
 
-  abbrev pub queryOk : ℕ → Bool
-  queryOk q = queryFits q (query (T .queries) q)
+  -- where the lists of the relations end
+  abbrev pub relationsEnd : ℕ
+  relationsEnd = relationStart (T .relations) (relationCount T)
 
-  -- how many entries all lists together take
+  abbrev pub queryFitsIn : ℕ → Query → Bool
+  queryFitsIn = queryFits (expressionCount T) (relationCount T) (comparisonCount T) (T .entries) relationsEnd (T .queries)
+
+  abbrev pub queryOk : ℕ → Bool
+  queryOk q = queryFitsIn q (query (T .queries) q)
+
+  -- where all lists end
   abbrev pub listsEnd : ℕ
   listsEnd = projectStart T (queryCount T)
 
   -- 2: the lowest table whose length does not fit
   abbrev pub lengthsCheck : Verdict
-  lengthsCheck = refuseAt (λ t. refusal 2 t 0 0) (lowest (λ t. not (lengthFits (getD shapes t (shapeOf 1 0 0)) (length (getD (words T) t [])))) 5)
-
-  -- 3, 5, 6, 7, 8: the lowest form of the table that does not fit
-  abbrev pub expressionsCheck : Verdict
-  expressionsCheck = refuseAt (λ f. refusal 3 f 0 0) (lowest (λ f. not (expressionOk f)) (expressionCount T))
-
-  -- 4: the model is not in table 0
-  abbrev pub modelFormCheck : Verdict
-  modelFormCheck = refuseIf (leb (expressionCount T) (T .model)) (refusal 4 0 0 0)
-
-  abbrev pub entriesCheck : Verdict
-  entriesCheck = refuseAt (λ i. refusal 5 i 0 0) (lowest (λ i. not (entryFits i)) (entryCount T))
-
-  abbrev pub relationsCheck : Verdict
-  relationsCheck = refuseAt (λ r. refusal 6 r 0 0) (lowest (λ r. not (relationFits r)) (relationCount T))
-
-  abbrev pub comparisonsCheck : Verdict
-  comparisonsCheck = refuseAt (λ f. refusal 7 f 0 0) (lowest (λ f. not (comparisonOk f)) (comparisonCount T))
-
-  abbrev pub queriesCheck : Verdict
-  queriesCheck = refuseAt (λ q. refusal 8 q 0 0) (lowest (λ q. not (queryOk q)) (queryCount T))
-
-  -- 9: the lowest form other than the last that no form has taken
-  abbrev pub untakenCheck : Verdict
-  untakenCheck = refuseAt (λ q. refusal 9 q 0 0) (lowest (λ q. not (takenBelow (T .queries) (queryCount T) q)) (queryCount T - 1))
-
-  -- 10: the first entry after the last list
-  abbrev pub leftEntryCheck : Verdict
-  leftEntryCheck = refuseIf (ltb listsEnd (entryCount T)) (refusal 10 listsEnd 0 0)
+  lengthsCheck = firstFrom (λ t. lengthCheck (getD shapes t (shapeOf 1 0 0)) t (length (getD (words T) t []))) 5 0
 
   -- checks 1 to 10
   unfoldable pub formCheck : Verdict
   formCheck =
       orElse (headCheck (T .features) (T .attributes))
       (orElse lengthsCheck
-      (orElse expressionsCheck
-      (orElse modelFormCheck
-      (orElse entriesCheck
-      (orElse relationsCheck (orElse comparisonsCheck (orElse queriesCheck (orElse untakenCheck leftEntryCheck))))))))
+      (orElse (expressionsCheck (T .features) (T .expressions))
+      (orElse (modelFormCheck (expressionCount T) (T .model))
+      (orElse (entriesCheck (T .attributes) (expressionCount T) (T .entries))
+      (orElse (relationsCheck (expressionCount T) (T .entries) (T .relations))
+      (orElse (comparisonsCheck (T .attributes) (expressionCount T) (T .comparisons))
+      (orElse (queriesCheck (expressionCount T) (relationCount T) (comparisonCount T) (T .entries) relationsEnd (T .queries))
+      (orElse (untakenCheck (T .queries)) (leftEntryCheck listsEnd (entryCount T))))))))))

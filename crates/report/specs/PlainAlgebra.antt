@@ -8,26 +8,26 @@ use lib.Bits.{bitAnd, bitOr}
 use Rattle.sets.specs.Bits.{difference}
 
 -- a comparison of an attribute with a constant or with an attribute begins with its operator
-pub data Condition : Type 0 where
-  never always : Condition
-  constant attribute : ℕ → ℕ → ℕ → Condition
-  negation : Condition → Condition
-  both either : Condition → Condition → Condition
+pub data PlainComparison : Type 0 where
+  never always : PlainComparison
+  constant attribute : ℕ → ℕ → ℕ → PlainComparison
+  negation : PlainComparison → PlainComparison
+  both either : PlainComparison → PlainComparison → PlainComparison
 
 -- a project has the list of its attributes, in order
-pub data Plain : Type 0 where
-  empty : Plain
-  relation : ℕ → Plain
-  select : Condition → Plain → Plain
-  project : List ℕ → Plain → Plain
-  product union intersection : Plain → Plain → Plain
+pub data PlainQuery : Type 0 where
+  empty : PlainQuery
+  relation : ℕ → PlainQuery
+  select : PlainComparison → PlainQuery → PlainQuery
+  project : List ℕ → PlainQuery → PlainQuery
+  product union intersection : PlainQuery → PlainQuery → PlainQuery
 
 -- the set of attributes of each relation that is in the schema
 abbrev pub Schema : Type 0
 Schema = ℕ → Option ℕ
 
--- the attributes that a condition names
-abbrev pub named : Condition → ℕ
+-- the attributes that a comparison names
+abbrev pub named : PlainComparison → ℕ
 named never = 0
 named always = 0
 named (constant o a b) = 2 ^ a
@@ -55,7 +55,7 @@ subset x y = eqb (difference x y) 0
 
 module _ (schema : Schema) where
   -- "columns": the set of the whole report. Where a rule is broken no answer shows it
-  abbrev pub columns : Plain → ℕ
+  abbrev pub columns : PlainQuery → ℕ
   columns empty = 0
   columns (relation r) = attributesIn (schema r)
   columns (select t q) = columns q
@@ -65,7 +65,7 @@ module _ (schema : Schema) where
   columns (intersection p q) = columns p
 
   -- "passes": each form keeps its rule
-  abbrev pub passes : Plain → Bool
+  abbrev pub passes : PlainQuery → Bool
   passes empty = true
   passes (relation r) = inSchema (schema r)
   passes (select t q) = passes q && subset (named t) (columns q)

@@ -1,0 +1,163 @@
+-- What holds of tables that checks 1 to 10 accept: how many forms there are, what each is, where the lists lie, what is whose operand.
+use Prim.Native.Nat.{ℕ, zero, suc, _+_, _*_, _<_, _≤_}
+use mathlib.Core.Path.{_≡_, sym, _∙_}
+use mathlib.Core.Bool.{true, and-eq-true-iff, false≢true}
+use mathlib.Core.List.{List}
+use native.Mathlib.Nat.{le-refl}
+use native.Mathlib.Decide.{le-ind}
+use native.Mathlib.Omega.{arith}
+use borrow.Author.Tests.{ltb-true}
+use lib.ListN.{length}
+use lib.Dec.{ltb}
+use Rattle.sets.proofs.SearchLaws.{some-at}
+use Rattle.report.specs.Tables.{Tables, entryAttribute, entryExpression, relationExpression, relationLength, expression, comparison, query}
+use Rattle.report.specs.Tables.{expressionCount, entryCount, relationCount, comparisonCount, queryCount, report}
+use Rattle.report.specs.Tables.{relationStart, projectLength, projectedBefore, projectStart}
+use Rattle.report.specs.FormChecks.{isOperand, listFits, listsEnd}
+use Rattle.report.specs.declared.Query.{Query}
+use Rattle.report.proofs.Formed.{Formed}
+use Rattle.report.proofs.FormFacts.{ExpressionLower, expression-lower, ComparisonLower, comparison-lower, ComparisonBelow, comparison-below}
+use Rattle.report.proofs.FormFacts.{QueryLower, query-lower, QueryBelow, query-below, ListIn, list-in, operand-free}
+
+-- lists start one after another, those of the relations
+pub relation-starts : (relations : List ℕ) (r s : ℕ) → r ≤ s → relationStart relations r ≤ relationStart relations s
+relation-starts relations r =
+    le-ind (λ (s : ℕ). relationStart relations r ≤ relationStart relations s) (le-refl (relationStart relations r)) (λ s h ih. omega arith)
+
+-- and those of the project forms
+pub projected-grows : (queries : List ℕ) (p q : ℕ) → p ≤ q → projectedBefore queries p ≤ projectedBefore queries q
+projected-grows queries p =
+    le-ind (λ (q : ℕ). projectedBefore queries p ≤ projectedBefore queries q) (le-refl (projectedBefore queries p)) (λ q h ih. omega arith)
+
+-- how many forms each table has, and how many words
+pub record Counts (T : Tables) : Type 0 where
+  pub someExpression : 1 ≤ expressionCount T
+  pub someQuery : 1 ≤ queryCount T
+  pub most0 : expressionCount T ≤ 256
+  pub most1 : entryCount T ≤ 512
+  pub most2 : relationCount T ≤ 32
+  pub most3 : comparisonCount T ≤ 256
+  pub most4 : queryCount T ≤ 256
+  pub words0 : length (T .expressions) ≡ expressionCount T * 3
+  pub words1 : length (T .entries) ≡ entryCount T * 2
+  pub words2 : length (T .relations) ≡ relationCount T * 2
+  pub words3 : length (T .comparisons) ≡ comparisonCount T * 5
+  pub words4 : length (T .queries) ≡ queryCount T * 4
+
+-- query form x is an operand of one form alone
+pub record Taken (T : Tables) (x : ℕ) : Type 0 where
+  pub by : ℕ
+  pub above : x < by
+  pub inside : by < queryCount T
+  pub operand : isOperand x (query (T .queries) by) ≡ true
+  pub only : (p : ℕ) → p < queryCount T → isOperand x (query (T .queries) p) ≡ true → p ≡ by
+
+module _ {T : Tables} (F : Formed T) where
+  -- the counts are in their ranges, and tables have no words beside their forms
+  pub counts : Counts T
+  counts = omega arith
+
+  -- the report is a form of table 4
+  pub report-in : report T < queryCount T
+  report-in = omega arith
+
+  -- ---- each form
+
+  -- each form of tables 0, 3 and 4 fits
+  pub expression-at : (f : ℕ) → f < expressionCount T → ExpressionLower (T .features) f (expression (T .expressions) f)
+  expression-at f h = expression-lower (T .features) f (expression (T .expressions) f) (F .expressionsOk f h)
+
+  pub comparison-at : (f : ℕ) → f < comparisonCount T → ComparisonLower (T .attributes) (expressionCount T) f (comparison (T .comparisons) f)
+  comparison-at f h = comparison-lower (T .attributes) (expressionCount T) f (comparison (T .comparisons) f) (F .comparisonsOk f h)
+
+  pub query-at : (q : ℕ) → q < queryCount T → QueryLower T q (query (T .queries) q)
+  query-at q h = query-lower T q (query (T .queries) q) (F .queriesOk q h)
+
+  -- the operands of a comparison, and of a query form, are lower
+  pub comparison-operands : (f : ℕ) → f < comparisonCount T → ComparisonBelow f (comparison (T .comparisons) f)
+  comparison-operands f h = comparison-below (T .attributes) (expressionCount T) f (comparison (T .comparisons) f) (comparison-at f h)
+
+  pub query-operands : (q : ℕ) → q < queryCount T → QueryBelow q (query (T .queries) q)
+  query-operands q h = query-below T q (query (T .queries) q) (query-at q h)
+
+  -- ---- entries and relations
+
+  entry-tests : (i : ℕ) → i < entryCount T
+      → (ltb (entryAttribute (T .entries) i) (T .attributes) ≡ true) × (ltb (entryExpression (T .entries) i) (expressionCount T) ≡ true)
+  entry-tests i h = and-eq-true-iff _ _ .0 (F .entriesOk i h)
+
+  -- an entry's attribute is one of the head's, so one of 64; its expression is in table 0
+  pub entry-attribute : (i : ℕ) → i < entryCount T → entryAttribute (T .entries) i < T .attributes
+  entry-attribute i h = ltb-true _ _ (entry-tests i h .0)
+
+  pub entry-narrow : (i : ℕ) → i < entryCount T → entryAttribute (T .entries) i < 64
+  entry-narrow i h = let a = entry-attribute i h in let m = F .narrow in omega arith
+
+  pub entry-expression : (i : ℕ) → i < entryCount T → entryExpression (T .entries) i < expressionCount T
+  entry-expression i h = ltb-true _ _ (entry-tests i h .1)
+
+  relation-tests : (r : ℕ) → r < relationCount T
+      → (ltb (relationExpression (T .relations) r) (expressionCount T) ≡ true)
+      × (listFits (T .entries) (relationStart (T .relations) r) (relationLength (T .relations) r) ≡ true)
+  relation-tests r h = and-eq-true-iff _ _ .0 (F .relationsOk r h)
+
+  -- a relation's expression is in table 0, its list in table 1 with no attribute twice
+  pub relation-expression : (r : ℕ) → r < relationCount T → relationExpression (T .relations) r < expressionCount T
+  relation-expression r h = ltb-true _ _ (relation-tests r h .0)
+
+  pub relation-list : (r : ℕ) → r < relationCount T → ListIn (T .entries) (relationStart (T .relations) r) (relationLength (T .relations) r)
+  relation-list r h = list-in _ _ _ (relation-tests r h .1)
+
+  -- ---- where the lists lie
+
+  -- they all start within table 1, or at its end
+  pub relation-within : (r : ℕ) → r ≤ relationCount T → relationStart (T .relations) r ≤ entryCount T
+  relation-within zero h = omega arith
+  relation-within (suc r) h = relation-list r h .inside
+
+  project-next : (q : ℕ) (x : Query) → QueryLower T q x → projectStart T q ≤ entryCount T → projectStart T q + projectLength x ≤ entryCount T
+  project-next q Query.Malformed l h = absurd l
+  project-next q Query.Empty l h = omega arith
+  project-next q (Query.Relation a) l h = omega arith
+  project-next q (Query.Select a b) l h = omega arith
+  project-next q (Query.Project a b) l h = l .0 .inside
+  project-next q (Query.Choice a b d) l h = omega arith
+  project-next q (Query.Product a b) l h = omega arith
+  project-next q (Query.Union a b) l h = omega arith
+  project-next q (Query.Intersection a b) l h = omega arith
+
+  pub project-within : (q : ℕ) → q ≤ queryCount T → projectStart T q ≤ entryCount T
+  project-within zero h = let r = relation-within (relationCount T) (le-refl _) in omega arith
+  project-within (suc q) h =
+      let n = project-next q (query (T .queries) q) (query-at q h) (project-within q (omega arith)) in
+      omega arith
+
+  -- the lists take all the entries, and no more
+  pub lists-end : listsEnd T ≡ entryCount T
+  lists-end = let l = project-within (queryCount T) (le-refl _) in let u = F .allUsed in omega arith
+
+  -- ---- operands
+
+  -- an operand is lower
+  pub operand-lower : (q x : ℕ) → q < queryCount T → isOperand x (query (T .queries) q) ≡ true → x < q
+  operand-lower q x h o = operand-free T q (query (T .queries) q) (query-at q h) x o .lower
+
+  -- no form is an operand of two
+  pub operand-once : (p q x : ℕ) → p < queryCount T → q < queryCount T → isOperand x (query (T .queries) p) ≡ true
+      → isOperand x (query (T .queries) q) ≡ true → p ≡ q
+  operand-once p q x h k o r = let a = apart p q k o r in let b = apart q p h r o in omega arith
+    where
+      apart : (p q : ℕ) → q < queryCount T → isOperand x (query (T .queries) p) ≡ true → isOperand x (query (T .queries) q) ≡ true → p < q → ⊥
+      apart p q k o r l = false≢true (sym (operand-free T q (query (T .queries) q) (query-at q k) x r .untaken p l) ∙ o)
+
+  -- each form but the last is an operand of exactly one
+  pub taken-once : (x : ℕ) → x < report T → Taken T x
+  taken-once x h =
+      let s = some-at (λ p. isOperand x (query (T .queries) p)) (queryCount T) (F .allTaken x h) in
+      record {
+        by = s .0;
+        above = operand-lower (s .0) x (s .1) (s .2);
+        inside = s .1;
+        operand = s .2;
+        only = λ p l o. operand-once p (s .0) x l (s .1) o (s .2);
+      }

@@ -1,0 +1,212 @@
+-- One step of each meaning: where a form's operands are lower, its value is the rule's over the values of all forms.
+use Prim.Native.Nat.{ℕ, _<_}
+use mathlib.Core.Path.{_≡_, refl, ap, ap₂}
+use mathlib.Core.Bool.{Bool, true, false, cond, _&&_, _||_, not}
+use mathlib.Core.List.{List}
+use lib.Dec.{eqb}
+use lib.Bits.{bitAnd, bitOr}
+use Rattle.report.specs.Tables.{Tables, expression, comparison, query, projectStart}
+use Rattle.report.specs.Tables.{expressionCount, comparisonCount, queryCount}
+use Rattle.report.specs.Expressions.{truthOf, holds}
+use Rattle.report.specs.Typing.{at, passesOn, leads, projectSet, namesOf, names, setRule, setOf}
+use Rattle.report.specs.Configuring.{comparisonTargetOf, comparisonTarget, queryTargetOf, queryTarget}
+use Rattle.report.specs.PlainAlgebra.{PlainComparison, PlainQuery}
+use Rattle.report.specs.ConfiguredReport.{plainComparisonOf, plainComparisonAt, keptAttributes, plainQueryOf, plainQueryAt}
+use Rattle.report.specs.declared.Expression.{Expression}
+use Rattle.report.specs.declared.Comparison.{Comparison}
+use Rattle.report.specs.declared.Query.{Query}
+use Rattle.report.proofs.ValueLaws.{value-step}
+use Rattle.report.proofs.Formed.{Formed}
+use Rattle.report.proofs.FormFacts.{ExpressionLower, ComparisonBelow, QueryBelow}
+use Rattle.report.proofs.FormedFacts.{expression-at, comparison-operands, query-operands}
+
+-- the alternative that a choice takes is one of two lower ones
+pub taken-below : (t : Bool) {b d n : ℕ} → (b < n) × (d < n) → cond t b d < n
+taken-below true l = l .0
+taken-below false l = l .1
+
+-- ---- each rule reads operands alone: over f and g, which agree below n, it gives the same
+
+module _ {A : Type 0} (n : ℕ) (f g : ℕ → A) (same : (k : ℕ) → k < n → f k ≡ g k) where
+  -- a rule that joins two operands
+  two : {B : Type 0} (op : A → A → B) {a b : ℕ} → (a < n) × (b < n) → op (f a) (f b) ≡ op (g a) (g b)
+  two op {a} {b} l = ap₂ op (same a (l .0)) (same b (l .1))
+
+module _ (n : ℕ) (f g : ℕ → Bool) (same : (k : ℕ) → k < n → f k ≡ g k) where
+  truth-local : (m c : ℕ) (x : Expression) → ExpressionLower m n x → truthOf c f x ≡ truthOf c g x
+  truth-local m c Expression.Malformed l = refl
+  truth-local m c Expression.False l = refl
+  truth-local m c Expression.True l = refl
+  truth-local m c (Expression.Feature a) l = refl
+  truth-local m c (Expression.Not a) l = ap not (same a l)
+  truth-local m c (Expression.And a b) l = two n f g same _&&_ l
+  truth-local m c (Expression.Or a b) l = two n f g same _||_ l
+
+module _ (T : Tables) (c n : ℕ) where
+  module _ (f g : ℕ → ℕ) (same : (k : ℕ) → k < n → f k ≡ g k) where
+    names-local : (x : Comparison) → ComparisonBelow n x → namesOf T c f x ≡ namesOf T c g x
+    names-local Comparison.Malformed l = refl
+    names-local Comparison.Never l = refl
+    names-local Comparison.Always l = refl
+    names-local (Comparison.Constant o a b) l = refl
+    names-local (Comparison.Attribute o a b) l = refl
+    names-local (Comparison.Not a) l = same a l
+    names-local (Comparison.And a b) l = two n f g same bitOr l
+    names-local (Comparison.Or a b) l = two n f g same bitOr l
+    names-local (Comparison.Choice a b d) l = same _ (taken-below (at T c a) l)
+
+    comparison-target-local : (x : Comparison) → ComparisonBelow n x → comparisonTargetOf T c f n x ≡ comparisonTargetOf T c g n x
+    comparison-target-local Comparison.Malformed l = refl
+    comparison-target-local Comparison.Never l = refl
+    comparison-target-local Comparison.Always l = refl
+    comparison-target-local (Comparison.Constant o a b) l = refl
+    comparison-target-local (Comparison.Attribute o a b) l = refl
+    comparison-target-local (Comparison.Not a) l = refl
+    comparison-target-local (Comparison.And a b) l = refl
+    comparison-target-local (Comparison.Or a b) l = refl
+    comparison-target-local (Comparison.Choice a b d) l = same _ (taken-below (at T c a) l)
+
+    set-local : (x : Query) → QueryBelow n x → setRule T c f n x ≡ setRule T c g n x
+    set-local Query.Malformed l = refl
+    set-local Query.Empty l = refl
+    set-local (Query.Relation a) l = refl
+    set-local (Query.Select a b) l = same b l
+    set-local (Query.Project a b) l = ap (bitAnd (projectSet T c n a)) (same b l)
+    set-local (Query.Choice a b d) l = same _ (taken-below (at T c a) l)
+    set-local (Query.Product a b) l = two n f g same bitOr l
+    set-local (Query.Union a b) l = same a (l .0)
+    set-local (Query.Intersection a b) l = same a (l .0)
+
+    query-target-local : (x : Query) → QueryBelow n x → queryTargetOf T c f n x ≡ queryTargetOf T c g n x
+    query-target-local Query.Malformed l = refl
+    query-target-local Query.Empty l = refl
+    query-target-local (Query.Relation a) l = refl
+    query-target-local (Query.Select a b) l = refl
+    query-target-local (Query.Project a b) l = refl
+    query-target-local (Query.Choice a b d) l = same _ (taken-below (at T c a) l)
+    query-target-local (Query.Product a b) l = refl
+    query-target-local (Query.Union a b) l = refl
+    query-target-local (Query.Intersection a b) l = refl
+
+  module _ (f g : ℕ → PlainComparison) (same : (k : ℕ) → k < n → f k ≡ g k) where
+    plain-comparison-local : (x : Comparison) → ComparisonBelow n x → plainComparisonOf T c f x ≡ plainComparisonOf T c g x
+    plain-comparison-local Comparison.Malformed l = refl
+    plain-comparison-local Comparison.Never l = refl
+    plain-comparison-local Comparison.Always l = refl
+    plain-comparison-local (Comparison.Constant o a b) l = refl
+    plain-comparison-local (Comparison.Attribute o a b) l = refl
+    plain-comparison-local (Comparison.Not a) l = ap PlainComparison.negation (same a l)
+    plain-comparison-local (Comparison.And a b) l = two n f g same PlainComparison.both l
+    plain-comparison-local (Comparison.Or a b) l = two n f g same PlainComparison.either l
+    plain-comparison-local (Comparison.Choice a b d) l = same _ (taken-below (at T c a) l)
+
+  module _ (f g : ℕ → Bool) (same : (k : ℕ) → k < n → f k ≡ g k) where
+    passes-local : (x : Query) → QueryBelow n x → passesOn T c f x ≡ passesOn T c g x
+    passes-local Query.Malformed l = refl
+    passes-local Query.Empty l = refl
+    passes-local (Query.Relation a) l = refl
+    passes-local (Query.Select a b) l = same b l
+    passes-local (Query.Project a b) l = same b l
+    passes-local (Query.Choice a b d) l = same _ (taken-below (at T c a) l)
+    passes-local (Query.Product a b) l = two n f g same _||_ l
+    passes-local (Query.Union a b) l = two n f g same _||_ l
+    passes-local (Query.Intersection a b) l = two n f g same _||_ l
+
+  module _ (f g : ℕ → PlainQuery) (same : (k : ℕ) → k < n → f k ≡ g k) where
+    plain-query-local : (x : Query) → QueryBelow n x → plainQueryOf T c f n x ≡ plainQueryOf T c g n x
+    plain-query-local Query.Malformed l = refl
+    plain-query-local Query.Empty l = refl
+    plain-query-local (Query.Relation a) l = refl
+    plain-query-local (Query.Select a b) l = ap (PlainQuery.select (plainComparisonAt T c a)) (same b l)
+    plain-query-local (Query.Project a b) l = ap (PlainQuery.project (keptAttributes T c (projectStart T n) a)) (same b l)
+    plain-query-local (Query.Choice a b d) l = same _ (taken-below (at T c a) l)
+    plain-query-local (Query.Product a b) l = two n f g same PlainQuery.product l
+    plain-query-local (Query.Union a b) l = two n f g same PlainQuery.union l
+    plain-query-local (Query.Intersection a b) l = two n f g same PlainQuery.intersection l
+
+-- ---- the step of each meaning, of one form
+
+-- an expression that fits, whatever stands in the rest of its table. It does not matter for how many features, n, it fits
+pub holds-step : (n : ℕ) (expressions : List ℕ) (c f : ℕ) → ExpressionLower n f (expression expressions f)
+    → holds expressions c f ≡ truthOf c (holds expressions c) (expression expressions f)
+unfolding holds
+holds-step n expressions c f l =
+    value-step false (λ at e. truthOf c at (expression expressions e)) f (λ g h s. truth-local f g h s n c (expression expressions f) l)
+
+module _ (T : Tables) (c f : ℕ) (l : ComparisonBelow f (comparison (T .comparisons) f)) where
+  -- a comparison whose operands are lower: what it names, where a reference to it leads, the plain comparison that it is
+  pub names-step : names T c f ≡ namesOf T c (names T c) (comparison (T .comparisons) f)
+  unfolding names
+  names-step =
+      value-step 0 (λ named k. namesOf T c named (comparison (T .comparisons) k)) f
+      (λ g h s. names-local T c f g h s (comparison (T .comparisons) f) l)
+
+  pub comparison-target-step : comparisonTarget T c f ≡ comparisonTargetOf T c (comparisonTarget T c) f (comparison (T .comparisons) f)
+  unfolding comparisonTarget
+  comparison-target-step =
+      value-step 0 (λ target k. comparisonTargetOf T c target k (comparison (T .comparisons) k)) f
+      (λ g h s. comparison-target-local T c f g h s (comparison (T .comparisons) f) l)
+
+  pub plain-comparison-step : plainComparisonAt T c f ≡ plainComparisonOf T c (plainComparisonAt T c) (comparison (T .comparisons) f)
+  unfolding plainComparisonAt
+  plain-comparison-step =
+      value-step PlainComparison.never (λ tree k. plainComparisonOf T c tree (comparison (T .comparisons) k)) f
+      (λ g h s. plain-comparison-local T c f g h s (comparison (T .comparisons) f) l)
+
+module _ (T : Tables) (c q : ℕ) (l : QueryBelow q (query (T .queries) q)) where
+  -- a query form whose operands are lower: its set, what it leads to, where a reference to it leads, the plain query that it is
+  pub set-step : setOf T c q ≡ setRule T c (setOf T c) q (query (T .queries) q)
+  unfolding setOf
+  set-step =
+      value-step 0 (λ set k. setRule T c set k (query (T .queries) k)) q
+      (λ g h s. set-local T c q g h s (query (T .queries) q) l)
+
+  pub leads-step : (x : ℕ) → leads T c x q ≡ (eqb x q || passesOn T c (leads T c x) (query (T .queries) q))
+  unfolding leads
+  leads-step x =
+      value-step false (λ marked k. eqb x k || passesOn T c marked (query (T .queries) k)) q
+      (λ g h s. ap (λ (t : Bool). eqb x q || t) (passes-local T c q g h s (query (T .queries) q) l))
+
+  pub query-target-step : queryTarget T c q ≡ queryTargetOf T c (queryTarget T c) q (query (T .queries) q)
+  unfolding queryTarget
+  query-target-step =
+      value-step 0 (λ target k. queryTargetOf T c target k (query (T .queries) k)) q
+      (λ g h s. query-target-local T c q g h s (query (T .queries) q) l)
+
+  pub plain-query-step : plainQueryAt T c q ≡ plainQueryOf T c (plainQueryAt T c) q (query (T .queries) q)
+  unfolding plainQueryAt
+  plain-query-step =
+      value-step PlainQuery.empty (λ tree k. plainQueryOf T c tree k (query (T .queries) k)) q
+      (λ g h s. plain-query-local T c q g h s (query (T .queries) q) l)
+
+-- ---- the same of a form of accepted tables
+
+module _ {T : Tables} (F : Formed T) (c : ℕ) where
+  -- table 0
+  pub holds-in : (f : ℕ) → f < expressionCount T → holds (T .expressions) c f ≡ truthOf c (holds (T .expressions) c) (expression (T .expressions) f)
+  holds-in f h = holds-step (T .features) (T .expressions) c f (expression-at F f h)
+
+  module _ (f : ℕ) (h : f < comparisonCount T) where
+    -- table 3
+    pub names-in : names T c f ≡ namesOf T c (names T c) (comparison (T .comparisons) f)
+    names-in = names-step T c f (comparison-operands F f h)
+
+    pub comparison-target-in : comparisonTarget T c f ≡ comparisonTargetOf T c (comparisonTarget T c) f (comparison (T .comparisons) f)
+    comparison-target-in = comparison-target-step T c f (comparison-operands F f h)
+
+    pub plain-comparison-in : plainComparisonAt T c f ≡ plainComparisonOf T c (plainComparisonAt T c) (comparison (T .comparisons) f)
+    plain-comparison-in = plain-comparison-step T c f (comparison-operands F f h)
+
+  module _ (q : ℕ) (h : q < queryCount T) where
+    -- table 4
+    pub set-in : setOf T c q ≡ setRule T c (setOf T c) q (query (T .queries) q)
+    set-in = set-step T c q (query-operands F q h)
+
+    pub leads-in : (x : ℕ) → leads T c x q ≡ (eqb x q || passesOn T c (leads T c x) (query (T .queries) q))
+    leads-in = leads-step T c q (query-operands F q h)
+
+    pub query-target-in : queryTarget T c q ≡ queryTargetOf T c (queryTarget T c) q (query (T .queries) q)
+    query-target-in = query-target-step T c q (query-operands F q h)
+
+    pub plain-query-in : plainQueryAt T c q ≡ plainQueryOf T c (plainQueryAt T c) q (query (T .queries) q)
+    plain-query-in = plain-query-step T c q (query-operands F q h)

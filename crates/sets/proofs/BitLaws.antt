@@ -1,0 +1,333 @@
+-- Laws of sets as numbers, for any number of bits.
+use Prim.Native.Nat.{ℕ, zero, suc, _+_, _-_, _*_, _/_, _%_, _^_, _<_, _≤_, min, max}
+use mathlib.Core.Path.{_≡_, refl, sym, ap, ap₂, _∙_}
+use mathlib.Core.Bool.{Bool, true, false, cond, not, _&&_, _||_, xor, or-assoc as or-assoc-bool, false≢true}
+use mathlib.Core.Logic.{_≢_}
+use native.Mathlib.Nat.{div-one, mod-lt, zero-lt-suc, pow-suc, pow-succ', div-div-eq-div-mul, div-eq-of-lt, zero-div, sub-zero, div-add-mod'}
+use native.Mathlib.Nat.{le-of-suc-le-suc, not-suc-le-zero, lt-of-lt-of-le, lt-of-le-of-lt}
+use native.Mathlib.Decide.{decLt, ℕ-discrete}
+use native.Mathlib.Omega.{arith}
+use lib.Dec.{eqb, ltb, eqb·suc-suc, eqb·suc-zero, eqb·zero-suc}
+use lib.Arith.{digits-div, digits-mod, lt-one}
+use lib.Pow.{pow-pos, pow-mono, pow-lt, ones-lt, ones-sub-lt, shr-shr, high}
+use lib.Bits.{bitAnd, bitOr, bitXor, differ, block-half, block-odd, and-step, or-step, xor-step}
+use lib.Bits.{and-lt, or-lt, xor-lt, and-le-l, and-le-r, xor-self, xor-add-and}
+use lib.Count.{trailingZeros, under, ones, ones-step}
+use borrow.Author.Tests.{lt-ltb, le-ltb, eq-eqb, ne-eqb}
+use Rattle.sets.specs.declared.Found.{Found}
+use Rattle.sets.specs.Search.{lowest, countBelow, foundOr0}
+use Rattle.sets.specs.Bits.{bit, digit, bitsOf, difference, lowestMember}
+use Rattle.sets.proofs.SearchLaws.{First, nothing-lowest, at-lowest, count-head, count-same}
+
+-- ---- one digit
+
+digit-lt : (b : Bool) → digit b < 2
+digit-lt true = omega arith
+digit-lt false = omega arith
+
+eqb-digit : (b : Bool) → eqb (digit b) 1 ≡ b
+eqb-digit true = refl
+eqb-digit false = refl
+
+digit-eqb : (x : ℕ) → x < 2 → digit (eqb x 1) ≡ x
+digit-eqb zero h = refl
+digit-eqb (suc zero) h = refl
+digit-eqb (suc (suc x)) h = omega arith
+
+-- ---- the lowest bit, and the others
+
+pub bit-zero : (n : ℕ) → bit n 0 ≡ eqb (n % 2) 1
+bit-zero n = ap (λ (x : ℕ). eqb (x % 2) 1) (div-one n)
+
+pub bit-suc : (n i : ℕ) → bit n (suc i) ≡ bit (n / 2) i
+bit-suc n i = ap (λ (x : ℕ). eqb (x % 2) 1) (ap (λ (p : ℕ). n / p) (pow-succ' 2 i) ∙ sym (div-div-eq-div-mul n 2 (2 ^ i)))
+
+low : (n : ℕ) → n % 2 ≡ digit (bit n 0)
+low n = sym (ap digit (bit-zero n) ∙ digit-eqb (n % 2) (mod-lt n (zero-lt-suc 1)))
+
+-- of a number that is given by both
+module _ (n r : ℕ) (b : Bool) (e : n ≡ r * 2 + digit b) where
+  half-of : n / 2 ≡ r
+  half-of = ap (λ (x : ℕ). x / 2) e ∙ digits-div r (digit-lt b)
+
+  low-of : bit n 0 ≡ b
+  low-of = bit-zero n ∙ ap (λ (x : ℕ). eqb (x % 2) 1) e ∙ ap (λ (x : ℕ). eqb x 1) (digits-mod r (digit-lt b)) ∙ eqb-digit b
+
+half-below : (k n : ℕ) → n < 2 ^ suc k → n / 2 < 2 ^ k
+half-below k n h = omega (arith, pow-suc 2 k)
+
+-- ---- 0, a number below 2 ^ k, and 2 ^ a
+
+pub bit-none : (i : ℕ) → bit 0 i ≡ false
+bit-none i = ap (λ (x : ℕ). eqb (x % 2) 1) (zero-div (2 ^ i))
+
+pub bit-above : (k x i : ℕ) → x < 2 ^ k → k ≤ i → bit x i ≡ false
+bit-above k x i h l = ap (λ (y : ℕ). eqb (y % 2) 1) (div-eq-of-lt (lt-of-lt-of-le h (pow-mono l)))
+
+pub bit-pow : (a i : ℕ) → bit (2 ^ a) i ≡ eqb i a
+bit-pow zero zero = refl
+bit-pow zero (suc i) = bit-suc 1 i ∙ bit-none i ∙ sym (eqb·suc-zero i)
+bit-pow (suc a) zero = low-of (2 ^ suc a) (2 ^ a) false (omega (arith, pow-suc 2 a)) ∙ sym (eqb·zero-suc a)
+bit-pow (suc a) (suc i) =
+    bit-suc (2 ^ suc a) i ∙ ap (λ (x : ℕ). bit x i) (half-of (2 ^ suc a) (2 ^ a) false (omega (arith, pow-suc 2 a))) ∙ bit-pow a i
+    ∙ sym (eqb·suc-suc i a)
+
+-- a number with k more bits below it: those of the second below k, and those of the first from there on
+pub bit-low : (a k r i : ℕ) → i < k → bit (a * 2 ^ k + r) i ≡ bit r i
+bit-low a zero r i h = absurd (not-suc-le-zero h)
+bit-low a (suc k) r zero h = bit-zero (a * 2 ^ suc k + r) ∙ ap (λ (x : ℕ). eqb x 1) (block-odd a k r) ∙ sym (bit-zero r)
+bit-low a (suc k) r (suc i) h =
+    bit-suc (a * 2 ^ suc k + r) i ∙ ap (λ (x : ℕ). bit x i) (block-half a k r) ∙ bit-low a k (r / 2) i (le-of-suc-le-suc h) ∙ sym (bit-suc r i)
+
+pub bit-high : (a k r i : ℕ) → r < 2 ^ k → k ≤ i → bit (a * 2 ^ k + r) i ≡ bit a (i - k)
+bit-high a k r i h l =
+    let e : i ≡ k + (i - k) = omega arith in
+    ap (bit (a * 2 ^ k + r)) e
+    ∙ ap (λ (x : ℕ). eqb (x % 2) 1) (sym (shr-shr (a * 2 ^ k + r) k (i - k)) ∙ ap (λ (x : ℕ). x / 2 ^ (i - k)) (high a k h))
+
+-- ---- the number with given bits
+
+pub bit-bitsOf : (k : ℕ) (p : ℕ → Bool) (i : ℕ) → i < k → bit (bitsOf k p) i ≡ p i
+unfolding bitsOf
+bit-bitsOf zero p i h = absurd (not-suc-le-zero h)
+bit-bitsOf (suc k) p zero h = low-of (bitsOf (suc k) p) (bitsOf k (λ j. p (suc j))) (p 0) refl
+bit-bitsOf (suc k) p (suc i) h =
+    bit-suc (bitsOf (suc k) p) i ∙ ap (λ (x : ℕ). bit x i) (half-of (bitsOf (suc k) p) (bitsOf k (λ j. p (suc j))) (p 0) refl)
+    ∙ bit-bitsOf k (λ j. p (suc j)) i (le-of-suc-le-suc h)
+
+pub bitsOf-lt : (k : ℕ) (p : ℕ → Bool) → bitsOf k p < 2 ^ k
+unfolding bitsOf
+bitsOf-lt zero p = omega arith
+bitsOf-lt (suc k) p = omega (arith, pow-suc 2 k, bitsOf-lt k (λ j. p (suc j)), digit-lt (p 0))
+
+pub bitsOf-same : (k : ℕ) (p q : ℕ → Bool) → ((i : ℕ) → i < k → p i ≡ q i) → bitsOf k p ≡ bitsOf k q
+unfolding bitsOf
+bitsOf-same zero p q h = refl
+bitsOf-same (suc k) p q h =
+    ap₂ (λ (x : ℕ) (b : Bool). x * 2 + digit b)
+    (bitsOf-same k (λ j. p (suc j)) (λ j. q (suc j)) (λ j g. h (suc j) (omega arith))) (h 0 (omega arith))
+
+-- a number is made of its bits
+pub bitsOf-bit : (k n : ℕ) → n < 2 ^ k → bitsOf k (bit n) ≡ n
+unfolding bitsOf
+bitsOf-bit zero n h = sym (lt-one h)
+bitsOf-bit (suc k) n h =
+    ap₂ (λ (x y : ℕ). x * 2 + y)
+    (bitsOf-same k (λ j. bit n (suc j)) (bit (n / 2)) (λ j g. bit-suc n j) ∙ bitsOf-bit k (n / 2) (half-below k n h)) (sym (low n))
+    ∙ div-add-mod' n 2
+
+-- so two numbers with the same bits are equal
+pub bitsOf-is : (k x : ℕ) (p : ℕ → Bool) → x < 2 ^ k → ((i : ℕ) → i < k → bit x i ≡ p i) → bitsOf k p ≡ x
+bitsOf-is k x p h e = sym (bitsOf-same k (bit x) p e) ∙ bitsOf-bit k x h
+
+pub bits-same : (k x y : ℕ) → x < 2 ^ k → y < 2 ^ k → ((i : ℕ) → i < k → bit x i ≡ bit y i) → x ≡ y
+bits-same k x y h l e = sym (bitsOf-is k x (bit y) h e) ∙ bitsOf-bit k y l
+
+pub zero-bits : (k x : ℕ) → x < 2 ^ k → ((i : ℕ) → i < k → bit x i ≡ false) → x ≡ 0
+zero-bits k x h e = bits-same k x 0 h (pow-pos k) (λ i l. e i l ∙ sym (bit-none i))
+
+below-pow : (n : ℕ) → n < 2 ^ n
+below-pow zero = omega arith
+below-pow (suc n) = omega (arith, pow-suc 2 n, below-pow n)
+
+pub bits-equal : (x y : ℕ) → ((i : ℕ) → bit x i ≡ bit y i) → x ≡ y
+bits-equal x y e =
+    bits-same (x + y) x y (lt-of-lt-of-le (below-pow x) (pow-mono (omega arith))) (lt-of-lt-of-le (below-pow y) (pow-mono (omega arith)))
+    (λ i l. e i)
+
+-- ---- the operations, bit by bit
+
+-- an operation on numbers that goes through them digit by digit, lowest first, does so bit by bit
+module _ (op f : ℕ → ℕ → ℕ) (on : Bool → Bool → Bool)
+    (step : (a b : ℕ) → op a b ≡ op (a / 2) (b / 2) * 2 + f (a % 2) (b % 2))
+    (both : f 1 1 ≡ digit (on true true)) (first : f 1 0 ≡ digit (on true false))
+    (second : f 0 1 ≡ digit (on false true)) (neither : f 0 0 ≡ digit (on false false)) where
+  digits : (p q : Bool) → f (digit p) (digit q) ≡ digit (on p q)
+  digits true true = both
+  digits true false = first
+  digits false true = second
+  digits false false = neither
+
+  split : (a b : ℕ) → op a b ≡ op (a / 2) (b / 2) * 2 + digit (on (bit a 0) (bit b 0))
+  split a b = step a b ∙ ap (λ (x : ℕ). op (a / 2) (b / 2) * 2 + x) (ap₂ f (low a) (low b) ∙ digits (bit a 0) (bit b 0))
+
+  bit-op : (a b i : ℕ) → bit (op a b) i ≡ on (bit a i) (bit b i)
+  bit-op a b zero = low-of (op a b) (op (a / 2) (b / 2)) (on (bit a 0) (bit b 0)) (split a b)
+  bit-op a b (suc i) =
+      bit-suc (op a b) i ∙ ap (λ (x : ℕ). bit x i) (half-of (op a b) (op (a / 2) (b / 2)) (on (bit a 0) (bit b 0)) (split a b))
+      ∙ bit-op (a / 2) (b / 2) i ∙ sym (ap₂ on (bit-suc a i) (bit-suc b i))
+
+pub bit-and : (a b i : ℕ) → bit (bitAnd a b) i ≡ (bit a i && bit b i)
+bit-and = bit-op bitAnd min _&&_ and-step refl refl refl refl
+
+pub bit-or : (a b i : ℕ) → bit (bitOr a b) i ≡ (bit a i || bit b i)
+bit-or = bit-op bitOr max _||_ or-step refl refl refl refl
+
+pub bit-xor : (a b i : ℕ) → bit (bitXor a b) i ≡ xor (bit a i) (bit b i)
+unfolding xor
+bit-xor = bit-op bitXor differ xor xor-step refl refl refl refl
+
+pub bit-difference : (a b i : ℕ) → bit (difference a b) i ≡ (bit a i && not (bit b i))
+bit-difference a b i = bit-xor a (bitAnd a b) i ∙ ap (xor (bit a i)) (bit-and a b i) ∙ less (bit a i) (bit b i)
+  where
+    less : (p q : Bool) → xor p (p && q) ≡ (p && not q)
+    less true true = unfold xor in refl
+    less true false = unfold xor in refl
+    less false q = unfold xor in refl
+
+pub difference-lt : (k a b : ℕ) → a < 2 ^ k → difference a b < 2 ^ k
+difference-lt k a b h = xor-lt k a (bitAnd a b) h (lt-of-le-of-lt (and-le-l a b) h)
+
+-- of two numbers with given bits
+module _ (k : ℕ) (p q : ℕ → Bool) where
+  op-bitsOf : (op : ℕ → ℕ → ℕ) (on : Bool → Bool → Bool) → ((a b i : ℕ) → bit (op a b) i ≡ on (bit a i) (bit b i))
+      → (bitsOf k p < 2 ^ k → bitsOf k q < 2 ^ k → op (bitsOf k p) (bitsOf k q) < 2 ^ k)
+      → op (bitsOf k p) (bitsOf k q) ≡ bitsOf k (λ j. on (p j) (q j))
+  op-bitsOf op on law bound =
+      sym (bitsOf-is k (op (bitsOf k p) (bitsOf k q)) (λ j. on (p j) (q j)) (bound (bitsOf-lt k p) (bitsOf-lt k q))
+      (λ i h. law (bitsOf k p) (bitsOf k q) i ∙ ap₂ on (bit-bitsOf k p i h) (bit-bitsOf k q i h)))
+
+  pub and-bitsOf : bitAnd (bitsOf k p) (bitsOf k q) ≡ bitsOf k (λ j. p j && q j)
+  and-bitsOf = op-bitsOf bitAnd _&&_ bit-and (and-lt k (bitsOf k p) (bitsOf k q))
+
+  pub or-bitsOf : bitOr (bitsOf k p) (bitsOf k q) ≡ bitsOf k (λ j. p j || q j)
+  or-bitsOf = op-bitsOf bitOr _||_ bit-or (or-lt k (bitsOf k p) (bitsOf k q))
+
+  pub xor-bitsOf : bitXor (bitsOf k p) (bitsOf k q) ≡ bitsOf k (λ j. xor (p j) (q j))
+  xor-bitsOf = op-bitsOf bitXor xor bit-xor (xor-lt k (bitsOf k p) (bitsOf k q))
+
+  pub difference-bitsOf : difference (bitsOf k p) (bitsOf k q) ≡ bitsOf k (λ j. p j && not (q j))
+  difference-bitsOf = op-bitsOf difference (λ a b. a && not b) bit-difference (λ h l. difference-lt k (bitsOf k p) (bitsOf k q) h)
+
+-- the members below k that a set lacks
+pub not-bitsOf : (k : ℕ) (p : ℕ → Bool) → 2 ^ k - 1 - bitsOf k p ≡ bitsOf k (λ j. not (p j))
+unfolding bitsOf
+not-bitsOf zero p = refl
+not-bitsOf (suc k) p = omega (arith, pow-suc 2 k, not-bitsOf k (λ j. p (suc j)), bitsOf-lt k (λ j. p (suc j)), flip (p 0))
+  where
+    flip : (b : Bool) → digit b + digit (not b) ≡ 1
+    flip true = refl
+    flip false = refl
+
+pub bit-not : (k b i : ℕ) → b < 2 ^ k → i < k → bit (2 ^ k - 1 - b) i ≡ not (bit b i)
+bit-not k b i h l =
+    ap (λ (x : ℕ). bit (2 ^ k - 1 - x) i) (sym (bitsOf-bit k b h)) ∙ ap (λ (x : ℕ). bit x i) (not-bitsOf k (bit b))
+    ∙ bit-bitsOf k (λ j. not (bit b j)) i l
+
+-- the difference by that complement
+pub difference-not : (k a b : ℕ) → b < 2 ^ k → a < 2 ^ k → bitAnd a (2 ^ k - 1 - b) ≡ difference a b
+difference-not k a b l h =
+    bits-same k (bitAnd a (2 ^ k - 1 - b)) (difference a b) (and-lt k a (2 ^ k - 1 - b) h (ones-sub-lt k b)) (difference-lt k a b h)
+    (λ i g. bit-and a (2 ^ k - 1 - b) i ∙ ap (λ (t : Bool). bit a i && t) (bit-not k b i l g) ∙ sym (bit-difference a b i))
+
+-- ---- no bit, every bit, the bits below m, one bit
+
+pub bitsOf-none : (k : ℕ) (p : ℕ → Bool) → ((i : ℕ) → i < k → p i ≡ false) → bitsOf k p ≡ 0
+bitsOf-none k p h = bitsOf-is k 0 p (pow-pos k) (λ i l. bit-none i ∙ sym (h i l))
+
+pub bit-ones : (m i : ℕ) → bit (2 ^ m - 1) i ≡ ltb i m
+bit-ones m i = go (decLt i m)
+  where
+    go : Dec (i < m) → bit (2 ^ m - 1) i ≡ ltb i m
+    go (yes l) =
+        ap (λ (x : ℕ). bit x i) (sym (sub-zero (2 ^ m - 1))) ∙ bit-not m 0 i (pow-pos m) l ∙ ap not (bit-none i) ∙ sym (lt-ltb i m l)
+    go (no l) = bit-above m (2 ^ m - 1) i (ones-lt m) (omega arith) ∙ sym (le-ltb i m (omega arith))
+
+pub bitsOf-all : (k : ℕ) (p : ℕ → Bool) → ((i : ℕ) → i < k → p i ≡ true) → bitsOf k p ≡ 2 ^ k - 1
+bitsOf-all k p h = bitsOf-is k (2 ^ k - 1) p (ones-lt k) (λ i l. bit-ones k i ∙ lt-ltb i k l ∙ sym (h i l))
+
+pub bitsOf-below : (k m : ℕ) → m ≤ k → bitsOf k (λ j. ltb j m) ≡ 2 ^ m - 1
+bitsOf-below k m h = bitsOf-is k (2 ^ m - 1) (λ j. ltb j m) (lt-of-lt-of-le (ones-lt m) (pow-mono h)) (λ i l. bit-ones m i)
+
+pub bitsOf-one : (k a : ℕ) → a < k → bitsOf k (λ j. eqb j a) ≡ 2 ^ a
+bitsOf-one k a h = bitsOf-is k (2 ^ a) (λ j. eqb j a) (pow-lt h) (λ i l. bit-pow a i)
+
+-- ---- equations of sets
+
+pub or-assoc : (a b c : ℕ) → bitOr (bitOr a b) c ≡ bitOr a (bitOr b c)
+or-assoc a b c =
+    bits-equal (bitOr (bitOr a b) c) (bitOr a (bitOr b c))
+    (λ i. bit-or (bitOr a b) c i ∙ ap (λ (t : Bool). t || bit c i) (bit-or a b i) ∙ or-assoc-bool (bit a i) (bit b i) (bit c i)
+    ∙ ap (λ (t : Bool). bit a i || t) (sym (bit-or b c i)) ∙ sym (bit-or a (bitOr b c) i))
+
+-- sets are equal exactly where their symmetric difference is empty
+pub xor-same : (x y : ℕ) → bitXor x y ≡ 0 → x ≡ y
+xor-same x y e = omega (arith, xor-add-and x y, and-le-l x y, and-le-r x y)
+
+pub xor-zero : (x y : ℕ) → eqb (bitXor x y) 0 ≡ eqb x y
+xor-zero x y = go (ℕ-discrete x y)
+  where
+    go : Dec (x ≡ y) → eqb (bitXor x y) 0 ≡ eqb x y
+    go (yes e) = eq-eqb (bitXor x y) 0 (ap (λ (z : ℕ). bitXor z y) e ∙ xor-self y) ∙ sym (eq-eqb x y e)
+    go (no e) = ne-eqb (bitXor x y) 0 (λ z. e (xor-same x y z)) ∙ sym (ne-eqb x y e)
+
+-- x is a subset of y: their difference is empty, every bit of x is one of y, their intersection is x
+pub subset-bit : (x y : ℕ) → difference x y ≡ 0 → (i : ℕ) → bit x i ≡ true → bit y i ≡ true
+subset-bit x y e i t = go (bit y i) refl
+  where
+    go : (b : Bool) → bit y i ≡ b → bit y i ≡ true
+    go true h = h
+    go false h =
+        let f = ap (λ (z : ℕ). bit z i) (sym e) ∙ bit-difference x y i in
+        absurd (false≢true (sym (bit-none i) ∙ f ∙ ap₂ (λ (p q : Bool). p && not q) t h))
+
+pub bit-subset : (k x y : ℕ) → x < 2 ^ k → ((i : ℕ) → i < k → bit x i ≡ true → bit y i ≡ true) → difference x y ≡ 0
+bit-subset k x y h e = zero-bits k (difference x y) (difference-lt k x y h) (λ i l. bit-difference x y i ∙ go (bit x i) (bit y i) (e i l))
+  where
+    go : (p q : Bool) → (p ≡ true → q ≡ true) → (p && not q) ≡ false
+    go true q g = ap not (g refl)
+    go false q g = refl
+
+pub subset-and : (x y : ℕ) → difference x y ≡ 0 → bitAnd x y ≡ x
+subset-and x y e = sym (xor-same x (bitAnd x y) e)
+
+-- ---- the machine's counts
+
+-- trailing_zeros is the lowest bit that is 1
+pub trailing-first : (k x : ℕ) → x < 2 ^ k → x ≢ 0 → First (bit x) k (trailingZeros k x)
+unfolding trailingZeros
+trailing-first zero x h e = absurd (e (lt-one h))
+trailing-first (suc k) x h e = go (x % 2) (trailingZeros k (x / 2)) refl (trailing-first k (x / 2) (half-below k x h))
+  where
+    go : (d t : ℕ) → x % 2 ≡ d → (x / 2 ≢ 0 → First (bit (x / 2)) k t) → First (bit x) (suc k) (under d t)
+    go zero t l ih =
+        let r = ih (λ z. e (omega arith)) in
+        record {
+          below = omega arith;
+          holds = bit-suc x t ∙ r .holds;
+          before = elim [ zero ↦ λ g. bit-zero x ∙ ap (λ (d : ℕ). eqb d 1) l | suc j ↦ λ g. bit-suc x j ∙ r .before j (le-of-suc-le-suc g) ];
+        }
+    go (suc d) t l ih =
+        let one : x % 2 ≡ 1 = omega arith in
+        record { below = omega arith; holds = bit-zero x ∙ ap (λ (d : ℕ). eqb d 1) one; before = λ j g. absurd (not-suc-le-zero g) }
+
+pub trailing-lowest : (k x : ℕ) → x < 2 ^ k → x ≢ 0 → lowest (bit x) k ≡ Found.At (trailingZeros k x)
+trailing-lowest k x h e = at-lowest (bit x) k (trailingZeros k x) (trailing-first k x h e)
+
+-- 0 has none (`trailing-of-zero` of lib.Count: its trailing zeros are k)
+pub zero-lowest : (k : ℕ) → lowest (bit 0) k ≡ Found.Nothing
+zero-lowest k = nothing-lowest (bit 0) k (λ i l. bit-none i)
+
+pub trailing-member : (x : ℕ) → x < 2 ^ 64 → x ≢ 0 → lowestMember x ≡ trailingZeros 64 x
+trailing-member x h e = ap foundOr0 (trailing-lowest 64 x h e)
+
+pub trailing-pow : (k a : ℕ) → a < k → trailingZeros k (2 ^ a) ≡ a
+trailing-pow k a h =
+    let e = trailing-lowest k (2 ^ a) (pow-lt h) (λ z. omega (arith, pow-pos a)) in
+    let f = at-lowest (bit (2 ^ a)) k a
+    (record { below = h; holds = bit-pow a a ∙ eq-eqb a a refl; before = λ j l. bit-pow a j ∙ ne-eqb j a (λ z. omega arith) }) in
+    cc
+
+-- count_ones is how many bits are 1
+pub ones-count : (k n : ℕ) → n < 2 ^ k → ones n ≡ countBelow (bit n) k
+unfolding ones
+ones-count zero n h = ap ones (lt-one h)
+ones-count (suc k) n h =
+    ones-step n
+    ∙ ap₂ _+_ (low n ∙ same (bit n 0))
+    (ones-count k (n / 2) (half-below k n h) ∙ count-same (bit (n / 2)) (λ j. bit n (suc j)) k (λ j g. sym (bit-suc n j)))
+    ∙ sym (count-head (bit n) k)
+  where
+    same : (b : Bool) → digit b ≡ cond b 1 0
+    same true = refl
+    same false = refl

@@ -1,0 +1,4 @@
+pub mod SearchLaws
+pub mod ListLaws
+pub mod BitLaws
+pub mod RowLaws

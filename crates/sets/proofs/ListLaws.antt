@@ -1,0 +1,163 @@
+-- Laws of lists given by a rule for each place, for any number of places and any width.
+use Prim.Native.Nat.{ℕ, zero, suc, _+_, _*_, _<_, _≤_}
+use mathlib.Core.Path.{_≡_, refl, sym, ap, ap₂, _∙_}
+use mathlib.Core.Bool.{Bool, true, false, cond}
+use mathlib.Core.List.{List, [], _∷_, _++_, append-nil, append-assoc}
+use mathlib.Core.Logic.{⊎-elim, _≢_}
+use native.Mathlib.Nat.{le-of-suc-le-suc, not-suc-le-zero, le-refl, eq-or-lt-of-le, zero-mul, suc-mul}
+use native.Mathlib.Numerals.{add-one}
+use native.Mathlib.Decide.{le-ind, ℕ-discrete}
+use native.Mathlib.Omega.{arith}
+use lib.ListN.{length, getD, set, take, drop, length-set, length-append, List·getD-append}
+use lib.Seq.{ext-getD, getD-set-same, getD-set-other, getD-append-add, take-at, drop-append-add, drop-drop, drop-cons, set-at}
+use Rattle.sets.specs.Search.{countBelow}
+use Rattle.sets.specs.Lists.{table, concat, kept}
+use Rattle.sets.proofs.SearchLaws.{count-yes, count-no}
+
+module _ {A : Type 0} where
+  -- ---- tables: their length, their elements, and when two are equal
+
+  pub table-length : (n : ℕ) (f : ℕ → A) → length (table n f) ≡ n
+  table-length zero f = refl
+  table-length (suc n) f = ap suc (table-length n (λ i. f (suc i)))
+
+  pub table-at : (n : ℕ) (f : ℕ → A) (d : A) (i : ℕ) → i < n → getD (table n f) i d ≡ f i
+  table-at zero f d i h = absurd (not-suc-le-zero h)
+  table-at (suc n) f d zero h = refl
+  table-at (suc n) f d (suc i) h = table-at n (λ i. f (suc i)) d i (le-of-suc-le-suc h)
+
+  pub table-same : (n : ℕ) (f g : ℕ → A) → ((i : ℕ) → i < n → f i ≡ g i) → table n f ≡ table n g
+  table-same zero f g h = refl
+  table-same (suc n) f g h =
+      ap₂ (λ (x : A) (l : List A). x ∷ l) (h 0 (omega arith)) (table-same n (λ i. f (suc i)) (λ i. g (suc i)) (λ i k. h (suc i) (omega arith)))
+
+  -- a list is the table of its elements
+  pub table-of : (d : A) (n : ℕ) (f : ℕ → A) (l : List A) → length l ≡ n → ((i : ℕ) → i < n → getD l i d ≡ f i) → l ≡ table n f
+  table-of d n f l e h =
+      ext-getD d l (table n f) (e ∙ sym (table-length n f)) (λ i g. h i (omega arith) ∙ sym (table-at n f d i (omega arith)))
+
+  -- another element at one place makes another table
+  pub table-set : (n : ℕ) (f g : ℕ → A) (k : ℕ) (v : A) → k < n → v ≡ g k → ((i : ℕ) → i ≢ k → f i ≡ g i) → set (table n f) k v ≡ table n g
+  table-set n f g k v h e o =
+      table-of v n g (set (table n f) k v) (length-set (table n f) k v ∙ table-length n f) (λ i b. go i b (ℕ-discrete i k))
+    where
+      go : (i : ℕ) → i < n → Dec (i ≡ k) → getD (set (table n f) k v) i v ≡ g i
+      go i b (yes d) =
+          ap (λ (x : ℕ). getD (set (table n f) k v) x v) d ∙ getD-set-same (table n f) k v v (omega (arith, table-length n f)) ∙ e ∙ ap g (sym d)
+      go i b (no d) = getD-set-other (table n f) k i v v d ∙ table-at n f v i b ∙ o i d
+
+  -- the last element
+  pub table-suc : (n : ℕ) (f : ℕ → A) → table (suc n) f ≡ table n f ++ (f n ∷ [])
+  table-suc zero f = refl
+  table-suc (suc n) f = ap (λ (l : List A). f 0 ∷ l) (table-suc n (λ i. f (suc i)))
+
+  -- one turn of a loop that fills l element by element
+  pub table-more : (n : ℕ) (f : ℕ → A) (l : List A) → n < length l → set (table n f ++ drop n l) n (f n) ≡ table (n + 1) f ++ drop (n + 1) l
+  table-more n f l h =
+      ap (λ (s : List A). set (table n f ++ s) n (f n)) (drop-cons l n (f n) h)
+      ∙ set-at (table n f) (getD l n (f n)) (drop (suc n) l) (f n) n (table-length n f)
+      ∙ sym (ap (λ (k : ℕ). table k f ++ drop k l) (add-one n) ∙ ap (λ (s : List A). s ++ drop (suc n) l) (table-suc n f)
+      ∙ append-assoc (table n f) (f n ∷ []) (drop (suc n) l))
+
+  -- ---- lists one after another: where they are equal, one more, and how their length grows
+
+  pub concat-same : (n : ℕ) (f g : ℕ → List A) → ((i : ℕ) → i < n → f i ≡ g i) → concat n f ≡ concat n g
+  concat-same zero f g h = refl
+  concat-same (suc n) f g h = ap₂ _++_ (concat-same n f g (λ i k. h i (omega arith))) (h n (le-refl (suc n)))
+
+  module _ (f : ℕ → List A) where
+    pub concat-suc : (n : ℕ) → concat (suc n) f ≡ concat n f ++ f n
+    concat-suc n = refl
+
+    size-suc : (n : ℕ) → length (concat (suc n) f) ≡ length (concat n f) + length (f n)
+    size-suc n = length-append (concat n f) (f n)
+
+    pub concat-grows : (i n : ℕ) → i ≤ n → length (concat i f) ≤ length (concat n f)
+    concat-grows i n h =
+        le-ind (λ (m : ℕ). length (concat i f) ≤ length (concat m f)) (le-refl (length (concat i f))) (λ m l ih. omega (arith, size-suc m)) n h
+
+    -- the elements of list i stand after those of the lists before it
+    pub concat-in : (d : A) (n i j : ℕ) → i < n → j < length (f i) → getD (concat n f) (length (concat i f) + j) d ≡ getD (f i) j d
+    concat-in d zero i j h l = absurd (not-suc-le-zero h)
+    concat-in d (suc n) i j h l = ⊎-elim same (λ (m : i < n). lower m (concat-in d n i j m l)) (eq-or-lt-of-le (le-of-suc-le-suc h))
+      where
+        same : i ≡ n → getD (concat (suc n) f) (length (concat i f) + j) d ≡ getD (f i) j d
+        same e = ap (λ (x : ℕ). getD (concat (suc x) f) (length (concat i f) + j) d) (sym e) ∙ getD-append-add (concat i f) (f i) j d
+
+        lower : i < n → getD (concat n f) (length (concat i f) + j) d ≡ getD (f i) j d
+            → getD (concat (suc n) f) (length (concat i f) + j) d ≡ getD (f i) j d
+        lower m ih = List·getD-append (concat n f) (f n) d (length (concat i f) + j) (omega (arith, concat-grows (suc i) n m, size-suc i)) ∙ ih
+
+    -- one turn of a loop that stores list after list over l: list n goes to `at`, where those before it end, and takes w places
+    pub concat-more : (n at w : ℕ) (l : List A) → length (concat n f) ≡ at
+        → take at (concat n f ++ drop at l) ++ f n ++ drop (at + w) (concat n f ++ drop at l) ≡ concat (n + 1) f ++ drop (at + w) l
+    concat-more n at w l e =
+        ap₂ (λ (x y : List A). x ++ f n ++ y) (take-at (concat n f) (drop at l) at e)
+        (ap (λ (k : ℕ). drop (k + w) (concat n f ++ drop at l)) (sym e) ∙ drop-append-add (concat n f) (drop at l) w ∙ drop-drop w at l)
+        ∙ ap (λ (k : ℕ). concat k f ++ drop (at + w) l) (sym (add-one n))
+
+    -- lists of one width w: their length together, and element j of list i
+    module _ (w n : ℕ) (wide : (i : ℕ) → i < n → length (f i) ≡ w) where
+      lengths : (m : ℕ) → m ≤ n → length (concat m f) ≡ m * w
+      lengths zero h = sym (zero-mul w)
+      lengths (suc m) h = size-suc m ∙ ap₂ _+_ (lengths m (omega arith)) (wide m h) ∙ sym (suc-mul m w)
+
+      pub concat-length : length (concat n f) ≡ n * w
+      concat-length = lengths n (le-refl n)
+
+      pub concat-at : (d : A) (i j : ℕ) → i < n → j < w → getD (concat n f) (i * w + j) d ≡ getD (f i) j d
+      concat-at d i j h l =
+          ap (λ (x : ℕ). getD (concat n f) (x + j) d) (sym (lengths i (omega arith))) ∙ concat-in d n i j h (omega (arith, wide i h))
+
+      -- one turn of the loop that stores them over l
+      pub concat-step : (l : List A)
+          → take (n * w) (concat n f ++ drop (n * w) l) ++ f n ++ drop (n * w + w) (concat n f ++ drop (n * w) l)
+          ≡ concat (n + 1) f ++ drop ((n + 1) * w) l
+      concat-step l =
+          let next : n * w + w ≡ (n + 1) * w = sym (ap (λ (k : ℕ). k * w) (add-one n) ∙ suc-mul n w) in
+          concat-more n (n * w) w l concat-length ∙ ap (λ (k : ℕ). concat (n + 1) f ++ drop k l) next
+
+-- ---- what is kept of a row of lists, one after another
+
+module _ {A : Type 0} (keep : ℕ → Bool) (block : ℕ → List A) where
+  -- the list of k where it is kept, and the empty one where not
+  abbrev part : ℕ → List A
+  part k = cond (keep k) (block k) []
+
+  part-yes : (k : ℕ) → keep k ≡ true → part k ≡ block k
+  part-yes k e = ap (λ (t : Bool). cond t (block k) []) e
+
+  -- one more list
+  pub kept-yes : (n : ℕ) → keep n ≡ true → kept keep block (suc n) ≡ kept keep block n ++ block n
+  kept-yes n e = ap (λ (l : List A). kept keep block n ++ l) (part-yes n e)
+
+  pub kept-no : (n : ℕ) → keep n ≡ false → kept keep block (suc n) ≡ kept keep block n
+  kept-no n e = ap (λ (t : Bool). kept keep block n ++ cond t (block n) []) e ∙ append-nil (kept keep block n)
+
+  pub kept-grows : (i n : ℕ) → i ≤ n → length (kept keep block i) ≤ length (kept keep block n)
+  kept-grows = concat-grows part
+
+  -- the elements of the list of i stand after those of the lists kept before it
+  pub kept-at : (d : A) (n i j : ℕ) → i < n → keep i ≡ true → j < length (block i)
+      → getD (kept keep block n) (length (kept keep block i) + j) d ≡ getD (block i) j d
+  kept-at d n i j h k l =
+      concat-in part d n i j h (omega (arith, ap length (part-yes i k))) ∙ ap (λ (s : List A). getD s j d) (part-yes i k)
+
+  -- lists of one width w: their length together
+  module _ (w n : ℕ) (wide : (i : ℕ) → i < n → keep i ≡ true → length (block i) ≡ w) where
+    pub kept-length : (m : ℕ) → m ≤ n → length (kept keep block m) ≡ countBelow keep m * w
+    kept-length zero h = sym (zero-mul w)
+    kept-length (suc m) h = go (keep m) refl (kept-length m (omega arith))
+      where
+        go : (t : Bool) → keep m ≡ t → length (kept keep block m) ≡ countBelow keep m * w
+            → length (kept keep block (suc m)) ≡ countBelow keep (suc m) * w
+        go true e before =
+            ap length (kept-yes m e) ∙ length-append (kept keep block m) (block m) ∙ ap₂ _+_ before (wide m h e) ∙ sym (suc-mul (countBelow keep m) w)
+            ∙ ap (λ (x : ℕ). x * w) (sym (count-yes keep m e))
+        go false e before = ap length (kept-no m e) ∙ before ∙ ap (λ (x : ℕ). x * w) (sym (count-no keep m e))
+
+    -- an element of the list whose new number is that of i
+    pub kept-word : (d : A) (i j : ℕ) → i < n → keep i ≡ true → j < w → getD (kept keep block n) (countBelow keep i * w + j) d ≡ getD (block i) j d
+    kept-word d i j h k l =
+        ap (λ (x : ℕ). getD (kept keep block n) (x + j) d) (sym (kept-length i (omega arith)))
+        ∙ kept-at d n i j h k (omega (arith, wide i h k))

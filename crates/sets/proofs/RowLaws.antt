@@ -1,0 +1,320 @@
+-- Laws of rows, for any number of words and of features.
+use Prim.Native.Nat.{ℕ, zero, suc, _+_, _-_, _*_, _/_, _%_, _^_, _<_, _≤_}
+use mathlib.Core.Path.{_≡_, refl, sym, ap, ap₂, _∙_}
+use mathlib.Core.Bool.{Bool, true, false, not, _&&_, _||_, and-true, false≢true}
+use mathlib.Core.List.{List, [], _∷_, _++_}
+use mathlib.Core.Logic.{_≢_, _↔_, ⊎-elim}
+use native.Mathlib.Nat.{not-suc-le-zero, le-of-suc-le-suc, le-refl, eq-or-lt-of-le, div-add-mod', suc-mul, mul-le-mul-right}
+use native.Mathlib.Decide.{decLt}
+use native.Mathlib.Numerals.{add-one}
+use native.Mathlib.Omega.{arith}
+use lib.Dec.{eqb, ltb}
+use lib.Bits.{bitAnd, bitOr, or-add-and, and-le-l, and-le-r}
+use lib.Count.{trailingZeros}
+use lib.ListN.{length, getD, take, drop, length-append, length-drop, List·getD-append}
+use lib.Seq.{length-take-le, getD-append-add, getD-take, getD-drop}
+use borrow.Author.Tests.{lt-ltb, le-ltb, eq-eqb, ne-eqb, not-true}
+use Rattle.sets.specs.declared.Found.{Found}
+use Rattle.sets.specs.Search.{lowest, isFound, someBelow}
+use Rattle.sets.specs.Lists.{table, concat}
+use Rattle.sets.specs.Bits.{bit, bitsOf, difference}
+use Rattle.sets.specs.Rows.{rowBit, wordOf, rowOf, within, zip, rowJoin, rowIntersect, rowMinus, rowIsEmpty, rowLowest, rowIn, withRow}
+use Rattle.sets.proofs.SearchLaws.{First, at-lowest, nothing-lowest, lowest-same, some-same, some-none}
+use Rattle.sets.proofs.ListLaws.{table-length, table-at, table-same, table-of, concat-length, concat-at, concat-step}
+use Rattle.sets.proofs.BitLaws.{bit-none, bit-low, bit-high, bit-and, bit-or, bit-difference, bit-bitsOf, zero-bits, trailing-first}
+use Rattle.sets.proofs.BitLaws.{bitsOf-lt, bitsOf-same, bitsOf-is, bitsOf-none, bitsOf-all, bitsOf-below}
+use Rattle.sets.proofs.BitLaws.{and-bitsOf, or-bitsOf, difference-bitsOf}
+
+-- ---- a row and its bits
+
+-- so many words, each of 64 bits
+pub record IsRow (words : ℕ) (l : List ℕ) : Type 0 where
+  pub size : length l ≡ words
+  pub fits : (i : ℕ) → i < words → getD l i 0 < 2 ^ 64
+
+pub rowBit-word : (l : List ℕ) (w j : ℕ) → j < 64 → rowBit l (w * 64 + j) ≡ bit (getD l w 0) j
+rowBit-word l w j h =
+    let e : (w * 64 + j) / 64 ≡ w = omega arith in
+    let f : (w * 64 + j) % 64 ≡ j = omega arith in
+    ap₂ (λ (x y : ℕ). bit (getD l x 0) y) e f
+
+-- the row of a test has a configuration where the test holds of it
+pub rowBit-rowOf : (n : ℕ) (p : ℕ → Bool) (c : ℕ) → c < n * 64 → rowBit (rowOf n p) c ≡ p c
+rowBit-rowOf n p c h =
+    ap (λ (x : ℕ). bit x (c % 64)) (table-at n (wordOf p) 0 (c / 64) (omega arith)) ∙ bit-bitsOf 64 (λ j. p (c / 64 * 64 + j)) (c % 64) (omega arith)
+    ∙ ap p (div-add-mod' c 64)
+
+pub rowOf-same : (n : ℕ) (p q : ℕ → Bool) → ((c : ℕ) → c < n * 64 → p c ≡ q c) → rowOf n p ≡ rowOf n q
+rowOf-same n p q h =
+    table-same n (wordOf p) (wordOf q)
+    (λ w g. bitsOf-same 64 (λ j. p (w * 64 + j)) (λ j. q (w * 64 + j)) (λ j k. h (w * 64 + j) (omega arith)))
+
+pub rowOf-row : (n : ℕ) (p : ℕ → Bool) → IsRow n (rowOf n p)
+rowOf-row n p = record {
+  size = table-length n (wordOf p);
+  fits = λ i h. rw (table-at n (wordOf p) 0 i h) (bitsOf-lt 64 (λ j. p (i * 64 + j)));
+}
+
+-- words of 64 bits are the row of their bits
+pub rowOf-rowBit : (n : ℕ) (l : List ℕ) → IsRow n l → l ≡ rowOf n (rowBit l)
+rowOf-rowBit n l r =
+    table-of 0 n (wordOf (rowBit l)) l (r .size)
+    (λ i g. sym (bitsOf-is 64 (getD l i 0) (λ j. rowBit l (i * 64 + j)) (r .fits i g) (λ j k. sym (rowBit-word l i j k))))
+
+-- rows are equal exactly where they have the same configurations
+pub rows-equal : (n : ℕ) (s t : List ℕ) → IsRow n s → IsRow n t → (s ≡ t) ↔ ((c : ℕ) → c < n * 64 → rowBit s c ≡ rowBit t c)
+rows-equal n s t a b =
+    (λ e c h. ap (λ (l : List ℕ). rowBit l c) e, λ h. rowOf-rowBit n s a ∙ rowOf-same n (rowBit s) (rowBit t) h ∙ sym (rowOf-rowBit n t b))
+
+-- ---- the configurations of n features
+
+module _ (n : ℕ) (p : ℕ → Bool) where
+  pub within-in : (c : ℕ) → c < 2 ^ n → within n p c ≡ p c
+  within-in c h = ap (λ (t : Bool). t && p c) (lt-ltb c (2 ^ n) h)
+
+  pub within-out : (c : ℕ) → 2 ^ n ≤ c → within n p c ≡ false
+  within-out c h = ap (λ (t : Bool). t && p c) (le-ltb c (2 ^ n) h)
+
+  pub bit-within : (w c : ℕ) → c < 2 ^ n → c < w * 64 → rowBit (rowOf w (within n p)) c ≡ p c
+  bit-within w c h l = rowBit-rowOf w (within n p) c l ∙ within-in c h
+
+pub within-same : (n : ℕ) (p q : ℕ → Bool) → ((c : ℕ) → c < 2 ^ n → p c ≡ q c) → (c : ℕ) → within n p c ≡ within n q c
+within-same n p q h c = go (decLt c (2 ^ n))
+  where
+    go : Dec (c < 2 ^ n) → within n p c ≡ within n q c
+    go (yes l) = ap (λ (t : Bool). ltb c (2 ^ n) && t) (h c l)
+    go (no l) = within-out n p c (omega arith) ∙ sym (within-out n q c (omega arith))
+
+-- ---- union, intersection, difference: of the rows of tests, and of any words
+
+module _ (f : ℕ → ℕ → ℕ) (on : Bool → Bool → Bool) where
+  zip-rowOf : ((k : ℕ) (p q : ℕ → Bool) → f (bitsOf k p) (bitsOf k q) ≡ bitsOf k (λ j. on (p j) (q j)))
+      → (w : ℕ) (p q : ℕ → Bool) → zip f w (rowOf w p) (rowOf w q) ≡ rowOf w (λ c. on (p c) (q c))
+  zip-rowOf law w p q =
+      table-same w (λ i. f (getD (rowOf w p) i 0) (getD (rowOf w q) i 0)) (wordOf (λ c. on (p c) (q c)))
+      (λ i h. ap₂ f (table-at w (wordOf p) 0 i h) (table-at w (wordOf q) 0 i h) ∙ law 64 (λ j. p (i * 64 + j)) (λ j. q (i * 64 + j)))
+
+  rowBit-zip : ((a b i : ℕ) → bit (f a b) i ≡ on (bit a i) (bit b i))
+      → (w : ℕ) (s t : List ℕ) (c : ℕ) → c < w * 64 → rowBit (zip f w s t) c ≡ on (rowBit s c) (rowBit t c)
+  rowBit-zip law w s t c h =
+      ap (λ (x : ℕ). bit x (c % 64)) (table-at w (λ i. f (getD s i 0) (getD t i 0)) 0 (c / 64) (omega arith))
+      ∙ law (getD s (c / 64) 0) (getD t (c / 64) 0) (c % 64)
+
+  -- an operation that makes nothing out of nothing stays among the configurations of n features
+  zip-within : ((k : ℕ) (p q : ℕ → Bool) → f (bitsOf k p) (bitsOf k q) ≡ bitsOf k (λ j. on (p j) (q j))) → on false false ≡ false
+      → (w n : ℕ) (p q : ℕ → Bool) → zip f w (rowOf w (within n p)) (rowOf w (within n q)) ≡ rowOf w (within n (λ c. on (p c) (q c)))
+  zip-within law none w n p q =
+      zip-rowOf law w (within n p) (within n q)
+      ∙ rowOf-same w (λ c. on (within n p c) (within n q c)) (within n (λ c. on (p c) (q c))) (λ c h. go c (ltb c (2 ^ n)))
+    where
+      go : (c : ℕ) (t : Bool) → on (t && p c) (t && q c) ≡ (t && on (p c) (q c))
+      go c true = refl
+      go c false = none
+
+pub join-rowOf : (w : ℕ) (p q : ℕ → Bool) → rowJoin w (rowOf w p) (rowOf w q) ≡ rowOf w (λ c. p c || q c)
+join-rowOf = zip-rowOf bitOr _||_ or-bitsOf
+
+pub intersect-rowOf : (w : ℕ) (p q : ℕ → Bool) → rowIntersect w (rowOf w p) (rowOf w q) ≡ rowOf w (λ c. p c && q c)
+intersect-rowOf = zip-rowOf bitAnd _&&_ and-bitsOf
+
+pub minus-rowOf : (w : ℕ) (p q : ℕ → Bool) → rowMinus w (rowOf w p) (rowOf w q) ≡ rowOf w (λ c. p c && not (q c))
+minus-rowOf = zip-rowOf difference (λ a b. a && not b) difference-bitsOf
+
+module _ (w : ℕ) (s t : List ℕ) (c : ℕ) (h : c < w * 64) where
+  pub rowBit-join : rowBit (rowJoin w s t) c ≡ (rowBit s c || rowBit t c)
+  rowBit-join = rowBit-zip bitOr _||_ bit-or w s t c h
+
+  pub rowBit-intersect : rowBit (rowIntersect w s t) c ≡ (rowBit s c && rowBit t c)
+  rowBit-intersect = rowBit-zip bitAnd _&&_ bit-and w s t c h
+
+  pub rowBit-minus : rowBit (rowMinus w s t) c ≡ (rowBit s c && not (rowBit t c))
+  rowBit-minus = rowBit-zip difference (λ a b. a && not b) bit-difference w s t c h
+
+-- the same of the configurations of n features
+module _ (w n : ℕ) (p q : ℕ → Bool) where
+  pub join-within : rowJoin w (rowOf w (within n p)) (rowOf w (within n q)) ≡ rowOf w (within n (λ c. p c || q c))
+  join-within = zip-within bitOr _||_ or-bitsOf refl w n p q
+
+  pub intersect-within : rowIntersect w (rowOf w (within n p)) (rowOf w (within n q)) ≡ rowOf w (within n (λ c. p c && q c))
+  intersect-within = zip-within bitAnd _&&_ and-bitsOf refl w n p q
+
+  pub minus-within : rowMinus w (rowOf w (within n p)) (rowOf w (within n q)) ≡ rowOf w (within n (λ c. p c && not (q c)))
+  minus-within = zip-within difference (λ a b. a && not b) difference-bitsOf refl w n p q
+
+-- what p lacks of all of them
+pub complement-within : (w n : ℕ) (p : ℕ → Bool)
+    → rowMinus w (rowOf w (within n (λ c. true))) (rowOf w (within n p)) ≡ rowOf w (within n (λ c. not (p c)))
+complement-within w n p = minus-within w n (λ c. true) p
+
+-- ---- the words of the configurations below m
+
+pub within-all : (n c : ℕ) → within n (λ d. true) c ≡ ltb c (2 ^ n)
+within-all n c = and-true (ltb c (2 ^ n))
+
+module _ (m w : ℕ) where
+  pub below-none : m ≤ w * 64 → wordOf (λ c. ltb c m) w ≡ 0
+  below-none h = bitsOf-none 64 (λ j. ltb (w * 64 + j) m) (λ j g. le-ltb (w * 64 + j) m (omega arith))
+
+  pub below-all : w * 64 + 64 ≤ m → wordOf (λ c. ltb c m) w ≡ 2 ^ 64 - 1
+  below-all h = bitsOf-all 64 (λ j. ltb (w * 64 + j) m) (λ j g. lt-ltb (w * 64 + j) m (omega arith))
+
+  pub below-some : w * 64 ≤ m → m - w * 64 ≤ 64 → wordOf (λ c. ltb c m) w ≡ 2 ^ (m - w * 64) - 1
+  below-some h k =
+      bitsOf-same 64 (λ j. ltb (w * 64 + j) m) (λ j. ltb j (m - w * 64)) (λ j g. go j (decLt j (m - w * 64))) ∙ bitsOf-below 64 (m - w * 64) k
+    where
+      go : (j : ℕ) → Dec (j < m - w * 64) → ltb (w * 64 + j) m ≡ ltb j (m - w * 64)
+      go j (yes l) = lt-ltb (w * 64 + j) m (omega arith) ∙ sym (lt-ltb j (m - w * 64) l)
+      go j (no l) = le-ltb (w * 64 + j) m (omega arith) ∙ sym (le-ltb j (m - w * 64) (omega arith))
+
+-- ---- the words of the configurations where feature i is on
+
+-- below feature 6 every word is the same
+unfoldable pub masks : List ℕ
+masks =
+    0xAAAA_AAAA_AAAA_AAAA ∷ 0xCCCC_CCCC_CCCC_CCCC ∷ 0xF0F0_F0F0_F0F0_F0F0
+    ∷ 0xFF00_FF00_FF00_FF00 ∷ 0xFFFF_0000_FFFF_0000 ∷ 0xFFFF_FFFF_0000_0000 ∷ []
+
+masks-bits : masks ≡ table 6 (λ i. bitsOf 64 (λ j. bit j i))
+unfolding masks bitsOf
+masks-bits = refl
+
+pub feature-low : (i w : ℕ) → i < 6 → getD masks i 0 ≡ wordOf (λ c. bit c i) w
+feature-low i w h =
+    ap (λ (l : List ℕ). getD l i 0) masks-bits ∙ table-at 6 (λ i. bitsOf 64 (λ j. bit j i)) 0 i h
+    ∙ bitsOf-same 64 (λ j. bit j i) (λ j. bit (w * 64 + j) i) (λ j g. sym (bit-low w 6 j i h))
+
+-- from feature 6 on a word has all or none
+module _ (i w : ℕ) (h : 6 ≤ i) where
+  pub feature-on : bit w (i - 6) ≡ true → wordOf (λ c. bit c i) w ≡ 2 ^ 64 - 1
+  feature-on e = bitsOf-all 64 (λ j. bit (w * 64 + j) i) (λ j g. bit-high w 6 j i g h ∙ e)
+
+  pub feature-off : bit w (i - 6) ≡ false → wordOf (λ c. bit c i) w ≡ 0
+  feature-off e = bitsOf-none 64 (λ j. bit (w * 64 + j) i) (λ j g. bit-high w 6 j i g h ∙ e)
+
+-- ---- no configuration
+
+pub empty-rowOf : (w : ℕ) (p : ℕ → Bool) → rowIsEmpty w (rowOf w p) ≡ not (someBelow p (w * 64))
+empty-rowOf w p = ap not (some-same (rowBit (rowOf w p)) p (w * 64) (rowBit-rowOf w p))
+
+pub rowBit-none : (l : List ℕ) (c : ℕ) → getD l (c / 64) 0 ≡ 0 → rowBit l c ≡ false
+rowBit-none l c e = ap (λ (x : ℕ). bit x (c % 64)) e ∙ bit-none (c % 64)
+
+-- every word is 0
+abbrev pub ZeroWords : ℕ → List ℕ → Type 0
+ZeroWords n l = (i : ℕ) → i < n → getD l i 0 ≡ 0
+
+pub found-nothing : (n : ℕ) (l : List ℕ) → ZeroWords n l → rowLowest n l ≡ Found.Nothing
+found-nothing n l h = nothing-lowest (rowBit l) (n * 64) (λ c g. rowBit-none l c (h (c / 64) (omega arith)))
+
+pub zero-empty : (n : ℕ) (l : List ℕ) → ZeroWords n l → rowIsEmpty n l ≡ true
+zero-empty n l h = ap (λ (x : Found). not (isFound x)) (found-nothing n l h)
+
+pub empty-zero : (n : ℕ) (l : List ℕ) → IsRow n l → rowIsEmpty n l ≡ true → ZeroWords n l
+empty-zero n l r e i h =
+    zero-bits 64 (getD l i 0) (r .fits i h)
+    (λ j g. sym (rowBit-word l i j g) ∙ some-none (rowBit l) (n * 64) (not-true (someBelow (rowBit l) (n * 64)) e) (i * 64 + j) (omega arith))
+
+-- all words joined: 0 exactly where each is
+unfoldable pub joined : ℕ → List ℕ → ℕ
+joined zero l = 0
+joined (suc n) l = bitOr (joined n l) (getD l n 0)
+
+pub joined-more : (n : ℕ) (l : List ℕ) → joined (n + 1) l ≡ bitOr (joined n l) (getD l n 0)
+unfolding joined
+joined-more n l = ap (λ (k : ℕ). joined k l) (add-one n)
+
+pub joined-zero : (n : ℕ) (l : List ℕ) → joined n l ≡ 0 → ZeroWords n l
+unfolding joined
+joined-zero zero l e i h = absurd (not-suc-le-zero h)
+joined-zero (suc n) l e i h = ⊎-elim (λ (d : i ≡ n). rw d (parts .1)) (joined-zero n l (parts .0) i) (eq-or-lt-of-le (le-of-suc-le-suc h))
+  where
+    parts : (joined n l ≡ 0) × (getD l n 0 ≡ 0)
+    parts = omega (arith, e, or-add-and (joined n l) (getD l n 0), and-le-l (joined n l) (getD l n 0), and-le-r (joined n l) (getD l n 0))
+
+pub zero-joined : (n : ℕ) (l : List ℕ) → ZeroWords n l → joined n l ≡ 0
+unfolding joined
+zero-joined zero l h = refl
+zero-joined (suc n) l h = ap₂ bitOr (zero-joined n l (λ i g. h i (omega arith))) (h n (le-refl (suc n)))
+
+pub empty-joined : (n : ℕ) (l : List ℕ) → IsRow n l → rowIsEmpty n l ≡ eqb (joined n l) 0
+empty-joined n l r = go (rowIsEmpty n l) refl
+  where
+    go : (b : Bool) → rowIsEmpty n l ≡ b → b ≡ eqb (joined n l) 0
+    go true e = sym (eq-eqb (joined n l) 0 (zero-joined n l (empty-zero n l r e)))
+    go false e = sym (ne-eqb (joined n l) 0 (λ z. false≢true (sym e ∙ zero-empty n l (joined-zero n l z))))
+
+-- ---- the lowest configuration
+
+pub lowest-rowOf : (w : ℕ) (p : ℕ → Bool) → rowLowest w (rowOf w p) ≡ lowest p (w * 64)
+lowest-rowOf w p = lowest-same (rowBit (rowOf w p)) p (w * 64) (rowBit-rowOf w p)
+
+-- the first word that is not 0 has it, at its trailing zeros
+pub found-at : (n : ℕ) (l : List ℕ) (i : ℕ) → i < n → ZeroWords i l → getD l i 0 < 2 ^ 64 → getD l i 0 ≢ 0
+    → rowLowest n l ≡ Found.At (i * 64 + trailingZeros 64 (getD l i 0))
+found-at n l i g h f e =
+    at-lowest (rowBit l) (n * 64) (i * 64 + trailingZeros 64 (getD l i 0)) (record {
+      below = omega (arith, r .below);
+      holds = rowBit-word l i (trailingZeros 64 (getD l i 0)) (r .below) ∙ r .holds;
+      before = λ c k. go c k (decLt c (i * 64));
+    })
+  where
+    r : First (bit (getD l i 0)) 64 (trailingZeros 64 (getD l i 0))
+    r = trailing-first 64 (getD l i 0) f e
+
+    go : (c : ℕ) → c < i * 64 + trailingZeros 64 (getD l i 0) → Dec (c < i * 64) → rowBit l c ≡ false
+    go c k (yes b) = rowBit-none l c (h (c / 64) (omega arith))
+    go c k (no b) =
+        let w : c / 64 ≡ i = omega (arith, r .below) in
+        ap (λ (x : ℕ). bit (getD l x 0) (c % 64)) w ∙ r .before (c % 64) (omega arith)
+
+-- ---- rows one after another in a longer list
+
+-- a row that was stored is read again
+pub rowIn-concat : (w n : ℕ) (f : ℕ → List ℕ) (rest : List ℕ) → ((i : ℕ) → i < n → length (f i) ≡ w)
+    → (a : ℕ) → a < n → rowIn w (concat n f ++ rest) a ≡ f a
+rowIn-concat w n f rest wide a h =
+    sym (table-of 0 w (λ i. getD (concat n f ++ rest) (a * w + i) 0) (f a) (wide a h)
+    (λ i g. sym (List·getD-append (concat n f) rest 0 (a * w + i) (omega (arith, mul-le-mul-right w h, suc-mul a w, concat-length f w n wide))
+    ∙ concat-at f w n wide 0 a i h g)))
+
+-- one turn of a loop that stores row after row over l
+pub withRow-more : (w : ℕ) (f : ℕ → List ℕ) (a : ℕ) (l : List ℕ) → ((i : ℕ) → i < a → length (f i) ≡ w)
+    → withRow w (concat a f ++ drop (a * w) l) a (f a) ≡ concat (a + 1) f ++ drop ((a + 1) * w) l
+withRow-more w f a l wide = concat-step f w a wide l
+
+-- another row in the place of row a: that one is read there, and every other as before
+module _ (w : ℕ) (l : List ℕ) (a : ℕ) (row : List ℕ) (size : length row ≡ w) (room : a * w + w ≤ length l) where
+  front : length (take (a * w) l) ≡ a * w
+  front = length-take-le (a * w) l (omega arith)
+
+  front-row : length (take (a * w) l ++ row) ≡ a * w + w
+  front-row = length-append (take (a * w) l) row ∙ ap₂ _+_ front size
+
+  pub withRow-length : length (withRow w l a row) ≡ length l
+  withRow-length = omega (arith, length-append (take (a * w) l ++ row) (drop (a * w + w) l), front-row, length-drop (a * w + w) l)
+
+  pub withRow-same : rowIn w (withRow w l a row) a ≡ row
+  withRow-same =
+      sym (table-of 0 w (λ i. getD (withRow w l a row) (a * w + i) 0) row size
+      (λ i h. sym (List·getD-append (take (a * w) l ++ row) (drop (a * w + w) l) 0 (a * w + i) (omega (arith, front-row))
+      ∙ ap (λ (k : ℕ). getD (take (a * w) l ++ row) (k + i) 0) (sym front) ∙ getD-append-add (take (a * w) l) row i 0)))
+
+  before : (k : ℕ) → k < a * w → getD (withRow w l a row) k 0 ≡ getD l k 0
+  before k h =
+      List·getD-append (take (a * w) l ++ row) (drop (a * w + w) l) 0 k (omega (arith, front-row))
+      ∙ List·getD-append (take (a * w) l) row 0 k (omega (arith, front)) ∙ getD-take (a * w) l k 0 h
+
+  after : (k : ℕ) → a * w + w ≤ k → getD (withRow w l a row) k 0 ≡ getD l k 0
+  after k h =
+      let e : k ≡ length (take (a * w) l ++ row) + (k - (a * w + w)) = omega (arith, front-row) in
+      let d : a * w + w + (k - (a * w + w)) ≡ k = omega arith in
+      ap (λ (x : ℕ). getD (withRow w l a row) x 0) e ∙ getD-append-add (take (a * w) l ++ row) (drop (a * w + w) l) (k - (a * w + w)) 0
+      ∙ getD-drop (a * w + w) l (k - (a * w + w)) 0 ∙ ap (λ (x : ℕ). getD l x 0) d
+
+  pub withRow-other : (b : ℕ) → b ≢ a → rowIn w (withRow w l a row) b ≡ rowIn w l b
+  withRow-other b e =
+      table-same w (λ i. getD (withRow w l a row) (b * w + i) 0) (λ i. getD l (b * w + i) 0) (λ i h. go i h (decLt b a))
+    where
+      go : (i : ℕ) → i < w → Dec (b < a) → getD (withRow w l a row) (b * w + i) 0 ≡ getD l (b * w + i) 0
+      go i h (yes k) = before (b * w + i) (omega (arith, mul-le-mul-right w k, suc-mul b w))
+      go i h (no k) = let m : a < b = omega arith in after (b * w + i) (omega (arith, mul-le-mul-right w m, suc-mul a w))
