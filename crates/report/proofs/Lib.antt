@@ -7,4 +7,9 @@ pub mod FormedFacts
 pub mod StepLaws
 pub mod SetLaws
 pub mod FirstFault
+pub mod TextLaws
+pub mod LineLaws
+pub mod FileLaws
+pub mod FormLines
+pub mod RoundTrip
 pub mod ExamplesHold
