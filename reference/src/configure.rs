@@ -1,0 +1,173 @@
+//! The configuring call: plain tables for one configuration.
+
+use std::ops::Range;
+
+use crate::check::{self, Accepted};
+use crate::expression::Permitted;
+use crate::form;
+use crate::refusal::Refusal;
+use crate::tables::{self, Tables};
+use crate::typing;
+
+/// Writes tables 1 to 4 of the report configured at `c` into `out` and returns
+/// the number of forms in each. Words after them, and on a refusal all words,
+/// stay as they were.
+///
+/// The head of the result is 0 features, the same attributes, model 0; its
+/// only expression is true (1 0 0). They are fixed, so they are not written.
+pub fn configure(tables: &Tables, c: u64, out: [&mut [u16]; 4]) -> Result<[usize; 4], Refusal> {
+    let lists = form::check(tables)?;
+    let accepted = check::schema_and_typing(tables, lists)?;
+    let at = permitted_at(&accepted, c)?;
+    room(tables, &out)?;
+    let written = configured(tables, &accepted, at);
+    let mut counts = [0; 4];
+    for (index, lent) in out.into_iter().enumerate() {
+        let words = &written[index];
+        lent[..words.len()].copy_from_slice(words);
+        counts[index] = words.len() / tables::WIDTHS[index + 1];
+    }
+    Ok(counts)
+}
+
+/// 20: c over 2^n - 1, or not permitted; the configuration is c as given.
+fn permitted_at(accepted: &Accepted, c: u64) -> Result<&Permitted, Refusal> {
+    let mut all = accepted.permitted.iter();
+    all.find(|at| at.configuration == c)
+        .ok_or(Refusal::new(20, 0, 0, c))
+}
+
+/// 21: a table lent for writing (1 to 4) shorter than its source.
+fn room(tables: &Tables, out: &[&mut [u16]; 4]) -> Result<(), Refusal> {
+    for table in 1..=4 {
+        if out[table - 1].len() < tables.words(table).len() {
+            return Err(Refusal::at(21, table));
+        }
+    }
+    Ok(())
+}
+
+/// The words of tables 1 to 4 of the configured report.
+fn configured(tables: &Tables, accepted: &Accepted, at: &Permitted) -> [Vec<u16>; 4] {
+    let holds = &at.holds;
+    let lists = &accepted.lists;
+    let (relations, relation_numbers) = relations_at(tables, &lists.relations, holds);
+    let (comparisons, comparison_numbers) = comparisons_at(tables, holds);
+    let numbers = Numbers {
+        relations: relation_numbers,
+        comparisons: comparison_numbers,
+    };
+    let (queries, projects) = queries_at(tables, &lists.queries, holds, &numbers);
+    let entries = [relations.1, projects].concat();
+    [entries, relations.0, comparisons, queries]
+}
+
+/// New numbers by old number. Of forms not kept, and of choices, see each
+/// maker.
+struct Numbers {
+    relations: Vec<u16>,
+    comparisons: Vec<u16>,
+}
+
+/// The entries of a list that hold, with expression 0.
+fn entries_at(tables: &Tables, list: &Range<usize>, holds: &[bool]) -> Vec<u16> {
+    let mut words = Vec::new();
+    for number in list.clone() {
+        let [attribute, expression] = tables.entry(number);
+        if holds[usize::from(expression)] {
+            words.extend([attribute, 0]);
+        }
+    }
+    words
+}
+
+/// "Relations present are kept in order, each with its entries that hold":
+/// words of the relations and of their entries, and the new numbers (that of an
+/// absent relation is never used, because the report was accepted).
+fn relations_at(
+    tables: &Tables,
+    lists: &[Range<usize>],
+    holds: &[bool],
+) -> ((Vec<u16>, Vec<u16>), Vec<u16>) {
+    let mut relations = Vec::new();
+    let mut entries = Vec::new();
+    let mut numbers = Vec::new();
+    for (number, list) in lists.iter().enumerate() {
+        numbers.push((relations.len() / 2) as u16);
+        let presence = usize::from(tables.relation(number)[0]);
+        if holds[presence] {
+            let kept = entries_at(tables, list, holds);
+            relations.extend([0, (kept.len() / 2) as u16]);
+            entries.extend(kept);
+        }
+    }
+    ((relations, entries), numbers)
+}
+
+/// "Every non-choice comparison is kept. A reference to a choice becomes one to
+/// the form it leads to, through further choices": the number of a choice is
+/// the new number of the form that it leads to.
+fn comparisons_at(tables: &Tables, holds: &[bool]) -> (Vec<u16>, Vec<u16>) {
+    let mut words: Vec<u16> = Vec::new();
+    let mut numbers: Vec<u16> = Vec::new();
+    for form in 0..tables.count(3) {
+        let [kind, operator, a, b, c] = tables.comparison(form);
+        let to = |old: u16| numbers[usize::from(old)];
+        if kind == tables::COMPARISON_CHOICE {
+            let taken = if holds[usize::from(a)] { to(b) } else { to(c) };
+            numbers.push(taken);
+            continue;
+        }
+        let kept = match kind {
+            4 => [kind, operator, to(a), b, c],
+            5 | 6 => [kind, operator, to(a), to(b), c],
+            _ => [kind, operator, a, b, c],
+        };
+        numbers.push((words.len() / 5) as u16);
+        words.extend(kept);
+    }
+    (words, numbers)
+}
+
+/// "Kept queries are the non-choice forms reached at c, in order; project lists
+/// keep entries that hold. Lists of forms not kept go." Words of the queries and
+/// of the project lists.
+fn queries_at(
+    tables: &Tables,
+    lists: &[Range<usize>],
+    holds: &[bool],
+    numbers: &Numbers,
+) -> (Vec<u16>, Vec<u16>) {
+    let reached = typing::reached_at(tables, holds);
+    let mut words: Vec<u16> = Vec::new();
+    let mut entries = Vec::new();
+    // New number of each form; a choice has that of the form it leads to, a
+    // form not reached has 0 and nothing refers to it.
+    let mut new: Vec<u16> = vec![0; reached.len()];
+    for form in 0..reached.len() {
+        if !reached[form] {
+            continue;
+        }
+        let [kind, a, b, c] = tables.query(form);
+        let to = |old: u16| new[usize::from(old)];
+        if kind == tables::CHOICE {
+            new[form] = if holds[usize::from(a)] { to(b) } else { to(c) };
+            continue;
+        }
+        let kept = match kind {
+            tables::RELATION => [kind, numbers.relations[usize::from(a)], 0, 0],
+            tables::SELECT => [kind, numbers.comparisons[usize::from(a)], to(b), 0],
+            tables::PROJECT => {
+                let list = entries_at(tables, &lists[form], holds);
+                let length = (list.len() / 2) as u16;
+                entries.extend(list);
+                [kind, length, to(b), 0]
+            }
+            tables::PRODUCT | tables::UNION | tables::INTERSECTION => [kind, to(a), to(b), 0],
+            _ => [kind, 0, 0, 0],
+        };
+        new[form] = (words.len() / 4) as u16;
+        words.extend(kept);
+    }
+    (words, entries)
+}

@@ -1,0 +1,987 @@
+//! Faults put into accepted tables: one for every limit of every check.
+
+use crate::check::{self, ROWS};
+use crate::expression;
+use crate::form;
+use crate::random::Random;
+use crate::tables::{self, Tables, RANGES, WIDTHS};
+use crate::typing;
+
+/// One way to break one condition of the table of refusals.
+pub struct Limit {
+    /// The refusal that it aims at.
+    pub number: u64,
+    /// The condition, in words.
+    pub words: &'static str,
+    /// Puts the fault in; none when the tables give no occasion.
+    pub apply: fn(&mut Random, &mut Tables) -> Option<()>,
+}
+
+const fn limit(
+    number: u64,
+    words: &'static str,
+    apply: fn(&mut Random, &mut Tables) -> Option<()>,
+) -> Limit {
+    Limit {
+        number,
+        words,
+        apply,
+    }
+}
+
+/// Puts a fault of the given number into a copy of the tables, so that the
+/// refusal has that number if that can be had in some tries.
+pub fn aimed(random: &mut Random, sound: &Tables, number: u64) -> Tables {
+    let limits: Vec<&Limit> = LIMITS.iter().filter(|l| l.number == number).collect();
+    let mut tables = sound.clone();
+    for _ in 0..6 {
+        let limit = limits[random.below(limits.len())];
+        // Some tries with the same limit, or the easy ones would push out the
+        // others.
+        for _ in 0..8 {
+            tables = sound.clone();
+            if (limit.apply)(random, &mut tables).is_some() && outcome(&tables) == number {
+                return tables;
+            }
+        }
+    }
+    tables
+}
+
+/// Faults of typing of which the lowest form is not the first to fail: some
+/// lower configuration fails in a higher form only. As far as some tries give
+/// it.
+pub fn crossed(random: &mut Random, sound: &Tables) -> Tables {
+    let mut tables = sound.clone();
+    for _ in 0..60 {
+        tables = sound.clone();
+        let limit = &LIMITS[random.below(LIMITS.len())];
+        let apply = match limit.number {
+            15.. => limit.apply,
+            _ => turn,
+        };
+        let kind = random.pick(&[2, 3, 5, 6, 7]);
+        if apply(random, &mut tables).is_some()
+            && outcome(&tables) >= 15
+            && append_query(random, &mut tables, kind).is_some()
+            && is_crossed(&tables)
+        {
+            break;
+        }
+    }
+    tables
+}
+
+/// Is the configuration that typing names another than the first that fails?
+pub fn is_crossed(tables: &Tables) -> bool {
+    let mut rows = [0; ROWS];
+    let Err(refusal) = check::check(tables, &mut rows) else {
+        return false;
+    };
+    if refusal.number < 15 {
+        return false;
+    }
+    let lists = form::check(tables).expect("typing comes after form");
+    let mut permitted = expression::permitted(tables).into_iter();
+    let first = permitted.find(|at| typing::report_at(tables, &lists, at).is_err());
+    first.is_some_and(|at| at.configuration != refusal.configuration)
+}
+
+/// Puts in several faults, of any numbers.
+pub fn several(random: &mut Random, sound: &Tables) -> Tables {
+    let mut tables = sound.clone();
+    for _ in 0..random.between(2, 5) {
+        let limit = &LIMITS[random.below(LIMITS.len())];
+        let mut tried = tables.clone();
+        // Over-long tables would hide all else too often, and a table that an
+        // earlier fault cut gives no occasion for some later ones.
+        if lengths_are_sound(&tried) && (limit.apply)(random, &mut tried).is_some() {
+            tables = tried;
+        }
+    }
+    tables
+}
+
+/// Several faults of typing only: they show which one comes first.
+pub fn several_of_typing(random: &mut Random, sound: &Tables) -> Tables {
+    let mut tables = sound.clone();
+    for _ in 0..random.between(2, 4) {
+        let mut tried = tables.clone();
+        let limit = &LIMITS[random.below(LIMITS.len())];
+        let apply = match limit.number {
+            15.. => limit.apply,
+            _ => turn,
+        };
+        if apply(random, &mut tried).is_some() && !(1..15).contains(&outcome(&tried)) {
+            tables = tried;
+        }
+    }
+    tables
+}
+
+/// The number of the refusal when checking, 0 when accepted.
+pub fn outcome(tables: &Tables) -> u64 {
+    let mut rows = [0; ROWS];
+    match check::check(tables, &mut rows) {
+        Ok(()) => 0,
+        Err(refusal) => refusal.number,
+    }
+}
+
+/// Do the tables pass check 2?
+pub fn lengths_are_sound(tables: &Tables) -> bool {
+    RANGES.iter().enumerate().all(|(table, (lowest, highest))| {
+        let whole = tables.words(table).len().is_multiple_of(WIDTHS[table]);
+        let count = tables.count(table);
+        whole && count >= *lowest && count <= *highest
+    })
+}
+
+// Small steps on tables
+
+fn put(tables: &mut Tables, table: usize, form: usize, word: usize, value: u16) -> Option<()> {
+    let index = form * WIDTHS[table] + word;
+    tables.words_mut(table)[index] = value;
+    Some(())
+}
+
+fn kind(tables: &Tables, table: usize, form: usize) -> u16 {
+    tables.words(table)[form * WIDTHS[table]]
+}
+
+fn append(tables: &mut Tables, table: usize, form: &[u16]) -> Option<usize> {
+    if tables.count(table) >= RANGES[table].1 {
+        return None;
+    }
+    tables.words_mut(table).extend(form);
+    Some(tables.count(table) - 1)
+}
+
+fn any(random: &mut Random, tables: &Tables, table: usize) -> Option<usize> {
+    let count = tables.count(table);
+    (count > 0).then(|| random.below(count))
+}
+
+/// A word that is not 0.
+fn some_word(random: &mut Random) -> u16 {
+    let small = random.between(1, 5) as u16;
+    random.pick(&[1, small, 65535])
+}
+
+/// A form of one of the kinds in table 0, 3 or 4: one that is there, or a sound
+/// one that is put at the end.
+fn form_of(random: &mut Random, tables: &mut Tables, table: usize, kinds: &[u16]) -> Option<usize> {
+    let there: Vec<usize> = (0..tables.count(table))
+        .filter(|&form| kinds.contains(&kind(tables, table, form)))
+        .collect();
+    if !there.is_empty() && random.chance(1, 2) {
+        return Some(random.pick(&there));
+    }
+    let kind = random.pick(kinds);
+    match table {
+        0 => append_expression(random, tables, kind),
+        3 => append_comparison(random, tables, kind),
+        _ => append_query(random, tables, kind),
+    }
+}
+
+fn append_expression(random: &mut Random, tables: &mut Tables, kind: u16) -> Option<usize> {
+    let a = any(random, tables, 0)? as u16;
+    let b = any(random, tables, 0)? as u16;
+    let form = match kind {
+        0 | 1 => [kind, 0, 0],
+        2 if tables.features == 0 => return None,
+        2 => [
+            kind,
+            random.below(tables.features.min(10) as usize) as u16,
+            0,
+        ],
+        3 => [kind, a, 0],
+        _ => [kind, a, b],
+    };
+    append(tables, 0, &form)
+}
+
+fn any_attribute(random: &mut Random, tables: &Tables) -> Option<u16> {
+    let attributes = tables.attributes.min(64) as usize;
+    (attributes > 0).then(|| random.below(attributes) as u16)
+}
+
+fn append_comparison(random: &mut Random, tables: &mut Tables, kind: u16) -> Option<usize> {
+    if tables.comparisons.is_empty() && kind >= 4 {
+        append(tables, 3, &[1, 0, 0, 0, 0])?;
+    }
+    let a = any(random, tables, 3).unwrap_or(0) as u16;
+    let b = any(random, tables, 3).unwrap_or(0) as u16;
+    let operator = random.below(6) as u16;
+    let form = match kind {
+        0 | 1 => [kind, 0, 0, 0, 0],
+        2 => [kind, operator, any_attribute(random, tables)?, 7, 0],
+        3 => {
+            let left = any_attribute(random, tables)?;
+            [kind, operator, left, any_attribute(random, tables)?, 0]
+        }
+        4 => [kind, 0, a, 0, 0],
+        5 | 6 => [kind, 0, a, b, 0],
+        _ => [kind, 0, any(random, tables, 0)? as u16, a, b],
+    };
+    append(tables, 3, &form)
+}
+
+/// A sound form over the report; it becomes the report. (A form without
+/// operands leaves the old report untaken: that is for faults that come
+/// before.)
+fn append_query(random: &mut Random, tables: &mut Tables, kind: u16) -> Option<usize> {
+    let mut report = any(random, tables, 4).map(|_| tables.count(4) - 1)? as u16;
+    let mut other = 0;
+    if kind >= tables::CHOICE {
+        let leaf = match any(random, tables, 2) {
+            Some(relation) if random.chance(3, 4) => [1, relation as u16, 0, 0],
+            _ => [0, 0, 0, 0],
+        };
+        other = append(tables, 4, &leaf)? as u16;
+        if random.chance(1, 2) {
+            std::mem::swap(&mut report, &mut other);
+        }
+    }
+    let form = match kind {
+        0 => [kind, 0, 0, 0],
+        1 => [kind, any(random, tables, 2)? as u16, 0, 0],
+        2 => [kind, any(random, tables, 3)? as u16, report, 0],
+        3 => [kind, append_list(random, tables)?, report, 0],
+        4 => [kind, any(random, tables, 0)? as u16, report, other],
+        _ => [kind, report, other, 0],
+    };
+    append(tables, 4, &form)
+}
+
+/// Entries at the end of table 1 for a project form at the end of table 4;
+/// gives their number.
+fn append_list(random: &mut Random, tables: &mut Tables) -> Option<u16> {
+    let attributes = tables.attributes.min(64) as usize;
+    let mut all: Vec<u16> = (0..attributes as u16).collect();
+    random.shuffle(&mut all);
+    all.truncate(random.below(attributes.min(3) + 1));
+    for &attribute in &all {
+        let expression = any(random, tables, 0)? as u16;
+        append(tables, 1, &[attribute, expression])?;
+    }
+    Some(all.len() as u16)
+}
+
+/// Where the list of a relation lies.
+fn relation_list(tables: &Tables, relation: usize) -> std::ops::Range<usize> {
+    let length = |number: usize| usize::from(tables.relation(number)[1]);
+    let start: usize = (0..relation).map(length).sum();
+    start..start + length(relation)
+}
+
+/// Where the list of a project form lies.
+fn project_list(tables: &Tables, form: usize) -> std::ops::Range<usize> {
+    let relations: usize = (0..tables.count(2))
+        .map(|number| usize::from(tables.relation(number)[1]))
+        .sum();
+    let length = |number: usize| match tables.query(number) {
+        [tables::PROJECT, a, ..] => usize::from(a),
+        _ => 0,
+    };
+    let start = relations + (0..form).map(length).sum::<usize>();
+    start..start + length(form)
+}
+
+/// Makes the last entry of a list name the attribute of an earlier one.
+fn repeat_attribute(
+    random: &mut Random,
+    tables: &mut Tables,
+    list: std::ops::Range<usize>,
+) -> Option<()> {
+    if list.len() < 2 || list.end > tables.count(1) {
+        return None;
+    }
+    let later = random.between(list.start + 1, list.end - 1);
+    let earlier = random.between(list.start, later - 1);
+    let attribute = tables.entry(earlier)[0];
+    put(tables, 1, later, 0, attribute)
+}
+
+/// Makes the last entry of a list name the attribute of the first, with others
+/// between them.
+fn repeat_at_distance(tables: &mut Tables, list: std::ops::Range<usize>) -> Option<()> {
+    if list.len() < 3 || list.end > tables.count(1) {
+        return None;
+    }
+    let attribute = tables.entry(list.start)[0];
+    put(tables, 1, list.end - 1, 0, attribute)
+}
+
+/// Sets an operand word to the form's own number, or to a higher one.
+fn not_lower(
+    random: &mut Random,
+    tables: &mut Tables,
+    table: usize,
+    kinds: &[u16],
+    word: usize,
+) -> Option<()> {
+    let form = form_of(random, tables, table, kinds)?;
+    let own = form as u16;
+    let value = random.pick(&[own, own, own, own, own + 1, 65535]);
+    put(tables, table, form, word, value)
+}
+
+/// Sets an unused word to something else than 0.
+fn unused(
+    random: &mut Random,
+    tables: &mut Tables,
+    table: usize,
+    kinds: &[u16],
+    word: usize,
+) -> Option<()> {
+    let form = form_of(random, tables, table, kinds)?;
+    let value = some_word(random);
+    put(tables, table, form, word, value)
+}
+
+/// Sets a word that refers to another table to the count of that table, or to
+/// more.
+fn not_in_table(
+    random: &mut Random,
+    tables: &mut Tables,
+    at: (usize, usize, usize),
+    other: usize,
+) -> Option<()> {
+    let (table, form, word) = at;
+    let count = tables.count(other) as u16;
+    let value = random.pick(&[count, count, count, count, count + 1, 65535]);
+    put(tables, table, form, word, value)
+}
+
+/// Sets an attribute word to m, or to more.
+fn no_attribute(random: &mut Random, tables: &mut Tables, at: (usize, usize, usize)) -> Option<()> {
+    let (table, form, word) = at;
+    let attributes = tables.attributes.min(65) as u16;
+    let value = random.pick(&[attributes, attributes, attributes, attributes + 64, 65535]);
+    put(tables, table, form, word, value)
+}
+
+/// Cuts or adds words so that the length is no multiple of the form.
+fn no_multiple(random: &mut Random, tables: &mut Tables, table: usize) -> Option<()> {
+    let odd = random.between(1, WIDTHS[table] - 1);
+    let words = tables.words_mut(table);
+    if words.len() > odd && random.chance(1, 2) {
+        words.truncate(words.len() - odd);
+    } else {
+        words.extend(vec![0; odd]);
+    }
+    Some(())
+}
+
+/// One form more than the range of the table allows.
+fn over_range(tables: &mut Tables, table: usize, form: &[u16]) -> Option<()> {
+    let words = (RANGES[table].1 + 1) * WIDTHS[table];
+    while tables.words(table).len() < words {
+        tables.words_mut(table).extend(form);
+    }
+    Some(())
+}
+
+/// A relation that is absent at some permitted configuration. None in tables
+/// that are not sound in form.
+fn partly_present(random: &mut Random, tables: &Tables) -> Option<usize> {
+    form::check(tables).ok()?;
+    let permitted = expression::permitted(tables);
+    let absent = |relation: &usize| {
+        let presence = usize::from(tables.relation(*relation)[0]);
+        permitted.iter().any(|at| !at.holds[presence])
+    };
+    let partly: Vec<usize> = (0..tables.count(2)).filter(absent).collect();
+    (!partly.is_empty()).then(|| random.pick(&partly))
+}
+
+/// Gives some entry of a relation the expression.
+fn put_in_list(
+    random: &mut Random,
+    tables: &mut Tables,
+    relation: usize,
+    expression: u16,
+) -> Option<()> {
+    let list = relation_list(tables, relation);
+    if list.is_empty() || list.end > tables.count(1) {
+        return None;
+    }
+    let entry = random.between(list.start, list.end - 1);
+    put(tables, 1, entry, 1, expression)
+}
+
+/// Puts sound comparisons behind table 3 that nothing names, up to a number: two
+/// without operands, then choices and forms over them by turns.
+pub fn more_comparisons(random: &mut Random, tables: &mut Tables, most: usize) {
+    let start = tables.count(3);
+    for number in start..most {
+        let last = number.saturating_sub(1) as u16;
+        let other = random.below(number.max(1)) as u16;
+        let expression = random.below(tables.count(0)) as u16;
+        let form = match number {
+            0 | 1 => {
+                let kind = random.below(4) as u16;
+                append_comparison(random, tables, kind);
+                continue;
+            }
+            _ if number % 2 == 0 => [7, 0, expression, last, other],
+            _ => random.pick(&[
+                [4, 0, last, 0, 0],
+                [5, 0, last, other, 0],
+                [6, 0, other, last, 0],
+            ]),
+        };
+        if usize::from(last) < tables.count(3) {
+            append(tables, 3, &form);
+        }
+    }
+}
+
+/// An expression that holds at no permitted configuration.
+fn nowhere(random: &mut Random, tables: &mut Tables) -> Option<u16> {
+    let model = tables.model as u16;
+    let form = match random.below(3) {
+        0 => [0, 0, 0],
+        1 => [3, model, 0],
+        _ => {
+            let not = append(tables, 0, &[3, model, 0])? as u16;
+            let other = any(random, tables, 0)? as u16;
+            [4, not, other]
+        }
+    };
+    append(tables, 0, &form).map(|number| number as u16)
+}
+
+/// Turns one word of sound tables into another that is sound in form: a change
+/// of meaning.
+pub fn turn(random: &mut Random, tables: &mut Tables) -> Option<()> {
+    match random.below(12) {
+        0 => {
+            let entry = any(random, tables, 1)?;
+            let expression = any(random, tables, 0)? as u16;
+            put(tables, 1, entry, 1, expression)
+        }
+        1 => {
+            let entry = any(random, tables, 1)?;
+            let attribute = any_attribute(random, tables)?;
+            put(tables, 1, entry, 0, attribute)
+        }
+        2 => {
+            let relation = any(random, tables, 2)?;
+            let expression = any(random, tables, 0)? as u16;
+            put(tables, 2, relation, 0, expression)
+        }
+        3 => turn_expression(random, tables),
+        4 => turn_comparison(random, tables),
+        5 => {
+            tables.model = any(random, tables, 0)? as u64;
+            Some(())
+        }
+        _ => turn_query(random, tables),
+    }
+}
+
+fn turn_expression(random: &mut Random, tables: &mut Tables) -> Option<()> {
+    let form = any(random, tables, 0)?;
+    let [kind, ..] = tables.expression(form);
+    match kind {
+        2 => {
+            let feature = random.below(tables.features.clamp(1, 10) as usize) as u16;
+            put(tables, 0, form, 1, feature)
+        }
+        4 | 5 => put(tables, 0, form, 0, 9 - kind),
+        3 => put(tables, 0, form, 1, random.below(form.max(1)) as u16),
+        0 | 1 => put(tables, 0, form, 0, 1 - kind),
+        _ => None,
+    }
+}
+
+fn turn_comparison(random: &mut Random, tables: &mut Tables) -> Option<()> {
+    let form = any(random, tables, 3)?;
+    let [kind, _, a, b, c] = tables.comparison(form);
+    match kind {
+        2 | 3 => {
+            let attribute = any_attribute(random, tables)?;
+            put(tables, 3, form, 2, attribute)
+        }
+        7 if random.chance(1, 2) => {
+            put(tables, 3, form, 3, c)?;
+            put(tables, 3, form, 4, b)
+        }
+        7 => {
+            let expression = any(random, tables, 0)? as u16;
+            put(tables, 3, form, 2, expression)
+        }
+        5 | 6 => put(tables, 3, form, 3, a),
+        _ => None,
+    }
+}
+
+fn turn_query(random: &mut Random, tables: &mut Tables) -> Option<()> {
+    let form = any(random, tables, 4)?;
+    let [kind, _, b, c] = tables.query(form);
+    match kind {
+        tables::RELATION => {
+            let relation = any(random, tables, 2)? as u16;
+            put(tables, 4, form, 1, relation)
+        }
+        tables::SELECT => {
+            let comparison = any(random, tables, 3)? as u16;
+            put(tables, 4, form, 1, comparison)
+        }
+        tables::CHOICE if random.chance(1, 2) => {
+            put(tables, 4, form, 2, c)?;
+            put(tables, 4, form, 3, b)
+        }
+        tables::CHOICE => {
+            let expression = any(random, tables, 0)? as u16;
+            put(tables, 4, form, 1, expression)
+        }
+        tables::PRODUCT | tables::UNION | tables::INTERSECTION => {
+            put(tables, 4, form, 0, random.pick(&[5, 6, 7]))
+        }
+        _ => None,
+    }
+}
+
+/// Every limit of every check from 1 to 10 and from 12 to 19.
+pub static LIMITS: &[Limit] = &[
+    limit(1, "11 features", |_, t| {
+        t.features = 11;
+        Some(())
+    }),
+    limit(1, "far too many features", |r, t| {
+        t.features = r.pick(&[64, 255, 65535, (1 << 32) + 2, u64::MAX]);
+        Some(())
+    }),
+    limit(1, "65 attributes", |_, t| {
+        t.attributes = 65;
+        Some(())
+    }),
+    limit(1, "far too many attributes", |r, t| {
+        t.attributes = r.pick(&[66, 256, 65535, 65536 + 3, u64::MAX]);
+        Some(())
+    }),
+    limit(1, "too many features and attributes", |_, t| {
+        t.features = 11;
+        t.attributes = 65;
+        Some(())
+    }),
+    limit(2, "table 0 no multiple", |r, t| no_multiple(r, t, 0)),
+    limit(2, "table 1 no multiple", |r, t| no_multiple(r, t, 1)),
+    limit(2, "table 2 no multiple", |r, t| no_multiple(r, t, 2)),
+    limit(2, "table 3 no multiple", |r, t| no_multiple(r, t, 3)),
+    limit(2, "table 4 no multiple", |r, t| no_multiple(r, t, 4)),
+    limit(2, "257 expressions", |_, t| over_range(t, 0, &[1, 0, 0])),
+    limit(2, "513 entries", |_, t| over_range(t, 1, &[0, 0])),
+    limit(2, "33 relations", |_, t| over_range(t, 2, &[0, 0])),
+    limit(2, "257 comparisons", |_, t| {
+        over_range(t, 3, &[1, 0, 0, 0, 0])
+    }),
+    limit(2, "257 queries", |_, t| over_range(t, 4, &[0, 0, 0, 0])),
+    limit(2, "no expressions", |_, t| {
+        t.expressions.clear();
+        Some(())
+    }),
+    limit(2, "no queries", |_, t| {
+        t.queries.clear();
+        Some(())
+    }),
+    limit(3, "unknown kind", |r, t| {
+        let form = any(r, t, 0)?;
+        let kind = r.pick(&[6, 6, 7, 256, 65535]);
+        put(t, 0, form, 0, kind)
+    }),
+    limit(3, "unused a", |r, t| unused(r, t, 0, &[0, 1], 1)),
+    limit(3, "unused b of a constant", |r, t| {
+        unused(r, t, 0, &[0, 1], 2)
+    }),
+    limit(3, "unused b of a feature", |r, t| unused(r, t, 0, &[2], 2)),
+    limit(3, "unused b of not", |r, t| unused(r, t, 0, &[3], 2)),
+    limit(3, "feature = n", |r, t| {
+        let form = form_of(r, t, 0, &[2])?;
+        let features = t.features as u16;
+        put(t, 0, form, 1, features)
+    }),
+    limit(3, "feature far over n", |r, t| {
+        let form = append(t, 0, &[2, 0, 0])?;
+        let value = r.pick(&[10, 16, 64, 65535]);
+        put(t, 0, form, 1, value)
+    }),
+    limit(3, "operand a not lower", |r, t| {
+        not_lower(r, t, 0, &[3, 4, 5], 1)
+    }),
+    limit(3, "operand b not lower", |r, t| {
+        not_lower(r, t, 0, &[4, 5], 2)
+    }),
+    limit(4, "model = count", |_, t| {
+        t.model = t.count(0) as u64;
+        Some(())
+    }),
+    limit(4, "model far over", |r, t| {
+        t.model = r.pick(&[256, 65535, 65536, 1 << 32, u64::MAX]);
+        Some(())
+    }),
+    limit(5, "attribute not below m", |r, t| {
+        let entry = any(r, t, 1)?;
+        no_attribute(r, t, (1, entry, 0))
+    }),
+    limit(5, "expression not in table 0", |r, t| {
+        let entry = any(r, t, 1)?;
+        not_in_table(r, t, (1, entry, 1), 0)
+    }),
+    limit(5, "an entry left, with attribute m", |_, t| {
+        let attributes = t.attributes as u16;
+        append(t, 1, &[attributes, 0]).map(|_| ())
+    }),
+    limit(6, "expression not in table 0", |r, t| {
+        let relation = any(r, t, 2)?;
+        not_in_table(r, t, (2, relation, 0), 0)
+    }),
+    limit(6, "list past table 1 by one", |r, t| {
+        let relation = any(r, t, 2)?;
+        let start = relation_list(t, relation).start;
+        let past = t.count(1).checked_sub(start)? + 1;
+        put(t, 2, relation, 1, past as u16)
+    }),
+    limit(
+        6,
+        "table 1 cut by one inside the last relation's list",
+        |_, t| {
+            let last = t.count(2).checked_sub(1)?;
+            let end = relation_list(t, last).end;
+            t.entries.truncate((2 * end).checked_sub(2)?);
+            Some(())
+        },
+    ),
+    limit(6, "list far past table 1", |r, t| {
+        let relation = any(r, t, 2)?;
+        let value = r.pick(&[513, 32768, 65535]);
+        put(t, 2, relation, 1, value)
+    }),
+    limit(6, "attribute twice", |r, t| {
+        let relation = any(r, t, 2)?;
+        let list = relation_list(t, relation);
+        repeat_attribute(r, t, list)
+    }),
+    limit(6, "attribute twice at a distance", |r, t| {
+        let relation = any(r, t, 2)?;
+        let list = relation_list(t, relation);
+        repeat_at_distance(t, list)
+    }),
+    limit(7, "unknown kind", |r, t| {
+        let form = form_of(r, t, 3, &[0, 1, 2, 3, 4, 5, 6, 7])?;
+        let kind = r.pick(&[8, 8, 8, 9, 256, 65535]);
+        put(t, 3, form, 0, kind)
+    }),
+    limit(7, "operator where none is used", |r, t| {
+        unused(r, t, 3, &[0, 1, 4, 5, 6, 7], 1)
+    }),
+    limit(7, "operator over 5", |r, t| {
+        let form = form_of(r, t, 3, &[2, 3])?;
+        let operator = r.pick(&[6, 6, 6, 7, 65535]);
+        put(t, 3, form, 1, operator)
+    }),
+    limit(7, "unused a", |r, t| unused(r, t, 3, &[0, 1], 2)),
+    limit(7, "unused b of a constant", |r, t| {
+        unused(r, t, 3, &[0, 1], 3)
+    }),
+    limit(7, "unused b of not", |r, t| unused(r, t, 3, &[4], 3)),
+    limit(7, "unused c of a constant", |r, t| {
+        unused(r, t, 3, &[0, 1], 4)
+    }),
+    limit(7, "unused c of one attribute", |r, t| {
+        unused(r, t, 3, &[2], 4)
+    }),
+    limit(7, "unused c of two attributes", |r, t| {
+        unused(r, t, 3, &[3], 4)
+    }),
+    limit(7, "unused c of not", |r, t| unused(r, t, 3, &[4], 4)),
+    limit(7, "unused c of and, or", |r, t| unused(r, t, 3, &[5, 6], 4)),
+    limit(7, "operand a not lower", |r, t| {
+        not_lower(r, t, 3, &[4, 5, 6], 2)
+    }),
+    limit(7, "operand b of and, or not lower", |r, t| {
+        not_lower(r, t, 3, &[5, 6], 3)
+    }),
+    limit(7, "operand b of a choice not lower", |r, t| {
+        not_lower(r, t, 3, &[7], 3)
+    }),
+    limit(7, "operand c not lower", |r, t| not_lower(r, t, 3, &[7], 4)),
+    limit(7, "attribute a not below m", |r, t| {
+        let form = form_of(r, t, 3, &[2, 3])?;
+        no_attribute(r, t, (3, form, 2))
+    }),
+    limit(7, "attribute b not below m", |r, t| {
+        let form = form_of(r, t, 3, &[3])?;
+        no_attribute(r, t, (3, form, 3))
+    }),
+    limit(7, "expression not in table 0", |r, t| {
+        let form = form_of(r, t, 3, &[7])?;
+        not_in_table(r, t, (3, form, 2), 0)
+    }),
+    limit(8, "unknown kind", |r, t| {
+        let form = any(r, t, 4)?;
+        let kind = r.pick(&[8, 8, 8, 9, 256, 65535]);
+        put(t, 4, form, 0, kind)
+    }),
+    limit(8, "unused a", |r, t| unused(r, t, 4, &[0], 1)),
+    limit(8, "unused b of empty", |r, t| unused(r, t, 4, &[0], 2)),
+    limit(8, "unused b of a relation", |r, t| unused(r, t, 4, &[1], 2)),
+    limit(8, "unused c of empty", |r, t| unused(r, t, 4, &[0], 3)),
+    limit(8, "unused c of a relation", |r, t| unused(r, t, 4, &[1], 3)),
+    limit(8, "unused c of a select", |r, t| unused(r, t, 4, &[2], 3)),
+    limit(8, "unused c of a project", |r, t| unused(r, t, 4, &[3], 3)),
+    limit(8, "unused c of a product", |r, t| unused(r, t, 4, &[5], 3)),
+    limit(8, "unused c of a union", |r, t| unused(r, t, 4, &[6], 3)),
+    limit(8, "unused c of an intersection", |r, t| {
+        unused(r, t, 4, &[7], 3)
+    }),
+    limit(8, "operand a not lower", |r, t| {
+        not_lower(r, t, 4, &[5, 6, 7], 1)
+    }),
+    limit(8, "operand of a select not lower", |r, t| {
+        not_lower(r, t, 4, &[2], 2)
+    }),
+    limit(8, "operand of a project not lower", |r, t| {
+        not_lower(r, t, 4, &[3], 2)
+    }),
+    limit(8, "operand b of a choice not lower", |r, t| {
+        not_lower(r, t, 4, &[4], 2)
+    }),
+    limit(8, "operand b not lower", |r, t| {
+        not_lower(r, t, 4, &[5, 6, 7], 2)
+    }),
+    limit(8, "operand c not lower", |r, t| not_lower(r, t, 4, &[4], 3)),
+    limit(8, "relation not in table 2", |r, t| {
+        let form = form_of(r, t, 4, &[1])?;
+        not_in_table(r, t, (4, form, 1), 2)
+    }),
+    limit(8, "comparison not in table 3", |r, t| {
+        if t.count(3) == 0 {
+            let report = (t.count(4) - 1) as u16;
+            return append(t, 4, &[2, 0, report, 0]).map(|_| ());
+        }
+        let form = form_of(r, t, 4, &[2])?;
+        not_in_table(r, t, (4, form, 1), 3)
+    }),
+    limit(8, "expression not in table 0", |r, t| {
+        let form = form_of(r, t, 4, &[4])?;
+        not_in_table(r, t, (4, form, 1), 0)
+    }),
+    limit(8, "list past table 1 by one", |r, t| {
+        let form = form_of(r, t, 4, &[3])?;
+        let start = project_list(t, form).start;
+        let past = t.count(1).checked_sub(start)? + 1;
+        put(t, 4, form, 1, past as u16)
+    }),
+    limit(8, "a list of one entry after the last entry", |_, t| {
+        let report = (t.count(4) - 1) as u16;
+        append(t, 4, &[3, 1, report, 0]).map(|_| ())
+    }),
+    limit(
+        8,
+        "table 1 cut by one inside the last project's list",
+        |_, t| {
+            let last = (0..t.count(4)).rev().find(|&f| t.query(f)[0] == 3)?;
+            if project_list(t, last).is_empty() {
+                return None;
+            }
+            t.entries.truncate(t.entries.len().checked_sub(2)?);
+            Some(())
+        },
+    ),
+    limit(8, "list far past table 1", |r, t| {
+        let form = form_of(r, t, 4, &[3])?;
+        let value = r.pick(&[513, 32768, 65535]);
+        put(t, 4, form, 1, value)
+    }),
+    limit(8, "attribute twice", |r, t| {
+        let form = form_of(r, t, 4, &[3])?;
+        let list = project_list(t, form);
+        repeat_attribute(r, t, list)
+    }),
+    limit(8, "attribute twice at a distance", |r, t| {
+        let form = form_of(r, t, 4, &[3])?;
+        let list = project_list(t, form);
+        repeat_at_distance(t, list)
+    }),
+    limit(8, "attribute twice, with a report of its own", |r, t| {
+        let report = (t.count(4) - 1) as u16;
+        let twice = any_attribute(r, t)?;
+        let between = any_attribute(r, t)?;
+        for attribute in [twice, between, twice] {
+            append(t, 1, &[attribute, 0])?;
+        }
+        append(t, 4, &[3, 3, report, 0]).map(|_| ())
+    }),
+    limit(8, "operand taken twice in one form", |r, t| {
+        let form = form_of(r, t, 4, &[4, 5, 6, 7])?;
+        let [kind, a, b, _] = t.query(form);
+        match kind {
+            4 => put(t, 4, form, 3, b),
+            _ => put(t, 4, form, 2, a),
+        }
+    }),
+    limit(8, "operand taken by a lower form too", |r, t| {
+        let report = t.count(4) - 1;
+        let taken = r.below(report.max(1)) as u16;
+        let form = form_of(r, t, 4, &[2, 3, 4])?;
+        if form <= usize::from(taken) {
+            return None;
+        }
+        put(t, 4, form, 2, taken)
+    }),
+    limit(9, "a form with operands made empty", |r, t| {
+        let form = form_of(r, t, 4, &[2, 4, 5, 6, 7])?;
+        (0..4).try_for_each(|word| put(t, 4, form, word, 0))
+    }),
+    limit(9, "a form put behind the report", |r, t| {
+        let kind = r.below(2) as u16;
+        append_query(r, t, kind).map(|_| ())
+    }),
+    limit(9, "a form with two operands made a select", |r, t| {
+        let form = form_of(r, t, 4, &[4, 5, 6, 7])?;
+        let comparison = any(r, t, 3)? as u16;
+        let [kind, a, b, _] = t.query(form);
+        let operand = if kind == 4 { b } else { a };
+        put(t, 4, form, 0, 2)?;
+        put(t, 4, form, 1, comparison)?;
+        put(t, 4, form, 2, operand)?;
+        put(t, 4, form, 3, 0)
+    }),
+    limit(10, "one entry more", |r, t| {
+        let attribute = any_attribute(r, t)?;
+        append(t, 1, &[attribute, 0]).map(|_| ())
+    }),
+    limit(10, "several entries more", |r, t| {
+        for _ in 0..r.between(2, 4) {
+            let attribute = any_attribute(r, t)?;
+            append(t, 1, &[attribute, 0])?;
+        }
+        Some(())
+    }),
+    limit(10, "a project's list shorter by one", |r, t| {
+        let form = form_of(r, t, 4, &[3])?;
+        let length = t.query(form)[1].checked_sub(1)?;
+        put(t, 4, form, 1, length)
+    }),
+    limit(10, "a relation's list shorter by one", |r, t| {
+        let relation = any(r, t, 2)?;
+        let length = t.relation(relation)[1].checked_sub(1)?;
+        put(t, 2, relation, 1, length)
+    }),
+    limit(12, "model false", |_, t| {
+        t.model = append(t, 0, &[0, 0, 0])? as u64;
+        Some(())
+    }),
+    limit(12, "model x and not x", |r, t| {
+        let x = any(r, t, 0)? as u16;
+        let not = append(t, 0, &[3, x, 0])? as u16;
+        t.model = append(t, 0, &[4, x, not])? as u64;
+        Some(())
+    }),
+    limit(12, "a form made false", |r, t| {
+        let last = t.count(0) - 1;
+        let form = r.below(last.min(t.model as usize) + 1);
+        put(t, 0, form, 0, 0)?;
+        put(t, 0, form, 1, 0)?;
+        put(t, 0, form, 2, 0)
+    }),
+    limit(13, "relation present nowhere", |r, t| {
+        let relation = any(r, t, 2)?;
+        let expression = nowhere(r, t)?;
+        put(t, 2, relation, 0, expression)
+    }),
+    limit(
+        13,
+        "and an entry of a later relation holds nowhere",
+        |r, t| {
+            let relation = any(r, t, 2)?;
+            let later = any(r, t, 2)?;
+            let expression = nowhere(r, t)?;
+            put_in_list(r, t, later, expression)?;
+            put(t, 2, relation, 0, expression)
+        },
+    ),
+    limit(13, "a relation more, present nowhere", |r, t| {
+        let expression = nowhere(r, t)?;
+        append(t, 2, &[expression, 0]).map(|_| ())
+    }),
+    limit(
+        13,
+        "a model that holds only where a relation is absent",
+        |r, t| {
+            let relation = any(r, t, 2)?;
+            let presence = t.relation(relation)[0];
+            t.model = append(t, 0, &[3, presence, 0])? as u64;
+            Some(())
+        },
+    ),
+    limit(
+        14,
+        "entry holds only where its relation is absent",
+        |r, t| {
+            let relation = partly_present(r, t)?;
+            let presence = t.relation(relation)[0];
+            let not = append(t, 0, &[3, presence, 0])? as u16;
+            put_in_list(r, t, relation, not)
+        },
+    ),
+    limit(14, "and a later relation present nowhere", |r, t| {
+        let relation = any(r, t, 2)?;
+        let expression = nowhere(r, t)?;
+        put_in_list(r, t, relation, expression)?;
+        append(t, 2, &[expression, 0]).map(|_| ())
+    }),
+    limit(14, "two entries of a relation", |r, t| {
+        let relation = any(r, t, 2)?;
+        let expression = nowhere(r, t)?;
+        put_in_list(r, t, relation, expression)?;
+        put_in_list(r, t, relation, expression)
+    }),
+    limit(14, "entry holds at no permitted configuration", |r, t| {
+        let relation = any(r, t, 2)?;
+        let expression = nowhere(r, t)?;
+        put_in_list(r, t, relation, expression)
+    }),
+    limit(14, "a word turned", turn),
+    limit(15, "a relation without its guard", |r, t| {
+        let report = (t.count(4) - 1) as u16;
+        let relation = partly_present(r, t)? as u16;
+        let leaf = append(t, 4, &[1, relation, 0, 0])? as u16;
+        let none = append(t, 4, &[3, 0, leaf, 0])? as u16;
+        append(t, 4, &[5, none, report, 0]).map(|_| ())
+    }),
+    limit(15, "a word turned", turn),
+    limit(16, "a select over the report", |r, t| {
+        let kind = r.below(8) as u16;
+        append_comparison(r, t, kind);
+        append_query(r, t, 2).map(|_| ())
+    }),
+    limit(16, "a select by a comparison of two", |r, t| {
+        while t.count(3) < 2 {
+            append_comparison(r, t, 2)?;
+        }
+        let kind = r.between(4, 7) as u16;
+        let comparison = append_comparison(r, t, kind)? as u16;
+        let form = append_query(r, t, 2)?;
+        put(t, 4, form, 1, comparison)
+    }),
+    limit(16, "a word turned", turn),
+    limit(17, "a project over the report", |r, t| {
+        append_query(r, t, 3).map(|_| ())
+    }),
+    limit(17, "a word turned", turn),
+    limit(18, "a product over the report", |r, t| {
+        append_query(r, t, 5).map(|_| ())
+    }),
+    limit(18, "a word turned", turn),
+    limit(19, "a union or intersection over the report", |r, t| {
+        let kind = r.pick(&[6, 7]);
+        append_query(r, t, kind).map(|_| ())
+    }),
+    limit(19, "a word turned", turn),
+];

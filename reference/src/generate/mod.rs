@@ -1,0 +1,229 @@
+//! Random cases for comparing two implementations. A seed gives a case, the
+//! same everywhere.
+
+mod build;
+mod damage;
+mod fault;
+
+pub use build::Size;
+pub use damage::{damage, lengthened};
+pub use fault::{is_crossed, lengths_are_sound, more_comparisons, outcome, Limit, LIMITS};
+
+use crate::random::Random;
+use crate::tables::Tables;
+
+/// The families of cases.
+#[derive(Clone, Copy, Debug, PartialEq, Eq)]
+pub enum Family {
+    /// Accepted, with real variation.
+    Accepted,
+    /// One fault, aimed at one limit of one check.
+    Fault,
+    /// Several faults at once.
+    Several,
+    /// All tables full; accepted or with a fault.
+    Full,
+    /// Small tables, accepted or with a fault.
+    Small,
+}
+
+/// The family of a name.
+pub fn family_of(name: &str) -> Option<Family> {
+    match name {
+        "accepted" => Some(Family::Accepted),
+        "fault" => Some(Family::Fault),
+        "several" => Some(Family::Several),
+        "full" => Some(Family::Full),
+        "small" => Some(Family::Small),
+        _ => None,
+    }
+}
+
+/// A case of a family chosen by the seed.
+pub fn case(seed: u64) -> Tables {
+    let family = match Random::new(!seed).below(100) {
+        0..=56 => Family::Accepted,
+        57..=82 => Family::Fault,
+        83..=88 => Family::Several,
+        89..=91 => Family::Full,
+        _ => Family::Small,
+    };
+    of_family(family, seed)
+}
+
+/// A case of the given family.
+pub fn of_family(family: Family, seed: u64) -> Tables {
+    match family {
+        Family::Accepted => accepted(seed),
+        Family::Fault => fault(seed),
+        Family::Several => several(seed),
+        Family::Full => full(seed),
+        Family::Small => small(seed),
+    }
+}
+
+/// Tables that are accepted, with real variation.
+pub fn accepted(seed: u64) -> Tables {
+    let mut random = Random::new(seed);
+    let size = any_size(&mut random);
+    build::accepted(&mut random, size)
+}
+
+/// Tables with one fault of some number from 1 to 10 or 12 to 19.
+pub fn fault(seed: u64) -> Tables {
+    let mut random = Random::new(seed);
+    let size = any_size(&mut random);
+    let sound = build::accepted(&mut random, size);
+    let number = any_number(&mut random);
+    fault::aimed(&mut random, &sound, number)
+}
+
+/// Tables with several faults.
+pub fn several(seed: u64) -> Tables {
+    let mut random = Random::new(seed);
+    let size = any_size(&mut random);
+    let sound = build::accepted(&mut random, size);
+    match random.below(3) {
+        0 => fault::several(&mut random, &sound),
+        1 => fault::several_of_typing(&mut random, &sound),
+        _ => fault::crossed(&mut random, &sound),
+    }
+}
+
+/// Tables of full size, accepted or with a fault.
+pub fn full(seed: u64) -> Tables {
+    let mut random = Random::new(seed);
+    let size = Size {
+        features: 10,
+        attributes: 64,
+        expressions: 256,
+        entries: 512,
+        relations: 32,
+        comparisons: 256,
+        queries: 256,
+        full: true,
+    };
+    let sound = build::accepted(&mut random, size);
+    match random.below(4) {
+        0 => {
+            let number = any_number(&mut random);
+            fault::aimed(&mut random, &sound, number)
+        }
+        1 => fault::several_of_typing(&mut random, &sound),
+        _ => sound,
+    }
+}
+
+/// Small tables, accepted or refused.
+pub fn small(seed: u64) -> Tables {
+    let mut random = Random::new(seed);
+    match random.chance(1, 2) {
+        true => small_accepted(&mut random),
+        false => {
+            let number = any_number(&mut random);
+            small_refused(&mut random, number)
+        }
+    }
+}
+
+/// Small tables that are accepted.
+pub fn small_accepted(random: &mut Random) -> Tables {
+    let size = small_size(random, 0);
+    build::accepted(random, size)
+}
+
+/// Small tables that are refused by the given number (of 1 to 10, 12 to 19), as
+/// far as some tries give it.
+pub fn small_refused(random: &mut Random, number: u64) -> Tables {
+    let mut tables = Tables::default();
+    for _ in 0..50 {
+        let mut size = small_size(random, 2);
+        let way = random.below(8);
+        if way < 4 {
+            // More than one fault is to come on top.
+            size.queries = 3;
+            size.comparisons = 1;
+        }
+        let sound = build::accepted(random, size);
+        tables = match way {
+            0 => fault::several(random, &sound),
+            1..=3 if number >= 15 => fault::crossed(random, &sound),
+            _ => fault::aimed(random, &sound, number),
+        };
+        if is_small(&tables) && outcome(&tables) == number {
+            break;
+        }
+    }
+    tables
+}
+
+/// Small tables that break the given limit, as far as some tries give it.
+pub fn small_limit(random: &mut Random, limit: &Limit) -> Tables {
+    for _ in 0..80 {
+        let size = small_size(random, 2);
+        let mut tables = build::accepted(random, size);
+        if (limit.apply)(random, &mut tables).is_some()
+            && is_small(&tables)
+            && outcome(&tables) == limit.number
+        {
+            return tables;
+        }
+    }
+    small_refused(random, limit.number)
+}
+
+/// The bounds of a small case. Heads may be over, when 1 or 4 is the matter.
+pub fn is_small(tables: &Tables) -> bool {
+    let most = [6, 8, 3, 4, 7];
+    let few = |table: usize| tables.count(table) <= most[table];
+    let configurations = tables.features <= 3 || tables.features > 10;
+    let attributes = tables.attributes <= 4 || tables.attributes > 64;
+    configurations && attributes && (0..5).all(few)
+}
+
+/// A size in the bounds of a small case, with room left for a fault.
+fn small_size(random: &mut Random, room: usize) -> Size {
+    Size {
+        features: random.pick(&[0, 1, 1, 2, 2, 2, 2, 3, 3]),
+        attributes: random.pick(&[0, 1, 2, 2, 3, 3, 3, 4, 4]),
+        expressions: 6 - room.min(random.below(3)),
+        entries: 8 - room.min(random.below(4)),
+        relations: 3 - room.min(random.below(2)),
+        comparisons: 4 - room,
+        queries: 7 - room - room.min(random.below(3)),
+        full: false,
+    }
+}
+
+/// Any number of refusal that tables alone can have; those of many limits come
+/// more often.
+fn any_number(random: &mut Random) -> u64 {
+    if random.chance(1, 2) {
+        return LIMITS[random.below(LIMITS.len())].number;
+    }
+    let number = random.between(1, 18) as u64;
+    match number {
+        11.. => number + 1,
+        _ => number,
+    }
+}
+
+/// Any size but the full one.
+fn any_size(random: &mut Random) -> Size {
+    let features = random.pick(&[0, 1, 1, 2, 2, 2, 3, 3, 3, 4, 4, 5, 5, 6, 6, 7, 7, 8, 9, 10]);
+    let some = random.between(3, 9);
+    let many = random.between(10, 40);
+    let attributes = random.pick(&[0, 1, 2, 3, 4, some, some, some, some, some, many, many, 64]);
+    let large = random.chance(1, 4);
+    let most = |small: usize, large_one: usize| if large { large_one } else { small };
+    Size {
+        features,
+        attributes,
+        expressions: random.between(features + 1, most(24, 120)),
+        entries: random.between(4, most(60, 400)),
+        relations: random.between(0, most(6, 32)),
+        comparisons: random.between(0, most(14, 100)),
+        queries: random.between(2, most(30, 180)),
+        full: false,
+    }
+}

@@ -1,0 +1,28 @@
+//! The answer of a call that cannot accept what it was given.
+
+/// Document 01: "A refusal returns number, place, item, configuration".
+/// Fields that the table of refusals does not name are 0.
+#[derive(Clone, Copy, Debug, PartialEq, Eq, Hash, PartialOrd, Ord)]
+pub struct Refusal {
+    pub number: u64,
+    pub place: u64,
+    pub item: u64,
+    pub configuration: u64,
+}
+
+impl Refusal {
+    /// A refusal of which all four fields are given.
+    pub fn new(number: u64, place: u64, item: u64, configuration: u64) -> Refusal {
+        Refusal {
+            number,
+            place,
+            item,
+            configuration,
+        }
+    }
+
+    /// A refusal that names a place only.
+    pub fn at(number: u64, place: usize) -> Refusal {
+        Refusal::new(number, place as u64, 0, 0)
+    }
+}

@@ -1,0 +1,236 @@
+//! Small cases with their calls and answers, in a plain format of lines that
+//! another tool can turn into statements.
+
+use crate::check::{self, ROWS};
+use crate::configure;
+use crate::file;
+use crate::generate::{self, LIMITS};
+use crate::random::Random;
+use crate::refusal::Refusal;
+use crate::tables::Tables;
+
+/// One small case: a call with all that it is given.
+#[derive(Clone, Debug)]
+pub enum Case {
+    /// Checking, with so many words of rows lent.
+    Check { tables: Tables, room: usize },
+    /// Configuring at a configuration, with so many words lent for each of
+    /// tables 1 to 4.
+    Configure {
+        tables: Tables,
+        c: u64,
+        room: [usize; 4],
+    },
+    /// The program, given a text.
+    Text(Vec<u8>),
+}
+
+/// H1 of document 01.
+pub const H1: &str = "(head 2 3 0)
+(expression 1 0 0)
+(expression 2 0 0)
+(expression 2 1 0)
+(entry 0 0)
+(entry 1 0)
+(entry 2 2)
+(entry 0 0)
+(entry 2 2)
+(relation 0 3)
+(query 1 0 0 0)
+(query 3 2 0 0)
+";
+
+/// Numbers that few limits, or none, give: the more they lack, the more often
+/// they stand here.
+const REFUSALS: [u64; 24] = [
+    4, 9, 10, 11, 11, 11, 12, 13, 14, 15, 15, 15, 16, 17, 17, 17, 17, 18, 18, 18, 18, 19, 19, 19,
+];
+
+/// The small case of a seed.
+pub fn case(seed: u64) -> Case {
+    let mut random = Random::new(seed ^ 0x0073_6D61_6C6C);
+    match random.below(100) {
+        0..=34 => accepted_check(&mut random),
+        35..=58 => {
+            // Neighbouring seeds go through all limits.
+            let limit = &LIMITS[(seed % LIMITS.len() as u64) as usize];
+            let tables = generate::small_limit(&mut random, limit);
+            refused_check(&mut random, tables, limit.number)
+        }
+        59..=69 => {
+            let number = random.pick(&REFUSALS);
+            let tables = match number {
+                11 => generate::small_accepted(&mut random),
+                _ => generate::small_refused(&mut random, number),
+            };
+            refused_check(&mut random, tables, number)
+        }
+        70..=89 => configuring(&mut random),
+        _ => text(&mut random),
+    }
+}
+
+fn accepted_check(random: &mut Random) -> Case {
+    // Cases of one configuration are taken now and then only.
+    let mut tables = generate::small_accepted(random);
+    for _ in 0..6 {
+        if tables.features > 0 && tables.attributes > 0 && tables.count(4) > 1 {
+            break;
+        }
+        if random.chance(1, 5) {
+            break;
+        }
+        tables = generate::small_accepted(random);
+    }
+    Case::Check { tables, room: ROWS }
+}
+
+/// Tables that are refused by the number, with rows to fit: those of another
+/// length are refused before 12.
+fn refused_check(random: &mut Random, tables: Tables, number: u64) -> Case {
+    let room = match number {
+        11 => random.pick(&[0, 1023, 1025]),
+        12.. => ROWS,
+        _ => random.pick(&[ROWS, ROWS, ROWS, ROWS, ROWS, 0, 1023, 1025]),
+    };
+    Case::Check { tables, room }
+}
+
+fn configuring(random: &mut Random) -> Case {
+    let kind = random.below(10);
+    let mut tables = match kind {
+        0 => {
+            let number = random.pick(&[1, 2, 3, 4, 5, 6, 7, 8, 9, 10, 12, 13, 14]);
+            generate::small_refused(random, number)
+        }
+        1 => {
+            let number = random.between(15, 19) as u64;
+            generate::small_refused(random, number)
+        }
+        _ => generate::small_accepted(random),
+    };
+    if kind > 1 && random.chance(2, 3) {
+        // Configuring writes all comparisons, also those that nothing names.
+        generate::more_comparisons(random, &mut tables, 4);
+    }
+    let count = 1u64 << tables.features.min(3);
+    let inside = random.word() % count;
+    let c = match kind {
+        2 => random.pick(&[count, count + 1, 1024, 1 << 16, 1 << 32, 1 << 63, u64::MAX]),
+        _ => inside,
+    };
+    let mut room = [1, 2, 3, 4].map(|table| tables.words(table).len());
+    match kind {
+        4 | 5 => {
+            let table = random.below(4);
+            room[table] = match random.chance(2, 3) {
+                true => room[table].saturating_sub(1),
+                false => 0,
+            };
+        }
+        6 => room = room.map(|words| words + random.below(4)),
+        0..=2 => room = room.map(|words| words.saturating_sub(random.below(2))),
+        _ => {}
+    }
+    Case::Configure { tables, c, room }
+}
+
+/// A short harbour file, sound or damaged, whose print is short too.
+fn text(random: &mut Random) -> Case {
+    loop {
+        let mut text = match random.below(4) {
+            0 => H1.as_bytes().to_vec(),
+            1 => {
+                let number = random.pick(&[1, 2, 3, 4, 5, 6, 7, 8, 9, 10, 12, 13, 14, 15, 17, 19]);
+                file::write_file(&generate::small_refused(random, number))
+            }
+            _ => file::write_file(&generate::small_accepted(random)),
+        };
+        if random.chance(11, 20) {
+            text = generate::damage(random.word(), &text);
+        }
+        if text.len() <= 320 && file::print_file(&text).len() <= 320 {
+            return Case::Text(text);
+        }
+    }
+}
+
+/// What the case gives, as its line without the word `gives`.
+pub fn answer(case: &Case) -> String {
+    match case {
+        Case::Check { tables, room } => {
+            let mut rows = vec![0x5555_AAAA; *room];
+            match check::check(tables, &mut rows) {
+                Ok(()) => rows_line(&rows),
+                Err(refusal) => refused_line(refusal),
+            }
+        }
+        Case::Configure { tables, c, room } => {
+            let mut out = room.map(|words| vec![0x5A5A; words]);
+            let [e, r, q, s] = &mut out;
+            match configure::configure(tables, *c, [e, r, q, s]) {
+                Ok(counts) => written_line(&out, counts),
+                Err(refusal) => refused_line(refusal),
+            }
+        }
+        Case::Text(text) => format!("print{}", spaced(&file::print_file(text))),
+    }
+}
+
+fn refused_line(refusal: Refusal) -> String {
+    let Refusal {
+        number,
+        place,
+        item,
+        configuration,
+    } = refusal;
+    format!("refused {number} {place} {item} {configuration}")
+}
+
+fn rows_line(rows: &[u64]) -> String {
+    let words = rows.iter().enumerate().filter(|(_, &word)| word != 0);
+    let words: String = words.map(|(i, word)| format!(" {i}:{word}")).collect();
+    format!("rows{words}")
+}
+
+fn written_line(out: &[Vec<u16>; 4], counts: [usize; 4]) -> String {
+    let mut line = String::from("written");
+    for (index, letter) in ["E", "R", "C", "Q"].into_iter().enumerate() {
+        let count = counts[index];
+        let words = count * crate::tables::WIDTHS[index + 1];
+        line += &format!(" {letter} {count}{}", spaced(&out[index][..words]));
+    }
+    line
+}
+
+/// Numbers, each after a space.
+fn spaced<T: std::fmt::Display>(numbers: &[T]) -> String {
+    numbers.iter().map(|number| format!(" {number}")).collect()
+}
+
+/// The lines of a case, its answer among them.
+pub fn lines(number: u64, case: &Case) -> String {
+    let given = match case {
+        Case::Check { tables, room } => format!("{}call check {room}\n", tables_lines(tables)),
+        Case::Configure { tables, c, room } => {
+            let tables = tables_lines(tables);
+            format!("{tables}call configure {c}{}\n", spaced(room))
+        }
+        Case::Text(text) => format!("text{}\n", spaced(text)),
+    };
+    format!("case {number}\n{given}gives {}\nend\n", answer(case))
+}
+
+fn tables_lines(tables: &Tables) -> String {
+    let Tables {
+        features,
+        attributes,
+        model,
+        ..
+    } = tables;
+    let mut lines = format!("head {features} {attributes} {model}\n");
+    for table in 0..5 {
+        lines += &format!("t{table}{}\n", spaced(tables.words(table)));
+    }
+    lines
+}

@@ -1,0 +1,64 @@
+//! Steps that several tests share.
+#![allow(dead_code)]
+
+use reference::check::ROWS;
+use reference::file::read_file;
+use reference::small::H1;
+use reference::{check, configure, Refusal, Tables};
+
+/// A word that no answer holds by chance.
+pub const LENT_ROW: u64 = 0xA5A5_5A5A_0FF0_1234;
+pub const LENT_WORD: u16 = 0xBEEF;
+
+/// The tables of H1, read from its text.
+pub fn h1() -> Tables {
+    read_file(H1.as_bytes()).expect("H1 is sound")
+}
+
+/// H1 without its last two entries, with other queries (H5 to H7).
+pub fn h1_without_list(queries: &[u16]) -> Tables {
+    let mut tables = h1();
+    tables.entries.truncate(6);
+    tables.queries = queries.to_vec();
+    tables
+}
+
+/// Checks with rows of full length; a refused call must leave them.
+pub fn checked(tables: &Tables) -> Result<Vec<u64>, Refusal> {
+    checked_with(tables, ROWS)
+}
+
+/// Checks with rows of any length; a refused call must leave them.
+pub fn checked_with(tables: &Tables, room: usize) -> Result<Vec<u64>, Refusal> {
+    let mut rows = vec![LENT_ROW; room];
+    let answer = check(tables, &mut rows);
+    if answer.is_err() {
+        assert!(rows.iter().all(|&word| word == LENT_ROW));
+    }
+    answer.map(|()| rows)
+}
+
+/// Configures with the given room; a refused call must leave all words. The
+/// answer is the counts and the lent tables.
+pub fn configured_with(
+    tables: &Tables,
+    c: u64,
+    room: [usize; 4],
+) -> Result<([usize; 4], [Vec<u16>; 4]), Refusal> {
+    let mut out = room.map(|words| vec![LENT_WORD; words]);
+    let [entries, relations, comparisons, queries] = &mut out;
+    let answer = configure(tables, c, [entries, relations, comparisons, queries]);
+    if answer.is_err() {
+        assert!(out.iter().flatten().all(|&word| word == LENT_WORD));
+    }
+    answer.map(|counts| (counts, out))
+}
+
+/// The words of tables 1 to 4.
+pub fn source_room(tables: &Tables) -> [usize; 4] {
+    [1, 2, 3, 4].map(|table| tables.words(table).len())
+}
+
+pub fn refused(number: u64, place: u64, item: u64, configuration: u64) -> Refusal {
+    Refusal::new(number, place, item, configuration)
+}

@@ -1,0 +1,228 @@
+//! What the generator covers.
+
+mod common;
+
+use std::collections::{BTreeMap, BTreeSet};
+
+use common::checked;
+use reference::check::shown;
+use reference::generate::{self, is_crossed, is_small, outcome, LIMITS};
+use reference::random::Random;
+use reference::small::{self, Case};
+use reference::tables::{operands, RANGES};
+use reference::{expression, Tables};
+
+/// Accepted, with more than one permitted configuration and column set.
+fn varies(tables: &Tables) -> bool {
+    let Ok(rows) = checked(tables) else {
+        return false;
+    };
+    let permitted = expression::permitted(tables);
+    let sets = permitted.iter().map(|at| shown(&rows, at.configuration));
+    sets.collect::<BTreeSet<u64>>().len() > 1
+}
+
+#[test]
+fn four_in_ten_cases_are_accepted_with_variation() {
+    let count = 3000;
+    let varied = (0..count).filter(|&seed| varies(&generate::case(seed)));
+    let varied = varied.count() as u64;
+    println!("{varied} of {count}");
+    assert!(varied * 10 >= count * 4);
+}
+
+#[test]
+fn every_case_built_to_be_accepted_is() {
+    for seed in 0..2000 {
+        assert_eq!(outcome(&generate::accepted(seed)), 0, "seed {seed}");
+    }
+}
+
+#[test]
+fn every_number_comes_up() {
+    let numbers: BTreeSet<u64> = (0..3000)
+        .map(|seed| outcome(&generate::case(seed)))
+        .collect();
+    let wanted = (0..=19).filter(|&number| number != 11);
+    assert_eq!(numbers, wanted.collect());
+}
+
+/// Each limit gives the number that it aims at, in some of its tries.
+#[test]
+fn every_limit_is_hit() {
+    let mut random = Random::new(3);
+    for limit in LIMITS {
+        let mut hits = 0;
+        for seed in 0..400 {
+            let mut tables = match seed % 2 {
+                0 => generate::accepted(seed),
+                _ => generate::small_accepted(&mut random),
+            };
+            let applied = (limit.apply)(&mut random, &mut tables);
+            hits += u64::from(applied.is_some() && outcome(&tables) == limit.number);
+            if hits > 0 {
+                break;
+            }
+        }
+        assert!(hits > 0, "{} {}", limit.number, limit.words);
+    }
+}
+
+#[test]
+fn kinds_sizes_and_orders_vary() {
+    let mut features = BTreeSet::new();
+    let mut attributes = BTreeSet::new();
+    let mut kinds = BTreeSet::new();
+    let (mut shared, mut disordered, mut nowhere, mut guarded) = (0, 0, 0, 0);
+    for seed in 0..1500 {
+        let tables = generate::accepted(seed);
+        features.insert(tables.features);
+        attributes.insert(tables.attributes);
+        kinds.extend((0..tables.count(0)).map(|f| (0, tables.expression(f)[0])));
+        kinds.extend((0..tables.count(3)).map(|f| (3, tables.comparison(f)[0])));
+        kinds.extend((0..tables.count(4)).map(|f| (4, tables.query(f)[0])));
+        shared += u64::from(shares_comparisons(&tables));
+        disordered += u64::from(is_out_of_walk_order(&tables));
+        nowhere += u64::from(has_form_reached_nowhere(&tables));
+        guarded += u64::from(has_guarded_relation(&tables));
+    }
+    println!("shared {shared} disordered {disordered} nowhere {nowhere} guarded {guarded}");
+    assert!((0..=10).all(|n| features.contains(&n)));
+    assert!([0, 1, 2, 64].iter().all(|m| attributes.contains(m)));
+    assert_eq!(kinds.len(), 6 + 8 + 8);
+    assert!(shared > 200 && disordered > 400 && nowhere > 200 && guarded > 200);
+}
+
+/// Do two selects or comparisons take the same comparison?
+fn shares_comparisons(tables: &Tables) -> bool {
+    let mut taken: Vec<u16> = Vec::new();
+    for form in 0..tables.count(3) {
+        let [kind, _, a, b, c] = tables.comparison(form);
+        match kind {
+            4 => taken.push(a),
+            5 | 6 => taken.extend([a, b]),
+            7 => taken.extend([b, c]),
+            _ => {}
+        }
+    }
+    for form in 0..tables.count(4) {
+        if let [2, a, ..] = tables.query(form) {
+            taken.push(a);
+        }
+    }
+    let different: BTreeSet<u16> = taken.iter().copied().collect();
+    different.len() < taken.len()
+}
+
+/// Are the forms numbered otherwise than a walk of operands first would do?
+fn is_out_of_walk_order(tables: &Tables) -> bool {
+    let mut walk = Vec::new();
+    let mut waiting = vec![tables.count(4) - 1];
+    while let Some(form) = waiting.pop() {
+        walk.push(form);
+        waiting.extend(operands(tables.query(form)));
+    }
+    walk.reverse();
+    walk.windows(2).any(|pair| pair[0] > pair[1])
+}
+
+fn has_form_reached_nowhere(tables: &Tables) -> bool {
+    let mut reached = vec![false; tables.count(4)];
+    for at in expression::permitted(tables) {
+        let here = reference::typing::reached_at(tables, &at.holds);
+        (0..reached.len()).for_each(|form| reached[form] |= here[form]);
+    }
+    reached.contains(&false)
+}
+
+/// Is there a choice on the expression of a relation, over that relation, which
+/// is absent at some permitted configuration?
+fn has_guarded_relation(tables: &Tables) -> bool {
+    let permitted = expression::permitted(tables);
+    (0..tables.count(4)).any(|form| {
+        let [kind, a, b, _] = tables.query(form);
+        let [other, relation, ..] = tables.query(usize::from(b).min(tables.count(4) - 1));
+        kind == 4
+            && other == 1
+            && tables.relation(usize::from(relation))[0] == a
+            && permitted.iter().any(|at| !at.holds[usize::from(a)])
+    })
+}
+
+/// There are cases whose lowest failing form is not the first to fail, so that
+/// form and configuration cannot be confused.
+#[test]
+fn faults_cross() {
+    let several = (0..400).map(generate::several);
+    let crossed = several.filter(is_crossed).count();
+    let small = (0..3000).map(small::case);
+    let small_crossed = small
+        .filter(|case| matches!(case, Case::Check { tables, .. } if is_crossed(tables)))
+        .count();
+    println!("crossed {crossed} of 400 several, {small_crossed} of 3000 small");
+    assert!(crossed >= 40 && small_crossed >= 5);
+}
+
+#[test]
+fn full_cases_are_full() {
+    let mut outcomes = BTreeSet::new();
+    for seed in 0..24 {
+        let tables = generate::full(seed);
+        let number = outcome(&tables);
+        outcomes.insert(number);
+        if number == 0 {
+            assert_eq!((tables.features, tables.attributes), (10, 64));
+            for (table, (_, most)) in RANGES.into_iter().enumerate() {
+                assert_eq!(tables.count(table), most, "table {table}");
+            }
+            assert!(is_out_of_walk_order(&tables) && shares_comparisons(&tables));
+        }
+    }
+    assert!(outcomes.contains(&0) && outcomes.len() > 3, "{outcomes:?}");
+}
+
+/// Small cases: all numbers from 1 to 21, the mixture, and the bounds.
+#[test]
+fn small_cases_cover_everything() {
+    let mut outcomes: BTreeMap<(&str, String), u64> = BTreeMap::new();
+    for seed in 0..3000 {
+        let case = small::case(seed);
+        let call = match &case {
+            Case::Check { tables, .. } => {
+                assert!(is_small(tables));
+                "check"
+            }
+            Case::Configure { tables, .. } => {
+                assert!(is_small(tables));
+                "configure"
+            }
+            Case::Text(text) => {
+                assert!(text.len() <= 320);
+                "text"
+            }
+        };
+        let answer = small::answer(&case);
+        let words: Vec<&str> = answer.split(' ').collect();
+        let key = match words[..] {
+            ["refused", number, ..] => number.to_string(),
+            _ => words[0].to_string(),
+        };
+        *outcomes.entry((call, key)).or_default() += 1;
+    }
+    let texts = (0..1000).map(small::case);
+    let h1 = |case: &Case| matches!(case, Case::Text(text) if text == small::H1.as_bytes());
+    assert!(texts.filter(h1).count() > 3);
+    let times = |call, key: &str| outcomes.get(&(call, key.to_string())).copied().unwrap_or(0);
+    for number in 1..=19 {
+        assert!(times("check", &number.to_string()) >= 15, "check {number}");
+    }
+    for number in [15, 16, 17, 18, 19, 20, 21] {
+        assert!(
+            times("configure", &number.to_string()) >= 3,
+            "configure {number}"
+        );
+    }
+    assert!((900..1200).contains(&times("check", "rows")));
+    assert!(times("configure", "written") >= 200);
+    assert!((200..400).contains(&times("text", "print")));
+}
