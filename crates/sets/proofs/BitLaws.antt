@@ -3,13 +3,13 @@ use Prim.Native.Nat.{ℕ, zero, suc, _+_, _-_, _*_, _/_, _%_, _^_, _<_, _≤_, m
 use mathlib.Core.Path.{_≡_, refl, sym, ap, ap₂, _∙_}
 use mathlib.Core.Bool.{Bool, true, false, cond, not, _&&_, _||_, xor, or-assoc as or-assoc-bool, false≢true}
 use mathlib.Core.Logic.{_≢_}
-use native.Mathlib.Nat.{div-one, mod-lt, zero-lt-suc, pow-suc, pow-succ', div-div-eq-div-mul, div-eq-of-lt, zero-div, sub-zero, div-add-mod'}
+use native.Mathlib.Nat.{div-one, mod-lt, zero-lt-suc, pow-suc, pow-succ', div-div-eq-div-mul, div-eq-of-lt, zero-div, sub-zero, div-add-mod', one-mul}
 use native.Mathlib.Nat.{le-of-suc-le-suc, not-suc-le-zero, lt-of-lt-of-le, lt-of-le-of-lt}
 use native.Mathlib.Decide.{decLt, ℕ-discrete}
 use native.Mathlib.Omega.{arith}
 use lib.Dec.{eqb, ltb, eqb·suc-suc, eqb·suc-zero, eqb·zero-suc}
 use lib.Arith.{digits-div, digits-mod, lt-one}
-use lib.Pow.{pow-pos, pow-mono, pow-lt, ones-lt, ones-sub-lt, shr-shr, high}
+use lib.Pow.{pow-pos, pow-mono, pow-lt, ones-lt, ones-sub-lt, shr-shr, high, shl-exact}
 use lib.Bits.{bitAnd, bitOr, bitXor, differ, block-half, block-odd, and-step, or-step, xor-step}
 use lib.Bits.{and-lt, or-lt, xor-lt, and-le-l, and-le-r, xor-self, xor-add-and}
 use lib.Count.{trailingZeros, under, ones, ones-step}
@@ -281,7 +281,11 @@ bit-subset k x y h e = zero-bits k (difference x y) (difference-lt k x y h) (λ 
 pub subset-and : (x y : ℕ) → difference x y ≡ 0 → bitAnd x y ≡ x
 subset-and x y e = sym (xor-same x (bitAnd x y) e)
 
--- ---- the machine's counts
+-- ---- the machine's shift and counts
+
+-- 1 shifted left by a in a word of k bits
+pub shl-one : (k a : ℕ) → a < k → (1 * 2 ^ a) % 2 ^ k ≡ 2 ^ a
+shl-one k a h = shl-exact 1 a k (omega arith) (omega arith) ∙ one-mul (2 ^ a)
 
 -- trailing_zeros is the lowest bit that is 1
 pub trailing-first : (k x : ℕ) → x < 2 ^ k → x ≢ 0 → First (bit x) k (trailingZeros k x)

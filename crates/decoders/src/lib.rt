@@ -1,0 +1,168 @@
+// One form of each table, from its words.
+use report::Comparison;
+use report::Expression;
+use report::Query;
+ghost use mathlib.Core.Path.{_≡_};
+ghost use mathlib.Core.Bool.{cond};
+ghost use Prim.Native.Nat.{_+_, _*_, _/_, _<_};
+ghost use lib.ListN.{length, getD};
+ghost use Rattle.report.specs.Tables.{entryAttribute, entryExpression, relationExpression, relationLength, expressionOf, expression};
+ghost use Rattle.report.specs.Tables.{comparisonOf, comparison, queryOf, query};
+ghost use Rattle.report.specs.declared.Expression.{Expression};
+ghost use Rattle.report.specs.declared.Comparison.{Comparison};
+ghost use Rattle.report.specs.declared.Query.{Query};
+ghost use Rattle.decoders.specs.Words.{IsWord};
+
+fn wide(word: u16) -> usize
+    ensures { λ r. ⌜ IsWord word r ⌝ }
+{
+    word as usize
+}
+
+// Word i of a table.
+fn word_at(t: &[u16], i: usize) -> usize
+    requires { ⌜ i < length (now t) ⌝ }
+    ensures { λ r. ⌜ IsWord (getD (now (t .entry)) i 0) r ⌝ }
+{
+    wide(t[i])
+}
+
+// The attribute of entry k.
+pub fn entry_attribute(t1: &[u16], k: usize) -> usize
+    requires { ⌜ k < length (now t1) / 2 ⌝ }
+    ensures { λ r. ⌜ IsWord (entryAttribute (now (t1 .entry)) k) r ⌝ }
+{
+    word_at(t1, k * 2)
+}
+
+// The expression of entry k.
+pub fn entry_expression(t1: &[u16], k: usize) -> usize
+    requires { ⌜ k < length (now t1) / 2 ⌝ }
+    ensures { λ r. ⌜ IsWord (entryExpression (now (t1 .entry)) k) r ⌝ }
+{
+    word_at(t1, k * 2 + 1)
+}
+
+// The expression of relation k.
+pub fn relation_expression(t2: &[u16], k: usize) -> usize
+    requires { ⌜ k < length (now t2) / 2 ⌝ }
+    ensures { λ r. ⌜ IsWord (relationExpression (now (t2 .entry)) k) r ⌝ }
+{
+    word_at(t2, k * 2)
+}
+
+// How many entries relation k has.
+pub fn relation_length(t2: &[u16], k: usize) -> usize
+    requires { ⌜ k < length (now t2) / 2 ⌝ }
+    ensures { λ r. ⌜ IsWord (relationLength (now (t2 .entry)) k) r ⌝ }
+{
+    word_at(t2, k * 2 + 1)
+}
+
+fn whole_expression(whole: bool, form: Expression) -> Expression
+    ensures { λ r. ⌜ r ≡ cond whole form Expression.Malformed ⌝ }
+{
+    if whole { form } else { Expression::Malformed }
+}
+
+// The form of table 0 with these words.
+fn expression_of(kind: usize, a: usize, b: usize) -> Expression
+    ensures { λ r. ⌜ r ≡ expressionOf kind a b ⌝ }
+{
+    match kind {
+        0 => whole_expression((a == 0) & (b == 0), Expression::False),
+        1 => whole_expression((a == 0) & (b == 0), Expression::True),
+        2 => whole_expression(b == 0, Expression::Feature(a)),
+        3 => whole_expression(b == 0, Expression::Not(a)),
+        4 => Expression::And(a, b),
+        5 => Expression::Or(a, b),
+        _ => Expression::Malformed,
+    }
+}
+
+// Form k of table 0.
+pub fn expression_at(t0: &[u16], k: usize) -> Expression
+    requires { ⌜ k < length (now t0) / 3 ⌝ }
+    ensures { λ r. ⌜ r ≡ expression (now (t0 .entry)) k ⌝ }
+{
+    let at = k * 3;
+    expression_of(word_at(t0, at), word_at(t0, at + 1), word_at(t0, at + 2))
+}
+
+fn whole_comparison(whole: bool, form: Comparison) -> Comparison
+    ensures { λ r. ⌜ r ≡ cond whole form Comparison.Malformed ⌝ }
+{
+    if whole { form } else { Comparison::Malformed }
+}
+
+// The form of table 3 with these words, o the operator.
+fn comparison_of(kind: usize, o: usize, a: usize, b: usize, c: usize) -> Comparison
+    ensures { λ r. ⌜ r ≡ comparisonOf kind o a b c ⌝ }
+{
+    match kind {
+        0 => whole_comparison((o == 0) & (a == 0) & (b == 0) & (c == 0), Comparison::Never),
+        1 => whole_comparison(
+            (o == 0) & (a == 0) & (b == 0) & (c == 0),
+            Comparison::Always,
+        ),
+        2 => whole_comparison(c == 0, Comparison::Constant(o, a, b)),
+        3 => whole_comparison(c == 0, Comparison::Attribute(o, a, b)),
+        4 => whole_comparison((o == 0) & (b == 0) & (c == 0), Comparison::Not(a)),
+        5 => whole_comparison((o == 0) & (c == 0), Comparison::And(a, b)),
+        6 => whole_comparison((o == 0) & (c == 0), Comparison::Or(a, b)),
+        7 => whole_comparison(o == 0, Comparison::Choice(a, b, c)),
+        _ => Comparison::Malformed,
+    }
+}
+
+// Form k of table 3.
+pub fn comparison_at(t3: &[u16], k: usize) -> Comparison
+    requires { ⌜ k < length (now t3) / 5 ⌝ }
+    ensures { λ r. ⌜ r ≡ comparison (now (t3 .entry)) k ⌝ }
+{
+    let at = k * 5;
+    comparison_of(
+        word_at(t3, at),
+        word_at(t3, at + 1),
+        word_at(t3, at + 2),
+        word_at(t3, at + 3),
+        word_at(t3, at + 4),
+    )
+}
+
+fn whole_query(whole: bool, form: Query) -> Query
+    ensures { λ r. ⌜ r ≡ cond whole form Query.Malformed ⌝ }
+{
+    if whole { form } else { Query::Malformed }
+}
+
+// The form of table 4 with these words.
+fn query_of(kind: usize, a: usize, b: usize, c: usize) -> Query
+    ensures { λ r. ⌜ r ≡ queryOf kind a b c ⌝ }
+{
+    match kind {
+        0 => whole_query((a == 0) & (b == 0) & (c == 0), Query::Empty),
+        1 => whole_query((b == 0) & (c == 0), Query::Relation(a)),
+        2 => whole_query(c == 0, Query::Select(a, b)),
+        3 => whole_query(c == 0, Query::Project(a, b)),
+        4 => Query::Choice(a, b, c),
+        5 => whole_query(c == 0, Query::Product(a, b)),
+        6 => whole_query(c == 0, Query::Union(a, b)),
+        7 => whole_query(c == 0, Query::Intersection(a, b)),
+        _ => Query::Malformed,
+    }
+}
+
+// Form k of table 4.
+pub fn query_at(t4: &[u16], k: usize) -> Query
+    requires { ⌜ k < length (now t4) / 4 ⌝ }
+    ensures { λ r. ⌜ r ≡ query (now (t4 .entry)) k ⌝ }
+{
+    let at = k * 4;
+    query_of(
+        word_at(t4, at),
+        word_at(t4, at + 1),
+        word_at(t4, at + 2),
+        word_at(t4, at + 3),
+    )
+}

@@ -1,0 +1,139 @@
+-- A list of entries and what configuring writes of it: the entries that hold at c, in order, their expression made 0.
+use Prim.Native.Nat.{ℕ, zero, suc, _+_, _*_, _/_, _%_, _^_, _<_, _≤_}
+use mathlib.Core.Path.{_≡_, refl, sym, ap, ap₂, _∙_}
+use mathlib.Core.Bool.{Bool, true, false, cond}
+use mathlib.Core.List.{List, [], _∷_, _++_}
+use native.Mathlib.Nat.{le-refl, zero-lt-suc}
+use native.Mathlib.Omega.{arith}
+use lib.ListN.{length, getD}
+use lib.Bits.{bitOr, or-zero-r}
+use Rattle.sets.proofs.SearchLaws.{nth, count-yes, count-no, count-lt, count-before}
+use Rattle.sets.proofs.ListLaws.{kept-yes, kept-no}
+use Rattle.report.specs.Tables.{Tables, entryAttribute, entryExpression, entryCount}
+use Rattle.report.specs.Typing.{at, listed}
+use Rattle.report.specs.Configuring.{entryKept, keptLength, keptList}
+use Rattle.report.specs.ConfiguredReport.{keptAttributes}
+use Rattle.report.proofs.Formed.{Formed}
+use Rattle.report.proofs.FormFacts.{ListIn}
+use Rattle.report.proofs.FormedFacts.{entry-attribute}
+use Rattle.report.proofs.KeptForms.{kept-all, forms-length, first-word}
+
+-- ---- table 1 as pairs: an attribute below m, and expression 0
+
+abbrev pub Pairs : ℕ → List ℕ → Type 0
+Pairs m [] = Unit {0}
+Pairs m (a ∷ []) = ⊥
+Pairs m (a ∷ z ∷ l) = (a < m) × (z ≡ 0) × Pairs m l
+
+pub pairs-join : (m : ℕ) (x y : List ℕ) → Pairs m x → Pairs m y → Pairs m (x ++ y)
+pairs-join m [] y p q = q
+pairs-join m (a ∷ []) y p q = absurd p
+pairs-join m (a ∷ z ∷ x) y p q = (p .0, p .1, pairs-join m x y (p .2) q)
+
+pub pairs-even : (m : ℕ) (x : List ℕ) → Pairs m x → length x % 2 ≡ 0
+pairs-even m [] p = refl
+pairs-even m (a ∷ []) p = absurd p
+pairs-even m (a ∷ z ∷ x) p = let e = pairs-even m x (p .2) in omega arith
+
+pub pairs-attribute : (m : ℕ) (x : List ℕ) → Pairs m x → (k : ℕ) → k < length x / 2 → entryAttribute x k < m
+pairs-attribute m [] p k h = absurd (omega arith)
+pairs-attribute m (a ∷ []) p k h = absurd p
+pairs-attribute m (a ∷ z ∷ x) p zero h = p .0
+pairs-attribute m (a ∷ z ∷ x) p (suc k) h =
+    let e : suc k * 2 ≡ suc (suc (k * 2)) = omega arith in
+    rw e (pairs-attribute m x (p .2) k (omega arith))
+
+pub pairs-expression : (m : ℕ) (x : List ℕ) → Pairs m x → (k : ℕ) → entryExpression x k ≡ 0
+pairs-expression m [] p k = refl
+pairs-expression m (a ∷ []) p k = absurd p
+pairs-expression m (a ∷ z ∷ x) p zero = p .1
+pairs-expression m (a ∷ z ∷ x) p (suc k) =
+    let e : suc k * 2 + 1 ≡ suc (suc (k * 2 + 1)) = omega arith in
+    ap (λ (j : ℕ). getD (a ∷ z ∷ x) j 0) e ∙ pairs-expression m x (p .2) k
+
+-- ---- the list written
+
+-- the words l stand in table 1 from entry `start` on
+pub record Stands (entries : List ℕ) (start : ℕ) (l : List ℕ) : Type 0 where
+  pub inside : start * 2 + length l ≤ length entries
+  pub reads : (j : ℕ) → j < length l → getD entries (start * 2 + j) 0 ≡ getD l j 0
+
+module _ (T : Tables) (c start count : ℕ) where
+  abbrev pairOf : ℕ → List ℕ
+  pairOf i = entryAttribute (T .entries) (start + i) ∷ 0 ∷ []
+
+  pub list-length : length (keptList T c start count) ≡ keptLength T c start count * 2
+  list-length = forms-length (entryKept T c start) pairOf 2 count (λ i h k. refl) (zero-lt-suc 1)
+
+  -- entry i of the source is one of the list written, if it holds
+  list-attribute : (i : ℕ) → i < count → entryKept T c start i ≡ true
+      → getD (keptList T c start count) (keptLength T c start i * 2) 0 ≡ entryAttribute (T .entries) (start + i)
+  list-attribute i h k = first-word (entryKept T c start) pairOf 2 count (λ i h k. refl) (zero-lt-suc 1) i h k
+
+  pub list-pairs : Formed T → start + count ≤ entryCount T → Pairs (T .attributes) (keptList T c start count)
+  list-pairs F l =
+      kept-all (entryKept T c start) pairOf (Pairs (T .attributes)) tt (pairs-join (T .attributes)) count
+      (λ i h k. (entry-attribute F (start + i) (omega arith), refl, tt))
+
+  -- tables U in whose table 1 the list written stands from `new` on, all entries holding at 0
+  module _ (U : Tables) (new : ℕ) (s : Stands (U .entries) new (keptList T c start count)) where
+    carried : (i : ℕ) → i < count → entryKept T c start i ≡ true
+        → entryAttribute (U .entries) (new + keptLength T c start i) ≡ entryAttribute (T .entries) (start + i)
+    carried i h k =
+        let m = count-lt (entryKept T c start) i count h k in
+        let e : (new + keptLength T c start i) * 2 ≡ new * 2 + keptLength T c start i * 2 = omega arith in
+        ap (λ (x : ℕ). getD (U .entries) x 0) e ∙ s .reads (keptLength T c start i * 2) (omega (arith, list-length)) ∙ list-attribute i h k
+
+    -- no attribute is in it twice, if none was in the source's list
+    pub carried-in : ListIn (T .entries) start count → ListIn (U .entries) new (keptLength T c start count)
+    carried-in l = record { inside = omega (arith, list-length, s .inside); once = apart }
+      where
+        apart : (i j : ℕ) → i < j → j < keptLength T c start count → entryAttribute (U .entries) (new + i) ≡ entryAttribute (U .entries) (new + j) → ⊥
+        apart i j below h same =
+            let p = nth (entryKept T c start) count i (omega arith) in
+            let q = nth (entryKept T c start) count j h in
+            l .once (p .old) (q .old)
+            (count-before (entryKept T c start) (q .old) (p .old) (p .passed) (let a = p .number in let b = q .number in omega arith)) (q .below)
+            (sym (carried (p .old) (p .below) (p .passed)) ∙ ap (λ (x : ℕ). entryAttribute (U .entries) (new + x)) (p .number) ∙ same
+            ∙ ap (λ (x : ℕ). entryAttribute (U .entries) (new + x)) (sym (q .number)) ∙ carried (q .old) (q .below) (q .passed))
+
+    module _ (hold : (k : ℕ) → at U 0 (entryExpression (U .entries) k) ≡ true) where
+      listed-to : (n : ℕ) → n ≤ count → listed U 0 new (keptLength T c start n) ≡ listed T c start n
+      unfolding listed
+      listed-to zero h = refl
+      listed-to (suc n) h = go (entryKept T c start n) refl (listed-to n (omega arith))
+        where
+          go : (t : Bool) → entryKept T c start n ≡ t → listed U 0 new (keptLength T c start n) ≡ listed T c start n
+              → listed U 0 new (keptLength T c start (suc n))
+              ≡ bitOr (listed T c start n) (cond (entryKept T c start n) (2 ^ entryAttribute (T .entries) (start + n)) 0)
+          go true p ih =
+              ap (listed U 0 new) (count-yes (entryKept T c start) n p)
+              ∙ ap₂ bitOr ih (ap₂ (λ (t : Bool) (a : ℕ). cond t (2 ^ a) 0) (hold (new + keptLength T c start n) ∙ sym p) (carried n h p))
+          go false p ih =
+              ap (listed U 0 new) (count-no (entryKept T c start) n p) ∙ ih
+              ∙ sym (ap (λ (t : Bool). bitOr (listed T c start n) (cond t (2 ^ entryAttribute (T .entries) (start + n)) 0)) p
+              ∙ or-zero-r (listed T c start n))
+
+      attributes-to : (n : ℕ) → n ≤ count → keptAttributes U 0 new (keptLength T c start n) ≡ keptAttributes T c start n
+      unfolding keptAttributes
+      attributes-to zero h = refl
+      attributes-to (suc n) h = go (entryKept T c start n) refl (attributes-to n (omega arith))
+        where
+          go : (t : Bool) → entryKept T c start n ≡ t → keptAttributes U 0 new (keptLength T c start n) ≡ keptAttributes T c start n
+              → keptAttributes U 0 new (keptLength T c start (suc n)) ≡ keptAttributes T c start (suc n)
+          go true p ih =
+              ap (keptAttributes U 0 new) (count-yes (entryKept T c start) n p)
+              ∙ kept-yes (entryKept U 0 new) (λ i. entryAttribute (U .entries) (new + i) ∷ []) (keptLength T c start n)
+              (hold (new + keptLength T c start n))
+              ∙ ap₂ _++_ ih (ap (λ (a : ℕ). a ∷ []) (carried n h p))
+              ∙ sym (kept-yes (entryKept T c start) (λ i. entryAttribute (T .entries) (start + i) ∷ []) n p)
+          go false p ih =
+              ap (keptAttributes U 0 new) (count-no (entryKept T c start) n p) ∙ ih
+              ∙ sym (kept-no (entryKept T c start) (λ i. entryAttribute (T .entries) (start + i) ∷ []) n p)
+
+      -- its set, and its list of attributes, are those of the source's list at c
+      pub carried-set : listed U 0 new (keptLength T c start count) ≡ listed T c start count
+      carried-set = listed-to count (le-refl count)
+
+      pub carried-attributes : keptAttributes U 0 new (keptLength T c start count) ≡ keptAttributes T c start count
+      carried-attributes = attributes-to count (le-refl count)

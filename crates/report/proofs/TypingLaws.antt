@@ -1,0 +1,215 @@
+-- What the typing check accepts and what it names when it refuses; and what the column rows show.
+use Prim.Native.Nat.{ℕ, _^_, _<_}
+use mathlib.Core.Path.{_≡_, refl, sym, ap, ap₂, _∙_, subst}
+use mathlib.Core.Bool.{Bool, true, false, cond, _&&_, and-eq-true-iff, false≢true}
+use mathlib.Core.Logic.{_↔_, _≢_}
+use mathlib.Core.List.{List, [], append-nil}
+use native.Mathlib.Nat.{lt-of-lt-of-le}
+use native.Mathlib.Omega.{arith}
+use borrow.Author.Tests.{ltb-true, eqb-true}
+use lib.ListN.{length}
+use lib.Pow.{pow-mono}
+use Rattle.sets.specs.declared.Found.{Found}
+use Rattle.sets.specs.Search.{lowest}
+use Rattle.sets.specs.Bits.{bit, lowestMember}
+use Rattle.sets.specs.Rows.{rowOf, rowBit, rowIn}
+use Rattle.sets.proofs.SearchLaws.{First, lowest-nothing, nothing-lowest, lowest-at, at-lowest}
+use Rattle.sets.proofs.BitLaws.{bit-none, bit-pow, bitsOf-is, bitsOf-none, trailing-first, trailing-member}
+use Rattle.sets.proofs.ListLaws.{concat-length}
+use Rattle.sets.proofs.RowLaws.{rowIn-concat, rowBit-rowOf, rowOf-row}
+use Rattle.report.specs.Tables.{Tables, queryCount, report}
+use Rattle.report.specs.Expressions.{configurations, permitted}
+use Rattle.report.specs.Typing.{reached, present, setOf, faultsOf, faults, fails}
+use Rattle.report.specs.ColumnRows.{hasColumn, columnRows, shown}
+use Rattle.report.specs.PlainAlgebra.{passes}
+use Rattle.report.specs.ConfiguredReport.{configuredReport, configuredSchema}
+use Rattle.report.specs.Verdicts.{refusal, refuseAt}
+use Rattle.report.specs.Checks.{ruleNumber, typingAt, typingCheck, isTypingFault}
+use Rattle.report.specs.declared.Query.{Query}
+use Rattle.report.specs.declared.Refusal.{Refusal}
+use Rattle.report.specs.declared.Verdict.{Verdict}
+use Rattle.report.proofs.VerdictLaws.{accepted-not-refused, at-accepted, first-accepted, accepted-first, refused-first, first-refused}
+use Rattle.report.proofs.Formed.{Formed}
+use Rattle.report.proofs.FormedFacts.{report-in}
+use Rattle.report.proofs.SetLaws.{Keeps, kept-sets, set-narrow, narrow-word, faults-narrow}
+use Rattle.report.proofs.LeadLaws.{formAt}
+use Rattle.report.proofs.ReachLaws.{reached-in}
+use Rattle.report.proofs.TreeLaws.{reached-permitted, fails-where, keeps-where, report-passes}
+
+-- ---- a permitted configuration is one
+
+pub permitted-within : (T : Tables) (c : ℕ) → permitted T c ≡ true → c < configurations T
+unfolding permitted
+permitted-within T c e = ltb-true c (configurations T) (and-eq-true-iff _ _ .0 e .0)
+
+-- with up to 10 features it is one of 1,024
+pub permitted-1024 : {T : Tables} → Formed T → (c : ℕ) → permitted T c ≡ true → c < 1024
+permitted-1024 {T} F c e = lt-of-lt-of-le (permitted-within T c e) (pow-mono {j = 10} (F .few))
+
+-- a form fails at permitted configurations only
+pub fails-permitted : (T : Tables) (c q : ℕ) → fails T c q ≡ true → permitted T c ≡ true
+fails-permitted T c q e = reached-permitted T c q (fails-where T c q .0 e .0)
+
+-- ---- what the typing check accepts
+
+module _ (T : Tables) where
+  form-accepted : (q : ℕ) → (typingAt T q ≡ Verdict.Accepted) ↔ ((c : ℕ) → c < configurations T → fails T c q ≡ false)
+  form-accepted q = (
+    λ e. lowest-nothing (λ c. fails T c q) (configurations T) (at-accepted _ _ e),
+    λ f. ap (refuseAt _) (nothing-lowest (λ c. fails T c q) (configurations T) f),
+  )
+
+  -- that no form fails at any configuration
+  pub typing-accepted : (typingCheck T ≡ Verdict.Accepted) ↔ ((c q : ℕ) → c < configurations T → q < queryCount T → fails T c q ≡ false)
+  unfolding typingCheck
+  typing-accepted = (
+    λ e c q h l. form-accepted q .0 (first-accepted (typingAt T) (queryCount T) 0 e q (omega arith) (omega arith)) c h,
+    λ f. accepted-first (typingAt T) (queryCount T) 0 (λ q l h. form-accepted q .1 (λ c k. f c q k (omega arith))),
+  )
+
+module _ {T : Tables} (F : Formed T) where
+  -- so that the configured report passes at every permitted configuration
+  pub typing-passes : (typingCheck T ≡ Verdict.Accepted) ↔ ((c : ℕ) → permitted T c ≡ true → passes (configuredSchema T c) (configuredReport T c) ≡ true)
+  typing-passes = (
+    λ e c p. report-passes F c p .1 (λ q h. typing-accepted T .0 e c q (permitted-within T c p) h),
+    λ f. typing-accepted T .1
+        (λ c q h l. keeps-where T c q .1 (λ r. let p = reached-permitted T c q r in keeps-where T c q .0 (report-passes F c p .0 (f c p) q l) r)),
+  )
+
+  -- then every form keeps its rule wherever it is reached, and has the set that document 01 gives it
+  pub typing-keeps : typingCheck T ≡ Verdict.Accepted → (c q : ℕ) → reached T c q ≡ true → Keeps T c q (formAt T q)
+  typing-keeps e c q r =
+      let p = reached-permitted T c q r in
+      let h = reached-in F c p q r in
+      kept-sets F c q h (keeps-where T c q .0 (typing-accepted T .0 e c q (permitted-within T c p) h) r)
+
+-- ---- what it names where it refuses
+
+-- the refusal of the lowest form that fails at any configuration, at its lowest failing configuration, with the lowest item at fault there
+pub record TypingFault (T : Tables) (r : Refusal) : Type 0 where
+  pub inside : r .place < queryCount T
+  pub permits : permitted T (r .configuration) ≡ true
+  pub failing : fails T (r .configuration) (r .place) ≡ true
+  pub numbered : r .number ≡ ruleNumber (formAt T (r .place))
+  pub itemOf : r .item ≡ lowestMember (faults T (r .configuration) (r .place))
+  pub lowerForms : (q c : ℕ) → q < r .place → c < configurations T → fails T c q ≡ false
+  pub lowerConfigurations : (c : ℕ) → c < r .configuration → fails T c (r .place) ≡ false
+
+module _ (T : Tables) where
+  -- what is told of form q at configuration c
+  abbrev told : ℕ → ℕ → Refusal
+  told q c = refusal (ruleNumber (formAt T q)) q (lowestMember (faults T c q)) c
+
+  told-fault : (q c : ℕ) → q < queryCount T → First (λ d. fails T d q) (configurations T) c → ((p : ℕ) → p < q → typingAt T p ≡ Verdict.Accepted)
+      → TypingFault T (told q c)
+  told-fault q c h f before = record {
+    inside = h;
+    permits = fails-permitted T c q (f .holds);
+    failing = f .holds;
+    numbered = refl;
+    itemOf = refl;
+    lowerForms = λ p d l k. form-accepted T p .0 (before p l) d k;
+    lowerConfigurations = f .before;
+  }
+
+  refused-at : (q : ℕ) (r : Refusal) → typingAt T q ≡ Verdict.Refused r → (c : ℕ) × (First (λ d. fails T d q) (configurations T) c) × (told q c ≡ r)
+  refused-at q r e = go (lowest (λ c. fails T c q) (configurations T)) refl e
+    where
+      go : (x : Found) → lowest (λ c. fails T c q) (configurations T) ≡ x → refuseAt (told q) x ≡ Verdict.Refused r
+          → (c : ℕ) × (First (λ d. fails T d q) (configurations T) c) × (told q c ≡ r)
+      go Found.Nothing p u = accepted-not-refused u refl
+      go (Found.At c) p u = (c, lowest-at (λ d. fails T d q) (configurations T) c p, cc)
+
+  fault-of : (r : Refusal) → typingCheck T ≡ Verdict.Refused r → TypingFault T r
+  unfolding typingCheck
+  fault-of r e =
+      let f = first-refused (typingAt T) (queryCount T) 0 r e in
+      let a = refused-at (f .at) r (f .gave) in
+      let h = f .below in
+      subst (TypingFault T) (a .2) (told-fault (f .at) (a .0) (omega arith) (a .1) (λ p l. f .before p (omega arith) l))
+
+  of-fault : (r : Refusal) → TypingFault T r → typingCheck T ≡ Verdict.Refused r
+  unfolding typingCheck
+  of-fault r f =
+      let h = f .inside in
+      refused-first (typingAt T) (queryCount T) 0 (r .place) r (omega arith) (omega arith)
+      (λ q l k. form-accepted T q .1 (λ c m. f .lowerForms q c k m))
+      (ap (refuseAt (told (r .place)))
+      (at-lowest (λ c. fails T c (r .place)) (configurations T) (r .configuration)
+      (record { below = permitted-within T (r .configuration) (f .permits); holds = f .failing; before = f .lowerConfigurations }))
+      ∙ ap₂ (λ (n i : ℕ). Verdict.Refused (refusal n (r .place) i (r .configuration))) (sym (f .numbered)) (sym (f .itemOf)))
+
+  -- the typing check refuses by r exactly where r is that refusal, so there is one
+  pub typing-refused : (r : Refusal) → (typingCheck T ≡ Verdict.Refused r) ↔ TypingFault T r
+  typing-refused r = (fault-of r, of-fault r)
+
+  pub typing-one : (r s : Refusal) → TypingFault T r → TypingFault T s → r ≡ s
+  typing-one r s f g = let p = of-fault r f in let q = of-fault s g in cc
+
+  -- ---- its number, and its item
+
+  rule-number : (c q n : ℕ) (x : Query) → n ≡ ruleNumber x → faultsOf T c q x ≢ 0 → (p i d : ℕ) → isTypingFault (Verdict.Refused (refusal n p i d)) ≡ true
+  rule-number c q n Query.Malformed e f = absurd (f refl)
+  rule-number c q n Query.Empty e f = absurd (f refl)
+  rule-number c q n (Query.Relation a) e f = λ p i d. rw e
+  rule-number c q n (Query.Select a b) e f = λ p i d. rw e
+  rule-number c q n (Query.Project a b) e f = λ p i d. rw e
+  rule-number c q n (Query.Choice a b d) e f = absurd (f refl)
+  rule-number c q n (Query.Product a b) e f = λ p i d. rw e
+  rule-number c q n (Query.Union a b) e f = λ p i d. rw e
+  rule-number c q n (Query.Intersection a b) e f = λ p i d. rw e
+
+  -- the number is one of 15 to 19
+  pub fault-number : (r : Refusal) → TypingFault T r → isTypingFault (Verdict.Refused r) ≡ true
+  unfolding faults
+  fault-number r f =
+      rule-number (r .configuration) (r .place) (r .number) (formAt T (r .place)) (f .numbered)
+      (fails-where T (r .configuration) (r .place) .0 (f .failing) .1) (r .place) (r .item) (r .configuration)
+
+-- the item is the lowest of those at fault
+module _ {T : Tables} (F : Formed T) (r : Refusal) (f : TypingFault T r) where
+  pub fault-item : First (bit (faults T (r .configuration) (r .place))) 64 (r .item)
+  fault-item =
+      let s = faults-narrow F (r .configuration) (r .place) (f .inside) in
+      let e = fails-where T (r .configuration) (r .place) .0 (f .failing) .1 in
+      rw (f .itemOf, trailing-member (faults T (r .configuration) (r .place)) s e) (trailing-first 64 (faults T (r .configuration) (r .place)) s e)
+
+  -- of a relation form that is the relation, which is absent
+  pub fault-relation : (a : ℕ) → formAt T (r .place) ≡ Query.Relation a → (r .item ≡ a) × (present T (r .configuration) a ≡ false)
+  unfolding faults
+  fault-relation a e = go (present T (r .configuration) a) refl (ap (λ (y : Query). bit (faultsOf T (r .configuration) (r .place) y) (r .item)) (sym e) ∙ fault-item .holds)
+    where
+      go : (t : Bool) → present T (r .configuration) a ≡ t → bit (cond t 0 (2 ^ a)) (r .item) ≡ true → (r .item ≡ a) × (t ≡ false)
+      go true p u = absurd (false≢true (sym (bit-none (r .item)) ∙ u))
+      go false p u = (eqb-true (r .item) a (sym (bit-pow a (r .item)) ∙ u), refl)
+
+-- ---- the column rows
+
+module _ (T : Tables) where
+  rows-wide : (a : ℕ) → a < 64 → length (rowOf 16 (hasColumn T a)) ≡ 16
+  rows-wide a h = rowOf-row 16 (hasColumn T a) .size
+
+  -- they are 1,024 words
+  pub rows-length : length (columnRows T) ≡ 1024
+  unfolding columnRows
+  rows-length = concat-length (λ a. rowOf 16 (hasColumn T a)) 16 64 rows-wide
+
+  -- bit c of row a says whether c is permitted and the report's set at c has attribute a
+  pub row-shows : (a c : ℕ) → a < 64 → c < 1024 → rowBit (rowIn 16 (columnRows T) a) c ≡ hasColumn T a c
+  unfolding columnRows
+  row-shows a c h l =
+      ap (λ (x : List ℕ). rowBit x c)
+      (ap (λ (x : List ℕ). rowIn 16 x a) (sym (append-nil (columnRows T))) ∙ rowIn-concat 16 64 (λ a. rowOf 16 (hasColumn T a)) [] rows-wide a h)
+      ∙ rowBit-rowOf 16 (hasColumn T a) c l
+
+  -- they show nothing where c is not permitted
+  pub shown-nothing : (c : ℕ) → c < 1024 → permitted T c ≡ false → shown (columnRows T) c ≡ 0
+  shown-nothing c h e =
+      bitsOf-none 64 (λ a. rowBit (rowIn 16 (columnRows T) a) c)
+      (λ a l. row-shows a c l h ∙ ap (λ (t : Bool). t && bit (setOf T c (report T)) a) e)
+
+-- and the report's set where it is
+pub shown-columns : {T : Tables} → Formed T → (c : ℕ) → permitted T c ≡ true → shown (columnRows T) c ≡ setOf T c (report T)
+shown-columns {T} F c e =
+    bitsOf-is 64 (setOf T c (report T)) (λ a. rowBit (rowIn 16 (columnRows T) a) c) (narrow-word F (set-narrow F c (report T) (report-in F)))
+    (λ a l. sym (row-shows T a c l (permitted-1024 F c e) ∙ ap (λ (t : Bool). t && bit (setOf T c (report T)) a) e))

@@ -1,0 +1,205 @@
+-- The tables that configuring writes are, as a tree, the configured report with its relations renumbered, under the configured schema renumbered
+-- (document 01, "Configuring"). Nothing here asks that the report passes, only that every relation that c reaches is present.
+use Prim.Native.Nat.{ℕ, _<_, _≤_}
+use mathlib.Core.Path.{_≡_, refl, sym, ap, ap₂, _∙_}
+use mathlib.Core.Bool.{Bool, true, false, _&&_, _||_, false≢true}
+use mathlib.Core.Option.{none}
+use native.Mathlib.Omega.{arith}
+use lib.Dec.{eqb}
+use lib.Bits.{bitAnd, bitOr}
+use Rattle.sets.specs.Search.{countBelow}
+use Rattle.sets.proofs.SearchLaws.{Nth, count-lt}
+use Rattle.report.specs.Tables.{Tables, relationCount, queryCount, projectStart, report}
+use Rattle.report.specs.Expressions.{permitted}
+use Rattle.report.specs.Typing.{at, taken, present, reached}
+use Rattle.report.specs.FormChecks.{isOperand, formCheck}
+use Rattle.report.specs.Configuring.{isQueryChoice, queryKept, newRelation, newQuery, configured}
+use Rattle.report.specs.PlainAlgebra.{PlainQuery, Schema, named, setFrom, inSchema, attributesIn, subset, columns, passes}
+use Rattle.report.specs.ConfiguredReport.{plainQueryOf, plainQueryAt, configuredReport, configuredSchema}
+use Rattle.report.specs.declared.Query.{Query}
+use Rattle.report.specs.declared.Verdict.{Verdict}
+use Rattle.report.proofs.ValueLaws.{strong}
+use Rattle.report.proofs.Formed.{Formed, formed-accepted}
+use Rattle.report.proofs.FormFacts.{QueryLower}
+use Rattle.report.proofs.FormedFacts.{query-at, operand-lower, report-in}
+use Rattle.report.proofs.StepLaws.{plain-query-in}
+use Rattle.report.proofs.PassingOn.{View, choice, plain, view, or-first, or-second, same-number}
+use Rattle.report.proofs.LeadLaws.{formAt, passed-lower, target-plain, target-choice, alternative-passed}
+use Rattle.report.proofs.ReachLaws.{both-kept, reached-report, reached-next, operand-reached, kept-count}
+use Rattle.report.proofs.CarriedLists.{carried-attributes}
+use Rattle.report.proofs.WrittenComparisons.{plain-comparison-same}
+use Rattle.report.proofs.WrittenEntries.{entry-holds, new-relation, relation-of, schema-written, schema-end}
+use Rattle.report.proofs.WrittenQueries.{renumberedQuery, queries-count, query-written, project-stands}
+use Rattle.report.proofs.WrittenFormed.{RelationsPresent, written-formed}
+
+-- ---- a tree with other numbers for its relations
+
+abbrev pub renamed : (ℕ → ℕ) → PlainQuery → PlainQuery
+renamed f PlainQuery.empty = PlainQuery.empty
+renamed f (PlainQuery.relation r) = PlainQuery.relation (f r)
+renamed f (PlainQuery.select t q) = PlainQuery.select t (renamed f q)
+renamed f (PlainQuery.project l q) = PlainQuery.project l (renamed f q)
+renamed f (PlainQuery.product p q) = PlainQuery.product (renamed f p) (renamed f q)
+renamed f (PlainQuery.union p q) = PlainQuery.union (renamed f p) (renamed f q)
+renamed f (PlainQuery.intersection p q) = PlainQuery.intersection (renamed f p) (renamed f q)
+
+module _ (old new : Schema) (f : ℕ → ℕ) where
+  -- each relation of a tree is under its new number what it was
+  abbrev pub Agree : PlainQuery → Type 0
+  Agree PlainQuery.empty = Unit {0}
+  Agree (PlainQuery.relation r) = new (f r) ≡ old r
+  Agree (PlainQuery.select t q) = Agree q
+  Agree (PlainQuery.project l q) = Agree q
+  Agree (PlainQuery.product p q) = Agree p × Agree q
+  Agree (PlainQuery.union p q) = Agree p × Agree q
+  Agree (PlainQuery.intersection p q) = Agree p × Agree q
+
+  -- then the tree has the columns that it had, and passes where it passed
+  pub columns-renamed : (t : PlainQuery) → Agree t → columns new (renamed f t) ≡ columns old t
+  columns-renamed PlainQuery.empty a = refl
+  columns-renamed (PlainQuery.relation r) a = ap attributesIn a
+  columns-renamed (PlainQuery.select t q) a = columns-renamed q a
+  columns-renamed (PlainQuery.project l q) a = refl
+  columns-renamed (PlainQuery.product p q) a = ap₂ bitOr (columns-renamed p (a .0)) (columns-renamed q (a .1))
+  columns-renamed (PlainQuery.union p q) a = columns-renamed p (a .0)
+  columns-renamed (PlainQuery.intersection p q) a = columns-renamed p (a .0)
+
+  two-pass : (rule : ℕ → ℕ → Bool) (p q : PlainQuery) → Agree p × Agree q → passes new (renamed f p) ≡ passes old p
+      → passes new (renamed f q) ≡ passes old q
+      → (passes new (renamed f p) && passes new (renamed f q) && rule (columns new (renamed f p)) (columns new (renamed f q)))
+      ≡ (passes old p && passes old q && rule (columns old p) (columns old q))
+  two-pass rule p q a x y = λ i. x i && y i && rule (columns-renamed p (a .0) i) (columns-renamed q (a .1) i)
+
+  pub passes-renamed : (t : PlainQuery) → Agree t → passes new (renamed f t) ≡ passes old t
+  passes-renamed PlainQuery.empty a = refl
+  passes-renamed (PlainQuery.relation r) a = ap inSchema a
+  passes-renamed (PlainQuery.select t q) a = ap₂ (λ (b : Bool) (x : ℕ). b && subset (named t) x) (passes-renamed q a) (columns-renamed q a)
+  passes-renamed (PlainQuery.project l q) a = ap₂ (λ (b : Bool) (x : ℕ). b && subset (setFrom l) x) (passes-renamed q a) (columns-renamed q a)
+  passes-renamed (PlainQuery.product p q) a = two-pass (λ x y. eqb (bitAnd x y) 0) p q a (passes-renamed p (a .0)) (passes-renamed q (a .1))
+  passes-renamed (PlainQuery.union p q) a = two-pass eqb p q a (passes-renamed p (a .0)) (passes-renamed q (a .1))
+  passes-renamed (PlainQuery.intersection p q) a = two-pass eqb p q a (passes-renamed p (a .0)) (passes-renamed q (a .1))
+
+-- u is the tree t of T at c with its relations renumbered, each of which the tables written have as it was
+pub record Renumbered (T : Tables) (c : ℕ) (u t : PlainQuery) : Type 0 where
+  pub same : u ≡ renamed (newRelation T c) t
+  pub agree : Agree (configuredSchema T c) (configuredSchema (configured T c) 0) (newRelation T c) t
+
+-- ---- the tree of the tables written
+
+module _ {T : Tables} (F : Formed T) (c : ℕ) (ok : permitted T c ≡ true) (P : RelationsPresent T c) where
+  -- the tree of a form that is written, by the rule
+  written-step : (q : ℕ) → q < queryCount T → queryKept T c q ≡ true
+      → plainQueryAt (configured T c) 0 (countBelow (queryKept T c) q)
+      ≡ plainQueryOf (configured T c) 0 (plainQueryAt (configured T c) 0) (countBelow (queryKept T c) q) (renumberedQuery T c q (formAt T q))
+  written-step q h k =
+      plain-query-in (written-formed F c ok P) 0 (countBelow (queryKept T c) q)
+      (let l = count-lt (queryKept T c) q (queryCount T) h k in let e = queries-count F c in omega arith)
+      ∙ ap (plainQueryOf (configured T c) 0 (plainQueryAt (configured T c) 0) (countBelow (queryKept T c) q)) (query-written F c q h k)
+
+  abbrev Same : ℕ → Type 0
+  Same q = Renumbered T c (plainQueryAt (configured T c) 0 (newQuery T c q)) (plainQueryAt T c q)
+
+  both : (a b : ℕ) → ((x : ℕ) → (eqb x a || eqb x b) ≡ true → Same x) → Same a × Same b
+  both a b ih = (ih a (or-first _ _ (same-number a)), ih b (or-second (eqb b a) _ (same-number b)))
+
+  -- a plain form, from its operands
+  plain-same : (q : ℕ) → q < queryCount T → queryKept T c q ≡ true → reached T c q ≡ true → (y : Query) → formAt T q ≡ y → isQueryChoice T c y ≡ false
+      → QueryLower T q y → ((x : ℕ) → isOperand x y ≡ true → Same x)
+      → Renumbered T c (plainQueryOf (configured T c) 0 (plainQueryAt (configured T c) 0) (countBelow (queryKept T c) q) (renumberedQuery T c q y))
+      (plainQueryOf T c (plainQueryAt T c) q y)
+  plain-same q h k r Query.Malformed e v l ih = absurd l
+  plain-same q h k r Query.Empty e v l ih = record { same = refl; agree = tt }
+  plain-same q h k r (Query.Relation a) e v l ih = record { same = refl; agree = schema-written F c a (P q a r e) }
+  plain-same q h k r (Query.Select a b) e v l ih =
+      let x = ih b (same-number b) in
+      record { same = ap₂ PlainQuery.select (plain-comparison-same F c a (l .0)) (x .same); agree = x .agree }
+  plain-same q h k r (Query.Project a b) e v l ih =
+      let x = ih b (same-number b) in
+      record {
+        same =
+            ap₂ PlainQuery.project
+            (carried-attributes T c (projectStart T q) a (configured T c) _ (project-stands F c q a b h k e) (entry-holds F c)) (x .same);
+        agree = x .agree;
+      }
+  plain-same q h k r (Query.Choice a b d) e v l ih = absurd (false≢true (sym v))
+  plain-same q h k r (Query.Product a b) e v l ih =
+      let x = both a b ih in
+      record { same = ap₂ PlainQuery.product (x .0 .same) (x .1 .same); agree = (x .0 .agree, x .1 .agree) }
+  plain-same q h k r (Query.Union a b) e v l ih =
+      let x = both a b ih in
+      record { same = ap₂ PlainQuery.union (x .0 .same) (x .1 .same); agree = (x .0 .agree, x .1 .agree) }
+  plain-same q h k r (Query.Intersection a b) e v l ih =
+      let x = both a b ih in
+      record { same = ap₂ PlainQuery.intersection (x .0 .same) (x .1 .same); agree = (x .0 .agree, x .1 .agree) }
+
+  -- the tree that a reached reference leads to is the one that it was, its relations renumbered
+  pub tree-same : (q : ℕ) → q < queryCount T → reached T c q ≡ true
+      → Renumbered T c (plainQueryAt (configured T c) 0 (newQuery T c q)) (plainQueryAt T c q)
+  tree-same = strong (λ q. q < queryCount T → reached T c q ≡ true → Same q) (λ q ih h r. go q ih h r (view T c (formAt T q)))
+    where
+      go : (q : ℕ) → ((k : ℕ) → k < q → k < queryCount T → reached T c k ≡ true → Same k) → q < queryCount T → reached T c q ≡ true
+          → View T c (formAt T q) → Same q
+      go q ih h r (plain v) =
+          let k = both-kept T c q r v in
+          rw (target-plain F c q h v, written-step q h k, plain-query-in F c q h)
+          (plain-same q h k r (formAt T q) refl v (query-at F q h)
+          (λ x o. let l = operand-lower F q x h o in ih x l (omega arith) (operand-reached F c ok q x k o)))
+      go q ih h r (choice a b d e) =
+          let z = taken T c a b d in
+          let p = alternative-passed F c q a b d h e in
+          let l = passed-lower F c z q h p in
+          rw (target-choice F c q a b d h e, plain-query-in F c q h ∙ ap (plainQueryOf T c (plainQueryAt T c) q) e)
+          (ih z l (omega arith) (reached-next F c ok z q r p))
+
+  -- ---- of the report
+
+  -- the last form written is what the report leads to
+  pub report-new : report (configured T c) ≡ newQuery T c (report T)
+  report-new = let e = queries-count F c in let k = kept-count F c ok in omega arith
+
+  report-same : Renumbered T c (configuredReport (configured T c) 0) (configuredReport T c)
+  report-same = rw report-new (tree-same (report T) (report-in F) (reached-report F c ok))
+
+  -- the tables written decode to the configured report, its relations renumbered
+  pub report-written : configuredReport (configured T c) 0 ≡ renamed (newRelation T c) (configuredReport T c)
+  report-written = report-same .same
+
+  -- it passes where the configured report passes, and has its columns
+  pub passes-written : passes (configuredSchema (configured T c) 0) (configuredReport (configured T c) 0)
+      ≡ passes (configuredSchema T c) (configuredReport T c)
+  passes-written =
+      ap (passes (configuredSchema (configured T c) 0)) report-written
+      ∙ passes-renamed (configuredSchema T c) (configuredSchema (configured T c) 0) (newRelation T c) (configuredReport T c) (report-same .agree)
+
+  pub columns-written : columns (configuredSchema (configured T c) 0) (configuredReport (configured T c) 0)
+      ≡ columns (configuredSchema T c) (configuredReport T c)
+  columns-written =
+      ap (columns (configuredSchema (configured T c) 0)) report-written
+      ∙ columns-renamed (configuredSchema T c) (configuredSchema (configured T c) 0) (newRelation T c) (configuredReport T c) (report-same .agree)
+
+-- what the tables written at c are
+pub record Written (T : Tables) (c : ℕ) : Type 0 where
+  -- well formed: checks 1 to 10 accept them
+  pub formed : Formed (configured T c)
+  pub accepted : formCheck (configured T c) ≡ Verdict.Accepted
+  -- as a tree, the configured report with its relations renumbered
+  pub tree : plainQueryAt (configured T c) 0 (report (configured T c)) ≡ renamed (newRelation T c) (configuredReport T c)
+  -- their schema is the configured schema, renumbered
+  pub schema : (r : ℕ) → present T c r ≡ true → configuredSchema (configured T c) 0 (newRelation T c r) ≡ configuredSchema T c r
+  pub schemaEnd : (k : ℕ) → relationCount (configured T c) ≤ k → configuredSchema (configured T c) 0 k ≡ none
+  -- the new numbers are those of the present relations in order, and there are no others
+  pub inOrder : (r s : ℕ) → r < s → present T c r ≡ true → newRelation T c r < newRelation T c s
+  pub numbered : (r : ℕ) → present T c r ≡ true → newRelation T c r < relationCount (configured T c)
+  pub onto : (k : ℕ) → k < relationCount (configured T c) → Nth (present T c) (relationCount T) k
+
+pub tables-written : {T : Tables} → Formed T → (c : ℕ) → permitted T c ≡ true → RelationsPresent T c → Written T c
+tables-written {T} F c ok P = record {
+  formed = written-formed F c ok P;
+  accepted = formed-accepted (configured T c) (written-formed F c ok P);
+  tree = report-written F c ok P;
+  schema = schema-written F c;
+  schemaEnd = schema-end (configured T c) 0;
+  inOrder = λ r s l p. count-lt (present T c) r s l p;
+  numbered = new-relation T c;
+  onto = relation-of F c;
+}

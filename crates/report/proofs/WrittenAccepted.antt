@@ -1,0 +1,208 @@
+-- The tables that configuring writes for an accepted report are accepted, and show at 0 what the report shows at c (document 01, "Configuring";
+-- referee's D9).
+use Prim.Native.Nat.{ℕ, zero, suc, _<_, _≤_}
+use mathlib.Core.Path.{_≡_, refl, sym, ap, ap₂, _∙_}
+use mathlib.Core.Logic.{_≢_}
+use mathlib.Core.Bool.{Bool, true, false, _&&_, not, false≢true}
+use mathlib.Core.List.{[], _∷_}
+use native.Mathlib.Omega.{arith}
+use borrow.Author.Tests.{le-ltb}
+use lib.ListN.{length, getD}
+use lib.Dec.{ltb}
+use Rattle.sets.specs.Bits.{bit}
+use Rattle.sets.proofs.SearchLaws.{at-some, nothing-seek}
+use Rattle.sets.proofs.RowLaws.{within-out}
+use Rattle.report.specs.Tables.{Tables, words, relationExpression, relationLength, relationStart, entryAttribute, entryExpression}
+use Rattle.report.specs.Tables.{relationCount, report}
+use Rattle.report.specs.Expressions.{holds, configurations, permitted}
+use Rattle.report.specs.Typing.{at, setOf}
+use Rattle.report.specs.ColumnRows.{hasColumn, columnRows, shown}
+use Rattle.report.specs.Configuring.{configured}
+use Rattle.report.specs.PlainAlgebra.{columns, passes}
+use Rattle.report.specs.ConfiguredReport.{configuredReport, configuredSchema}
+use Rattle.report.specs.Verdicts.{refusal, refuseAt}
+use Rattle.report.specs.Checks.{somewhere, relationCheck, apartEverywhere, typingCheck, roomCheck}
+use Rattle.report.specs.Checks.{Call, modelAndSchemaCheck, beforeTyping, answer, Sound}
+use Rattle.report.specs.declared.Verdict.{Verdict}
+use Rattle.report.proofs.VerdictLaws.{both-accepted, accepted-both, accepted-if, accepted-first}
+use Rattle.report.proofs.Formed.{Formed}
+use Rattle.report.proofs.FormedFacts.{report-in}
+use Rattle.report.proofs.SetLaws.{kept-sets}
+use Rattle.report.proofs.TreeLaws.{passes-clean, report-columns}
+use Rattle.report.proofs.TypingLaws.{typing-passes, shown-nothing, shown-columns}
+use Rattle.report.proofs.Refusing.{sound-formed, sound-check, gets-sound}
+use Rattle.report.proofs.ReachLaws.{reached-leads, reached-in}
+use Rattle.report.proofs.WrittenEntries.{entry-holds, relation-holds}
+use Rattle.report.proofs.WrittenQueries.{entries-room, relations-room, comparisons-room, queries-room}
+use Rattle.report.proofs.WrittenFormed.{RelationsPresent}
+use Rattle.report.proofs.Written.{Written, tables-written, passes-written, columns-written}
+
+-- where the configured report passes, every relation that c reaches is present
+pub passes-present : {T : Tables} → Formed T → (c : ℕ) → permitted T c ≡ true → passes (configuredSchema T c) (configuredReport T c) ≡ true
+    → RelationsPresent T c
+passes-present {T} F c ok good q a r e =
+    let clean = passes-clean F c (report T) (report-in F) .0 good q (sym (reached-leads F c ok q) ∙ r) in
+    (rw e at (kept-sets F c q (reached-in F c ok q r) clean)) .0
+
+-- ---- tables written where the configured report passes
+
+module _ (T : Tables) (c : ℕ) where
+  -- 0 is their one configuration, and permitted
+  pub one-configuration : configurations (configured T c) ≡ 1
+  unfolding configured
+  one-configuration = refl
+
+  pub zero-permitted : permitted (configured T c) 0 ≡ true
+  unfolding permitted configured holds
+  zero-permitted = refl
+
+  pub only-zero : (d : ℕ) → d ≢ 0 → permitted (configured T c) d ≡ false
+  unfolding permitted configured
+  only-zero d n = within-out 0 (λ d. holds (configured T c .expressions) d (configured T c .model)) d (omega arith)
+
+  -- what holds at 0 holds somewhere
+  at-zero : (test : ℕ → Bool) → test 0 ≡ true → somewhere (configured T c) test ≡ true
+  at-zero test e =
+      at-some (λ d. permitted (configured T c) d && test d) (configurations (configured T c)) 0 (omega (arith, one-configuration))
+      (ap₂ _&&_ zero-permitted e)
+
+module _ {T : Tables} (F : Formed T) (c : ℕ) where
+  -- 13 and 14
+  relation-accepted : (r : ℕ) → r < relationCount (configured T c) → relationCheck (configured T c) r ≡ Verdict.Accepted
+  relation-accepted r h =
+      let U = configured T c in
+      accepted-both (accepted-if _ (ap not (at-zero T c (λ d. at U d (relationExpression (U .relations) r)) (relation-holds F c r h))))
+      (ap (refuseAt (λ i. refusal 14 r (entryAttribute (U .entries) i) 0))
+      (nothing-seek (apartEverywhere U r) (relationLength (U .relations) r) (relationStart (U .relations) r)
+      (λ i l k.
+      ap not
+      (at-zero T c (λ d. at U d (relationExpression (U .relations) r) && at U d (entryExpression (U .entries) i))
+      (ap₂ _&&_ (relation-holds F c r h) (entry-holds F c i))))))
+
+  -- 12 to 14
+  schema-accepted : modelAndSchemaCheck (configured T c) ≡ Verdict.Accepted
+  schema-accepted =
+      accepted-both (accepted-if _ (ap not (at-zero T c (λ d. true) refl)))
+      (accepted-first (relationCheck (configured T c)) (relationCount (configured T c)) 0 (λ r l h. relation-accepted r (omega arith)))
+
+  module _ (ok : permitted T c ≡ true) (good : passes (configuredSchema T c) (configuredReport T c) ≡ true) where
+    -- they are what Written says
+    pub passes-writes : Written T c
+    passes-writes = tables-written F c ok (passes-present F c ok good)
+
+    -- "sound in form and schema"
+    pub written-sound : Sound (configured T c)
+    written-sound = accepted-both (passes-writes .accepted) schema-accepted
+
+    -- the report of the tables written passes at 0, their one configuration
+    written-passes : (d : ℕ) → permitted (configured T c) d ≡ true
+        → passes (configuredSchema (configured T c) d) (configuredReport (configured T c) d) ≡ true
+    written-passes zero p = passes-written F c ok (passes-present F c ok good) ∙ good
+    written-passes (suc d) p = absurd (false≢true (sym (only-zero T c (suc d) (omega arith)) ∙ p))
+
+    -- given to the checker, they are accepted
+    pub written-checked : answer (configured T c) (Call.check 1024) ≡ Verdict.Accepted
+    unfolding answer
+    written-checked =
+        accepted-both (sound-check (configured T c) .1 written-sound)
+        (accepted-both (typing-passes (passes-writes .formed) .1 written-passes) refl)
+
+    -- the report has at 0 the set that it had at c
+    pub written-set : setOf (configured T c) 0 (report (configured T c)) ≡ setOf T c (report T)
+    written-set =
+        sym (report-columns (passes-writes .formed) 0 (written-passes 0 (zero-permitted T c)))
+        ∙ columns-written F c ok (passes-present F c ok good)
+        ∙ report-columns F c good
+
+    -- so their column rows have at 0 what those of the source have at c, and nothing elsewhere
+    pub written-column : (a : ℕ) → hasColumn (configured T c) a 0 ≡ hasColumn T a c
+    written-column a = ap₂ (λ (t : Bool) (x : ℕ). t && bit x a) (zero-permitted T c ∙ sym ok) written-set
+
+    pub no-other-column : (a d : ℕ) → d ≢ 0 → hasColumn (configured T c) a d ≡ false
+    no-other-column a d n = ap (λ (t : Bool). t && bit (setOf (configured T c) d (report (configured T c))) a) (only-zero T c d n)
+
+    -- what they show
+    pub written-shown : shown (columnRows (configured T c)) 0 ≡ shown (columnRows T) c
+    written-shown = shown-columns (passes-writes .formed) 0 (zero-permitted T c) ∙ written-set ∙ sym (shown-columns F c ok)
+
+    pub nothing-shown : (d : ℕ) → d ≢ 0 → d < 1024 → shown (columnRows (configured T c)) d ≡ 0
+    nothing-shown d n h = shown-nothing (configured T c) d h (only-zero T c d n)
+
+-- ---- an accepted report
+
+-- what is written of an accepted report at c
+pub record WrittenAccepted (T : Tables) (c : ℕ) : Type 0 where
+  pub writes : Written T c
+  pub sound : Sound (configured T c)
+  pub checked : answer (configured T c) (Call.check 1024) ≡ Verdict.Accepted
+  pub column : (a : ℕ) → hasColumn (configured T c) a 0 ≡ hasColumn T a c
+  pub noOther : (a d : ℕ) → d ≢ 0 → hasColumn (configured T c) a d ≡ false
+  pub shows : shown (columnRows (configured T c)) 0 ≡ shown (columnRows T) c
+  pub showsNothing : (d : ℕ) → d ≢ 0 → d < 1024 → shown (columnRows (configured T c)) d ≡ 0
+  -- no table is longer than its source, so that what check 21 asks for is room enough
+  pub room1 : length (configured T c .entries) ≤ length (T .entries)
+  pub room2 : length (configured T c .relations) ≤ length (T .relations)
+  pub room3 : length (configured T c .comparisons) ≤ length (T .comparisons)
+  pub room4 : length (configured T c .queries) ≤ length (T .queries)
+
+module _ (T : Tables) (room : ℕ) (e : answer T (Call.check room) ≡ Verdict.Accepted) where
+  -- an accepted check has accepted 1 to 10, 12 to 14, and 15 to 19
+  before : beforeTyping T (Call.check room) ≡ Verdict.Accepted
+  unfolding answer
+  before = both-accepted _ _ e .0
+
+  pub checked-sound : Sound T
+  checked-sound = gets-sound T (Call.check room) before
+
+  pub checked-formed : Formed T
+  checked-formed = sound-formed T checked-sound
+
+  pub checked-typed : typingCheck T ≡ Verdict.Accepted
+  unfolding answer
+  checked-typed = both-accepted (typingCheck T) _ (both-accepted (beforeTyping T (Call.check room)) _ e .1) .0
+
+  module _ (c : ℕ) (ok : permitted T c ≡ true) where
+    -- the configured report passes at every permitted configuration
+    pub checked-passes : passes (configuredSchema T c) (configuredReport T c) ≡ true
+    checked-passes = typing-passes checked-formed .0 checked-typed c ok
+
+    -- and its columns are those that the rows show there
+    pub checked-columns : columns (configuredSchema T c) (configuredReport T c) ≡ shown (columnRows T) c
+    checked-columns = report-columns checked-formed c checked-passes ∙ sym (shown-columns checked-formed c ok)
+
+    -- the tables written there
+    pub accepted-written : WrittenAccepted T c
+    accepted-written = record {
+      writes = passes-writes checked-formed c ok checked-passes;
+      sound = written-sound checked-formed c ok checked-passes;
+      checked = written-checked checked-formed c ok checked-passes;
+      column = written-column checked-formed c ok checked-passes;
+      noOther = no-other-column checked-formed c ok checked-passes;
+      shows = written-shown checked-formed c ok checked-passes;
+      showsNothing = nothing-shown checked-formed c ok checked-passes;
+      room1 = entries-room checked-formed c;
+      room2 = relations-room checked-formed c;
+      room3 = comparisons-room checked-formed c;
+      room4 = queries-room checked-formed c;
+    }
+
+    room-accepted : (r1 r2 r3 r4 : ℕ) → length (T .entries) ≤ r1 → length (T .relations) ≤ r2 → length (T .comparisons) ≤ r3
+        → length (T .queries) ≤ r4
+        → roomCheck T (0 ∷ r1 ∷ r2 ∷ r3 ∷ r4 ∷ []) ≡ Verdict.Accepted
+    room-accepted r1 r2 r3 r4 h1 h2 h3 h4 = ap (refuseAt (λ t. refusal 21 t 0 0)) (nothing-seek _ 4 1 fits)
+      where
+        fits : (t : ℕ) → 1 ≤ t → t < 5 → ltb (getD (0 ∷ r1 ∷ r2 ∷ r3 ∷ r4 ∷ []) t 0) (length (getD (words T) t [])) ≡ false
+        fits zero l h = absurd (omega arith)
+        fits (suc zero) l h = le-ltb r1 (length (T .entries)) h1
+        fits (suc (suc zero)) l h = le-ltb r2 (length (T .relations)) h2
+        fits (suc (suc (suc zero))) l h = le-ltb r3 (length (T .comparisons)) h3
+        fits (suc (suc (suc (suc zero)))) l h = le-ltb r4 (length (T .queries)) h4
+        fits (suc (suc (suc (suc (suc t))))) l h = absurd (omega arith)
+
+    -- and configuring accepts it there, if each table lent for writing is as long as its source
+    pub configure-accepted : (r1 r2 r3 r4 : ℕ) → length (T .entries) ≤ r1 → length (T .relations) ≤ r2 → length (T .comparisons) ≤ r3
+        → length (T .queries) ≤ r4 → answer T (Call.configure c r1 r2 r3 r4) ≡ Verdict.Accepted
+    unfolding answer
+    configure-accepted r1 r2 r3 r4 h1 h2 h3 h4 =
+        accepted-both checked-sound
+        (accepted-both checked-typed (accepted-both (accepted-if _ (ap not ok)) (room-accepted r1 r2 r3 r4 h1 h2 h3 h4)))

@@ -1,0 +1,219 @@
+-- The relations that configuring writes, with their lists, and all entries of table 1.
+use Prim.Native.Nat.{ℕ, zero, suc, _+_, _*_, _%_, _<_, _≤_}
+use mathlib.Core.Path.{_≡_, refl, sym, ap, ap₂, subst, _∙_}
+use mathlib.Core.Bool.{Bool, true, false, cond, _&&_, and-eq-true-iff}
+use mathlib.Core.List.{List, _++_}
+use mathlib.Core.Option.{none, some}
+use native.Mathlib.Nat.{zero-lt-suc}
+use native.Mathlib.Omega.{arith}
+use borrow.Author.Tests.{ltb-true, lt-ltb, le-ltb}
+use lib.ListN.{length, getD, length-append, List·getD-append}
+use lib.Dec.{ltb, lit<}
+use Rattle.sets.specs.Search.{countBelow}
+use Rattle.sets.specs.Lists.{kept}
+use Rattle.sets.proofs.SearchLaws.{Nth, nth, count-yes, count-no, count-lt}
+use Rattle.sets.proofs.ListLaws.{kept-yes, kept-no, kept-at}
+use Rattle.report.specs.Tables.{Tables, entryAttribute, entryExpression, relationExpression, relationLength, relationStart, query}
+use Rattle.report.specs.Tables.{expressionCount, entryCount, relationCount, queryCount, projectStart}
+use Rattle.report.specs.Expressions.{holds}
+use Rattle.report.specs.Typing.{at, present, listed, relationSet}
+use Rattle.report.specs.Configuring.{keptLength, relationList, relationForm, projectListOf, queryKept, newRelation, configured}
+use Rattle.report.specs.ConfiguredReport.{configuredSchema}
+use Rattle.report.specs.FormChecks.{entryOk, relationOk}
+use Rattle.report.specs.declared.Query.{Query}
+use Rattle.report.proofs.Formed.{Formed}
+use Rattle.report.proofs.FormFacts.{ListIn, QueryLower}
+use Rattle.report.proofs.FitLaws.{list-fits}
+use Rattle.report.proofs.FormedFacts.{relation-list, query-at}
+use Rattle.report.proofs.KeptForms.{kept-inside, kept-all, forms-length, forms-count, first-word, form-word}
+use Rattle.report.proofs.CarriedLists.{Pairs, pairs-join, pairs-even, pairs-attribute, pairs-expression}
+use Rattle.report.proofs.CarriedLists.{Stands, list-length, list-pairs, carried-in, carried-set}
+
+module _ (T : Tables) (c : ℕ) where
+  -- the lists written: those of the relations, and those of the project forms below q
+  abbrev pub relationLists : ℕ → List ℕ
+  relationLists r = kept (present T c) (relationList T c) r
+
+  abbrev pub projectLists : ℕ → List ℕ
+  projectLists q = kept (queryKept T c) (λ q. projectListOf T c q (query (T .queries) q)) q
+
+  pub entries-joined : configured T c .entries ≡ relationLists (relationCount T) ++ projectLists (queryCount T)
+  unfolding configured
+  entries-joined = refl
+
+  pub entries-length : length (configured T c .entries) ≡ length (relationLists (relationCount T)) + length (projectLists (queryCount T))
+  entries-length = ap length entries-joined ∙ length-append (relationLists (relationCount T)) (projectLists (queryCount T))
+
+  -- ---- the head and table 0 written: the one expression is true
+
+  pub one-expression : expressionCount (configured T c) ≡ 1
+  unfolding configured
+  one-expression = refl
+
+  pub same-attributes : configured T c .attributes ≡ T .attributes
+  unfolding configured
+  same-attributes = refl
+
+  pub zero-holds : at (configured T c) 0 0 ≡ true
+  unfolding configured holds
+  zero-holds = refl
+
+  -- ---- table 2 written
+
+  pub relations-length : length (configured T c .relations) ≡ countBelow (present T c) (relationCount T) * 2
+  unfolding configured
+  relations-length = forms-length (present T c) (relationForm T c) 2 (relationCount T) (λ i h k. refl) (zero-lt-suc 1)
+
+  pub relations-count : relationCount (configured T c) ≡ countBelow (present T c) (relationCount T)
+  unfolding configured
+  relations-count = forms-count (present T c) (relationForm T c) 2 (relationCount T) (λ i h k. refl) (zero-lt-suc 1)
+
+  -- a present relation is in table 2
+  pub present-in : (r : ℕ) → present T c r ≡ true → r < relationCount T
+  present-in r p = ltb-true r _ (and-eq-true-iff (ltb r (relationCount T)) _ .0 p .0)
+
+  module _ (r : ℕ) (p : present T c r ≡ true) where
+    -- the form of a present relation: expression 0, and the length of what is kept of its list
+    pub relation-expression-written : relationExpression (configured T c .relations) (newRelation T c r) ≡ 0
+    unfolding configured
+    relation-expression-written = first-word (present T c) (relationForm T c) 2 (relationCount T) (λ i h k. refl) (zero-lt-suc 1) r (present-in r p) p
+
+    pub relation-length-written : relationLength (configured T c .relations) (newRelation T c r)
+        ≡ keptLength T c (relationStart (T .relations) r) (relationLength (T .relations) r)
+    unfolding configured
+    relation-length-written =
+        form-word (present T c) (relationForm T c) 2 (relationCount T) (λ i h k. refl) (zero-lt-suc 1) r (present-in r p) p 1 (lit< tt)
+
+    pub new-relation : newRelation T c r < relationCount (configured T c)
+    new-relation = let l = count-lt (present T c) r (relationCount T) (present-in r p) p in let e = relations-count in omega arith
+
+  -- its list starts where those of the relations before it end
+  pub relation-start : (r : ℕ) → relationStart (configured T c .relations) (newRelation T c r) * 2 ≡ length (relationLists r)
+  relation-start zero = refl
+  relation-start (suc r) = go (present T c r) refl (relation-start r)
+    where
+      go : (t : Bool) → present T c r ≡ t → relationStart (configured T c .relations) (newRelation T c r) * 2 ≡ length (relationLists r)
+          → relationStart (configured T c .relations) (newRelation T c (suc r)) * 2 ≡ length (relationLists (suc r))
+      go true p ih =
+          ap (λ (x : ℕ). relationStart (configured T c .relations) x * 2) (count-yes (present T c) r p)
+          ∙ (let w = relation-length-written r p in
+          let l = list-length T c (relationStart (T .relations) r) (relationLength (T .relations) r) in
+          let m = ap length (kept-yes (present T c) (relationList T c) r p) ∙ length-append (relationLists r) (relationList T c r) in
+          omega arith)
+      go false p ih =
+          ap (λ (x : ℕ). relationStart (configured T c .relations) x * 2) (count-no (present T c) r p) ∙ ih
+          ∙ sym (ap length (kept-no (present T c) (relationList T c) r p))
+
+  pub relations-end : relationStart (configured T c .relations) (relationCount (configured T c)) * 2 ≡ length (relationLists (relationCount T))
+  relations-end = ap (λ (x : ℕ). relationStart (configured T c .relations) x * 2) relations-count ∙ relation-start (relationCount T)
+
+  -- and stands there
+  pub relation-stands : (r : ℕ) → present T c r ≡ true
+      → Stands (configured T c .entries) (relationStart (configured T c .relations) (newRelation T c r)) (relationList T c r)
+  relation-stands r p =
+      let h = present-in r p in
+      let s = relation-start r in
+      let k = kept-inside (present T c) (relationList T c) (relationCount T) r h p in
+      let t = entries-length in
+      record {
+        inside = omega arith;
+        reads = λ j l.
+            ap₂ (λ (e : List ℕ) (x : ℕ). getD e (x + j) 0) entries-joined s
+            ∙ List·getD-append (relationLists (relationCount T)) (projectLists (queryCount T)) 0 (length (relationLists r) + j) (omega arith)
+            ∙ kept-at (present T c) (relationList T c) 0 (relationCount T) r j h p l;
+      }
+
+module _ {T : Tables} (F : Formed T) (c : ℕ) where
+  -- ---- every entry written
+
+  project-pairs : (q : ℕ) (x : Query) → QueryLower T q x → Pairs (T .attributes) (projectListOf T c q x)
+  project-pairs q Query.Malformed l = absurd l
+  project-pairs q Query.Empty l = tt
+  project-pairs q (Query.Relation a) l = tt
+  project-pairs q (Query.Select a b) l = tt
+  project-pairs q (Query.Project a b) l = list-pairs T c (projectStart T q) a F (l .0 .inside)
+  project-pairs q (Query.Choice a b d) l = tt
+  project-pairs q (Query.Product a b) l = tt
+  project-pairs q (Query.Union a b) l = tt
+  project-pairs q (Query.Intersection a b) l = tt
+
+  entries-pairs : Pairs (T .attributes) (configured T c .entries)
+  entries-pairs =
+      rw (entries-joined T c)
+      (pairs-join (T .attributes) (relationLists T c (relationCount T)) (projectLists T c (queryCount T))
+      (kept-all (present T c) (relationList T c) (Pairs (T .attributes)) tt (pairs-join (T .attributes)) (relationCount T)
+      (λ r h k. list-pairs T c (relationStart (T .relations) r) (relationLength (T .relations) r) F (relation-list F r h .inside)))
+      (kept-all (queryKept T c) (λ q. projectListOf T c q (query (T .queries) q)) (Pairs (T .attributes)) tt (pairs-join (T .attributes))
+      (queryCount T)
+      (λ q h k. project-pairs q (query (T .queries) q) (query-at F q h))))
+
+  pub entries-even : length (configured T c .entries) % 2 ≡ 0
+  entries-even = pairs-even (T .attributes) (configured T c .entries) entries-pairs
+
+  -- holds at 0
+  pub entry-holds : (k : ℕ) → at (configured T c) 0 (entryExpression (configured T c .entries) k) ≡ true
+  entry-holds k = ap (at (configured T c) 0) (pairs-expression (T .attributes) (configured T c .entries) entries-pairs k) ∙ zero-holds T c
+
+  -- check 5 of the tables written
+  pub entries-ok : (k : ℕ) → k < entryCount (configured T c) → entryOk (configured T c) k ≡ true
+  entries-ok k h =
+      let a = pairs-attribute (T .attributes) (configured T c .entries) entries-pairs k h in
+      let e = pairs-expression (T .attributes) (configured T c .entries) entries-pairs k in
+      ap₂ _&&_
+      (lt-ltb (entryAttribute (configured T c .entries) k) (configured T c .attributes) (omega (arith, same-attributes T c)))
+      (lt-ltb (entryExpression (configured T c .entries) k) (expressionCount (configured T c)) (omega (arith, one-expression T c)))
+
+  -- ---- every relation written
+
+  module _ (r : ℕ) (p : present T c r ≡ true) where
+    relation-list-written : ListIn (configured T c .entries) (relationStart (configured T c .relations) (newRelation T c r))
+        (relationLength (configured T c .relations) (newRelation T c r))
+    relation-list-written =
+        rw (relation-length-written T c r p)
+        (carried-in T c (relationStart (T .relations) r) (relationLength (T .relations) r) (configured T c) _ (relation-stands T c r p)
+        (relation-list F r (present-in T c r p)))
+
+    relation-ok : relationOk (configured T c) (newRelation T c r) ≡ true
+    relation-ok =
+        let e = relation-expression-written T c r p in
+        ap₂ _&&_
+        (lt-ltb (relationExpression (configured T c .relations) (newRelation T c r)) (expressionCount (configured T c))
+        (omega (arith, one-expression T c)))
+        (list-fits relation-list-written)
+
+    -- its set is the one that it has at c
+    pub relation-set-written : relationSet (configured T c) 0 (newRelation T c r) ≡ relationSet T c r
+    relation-set-written =
+        ap (listed (configured T c) 0 (relationStart (configured T c .relations) (newRelation T c r))) (relation-length-written T c r p)
+        ∙ carried-set T c (relationStart (T .relations) r) (relationLength (T .relations) r) (configured T c) _ (relation-stands T c r p) entry-holds
+
+  -- each written relation is one that is present
+  pub relation-of : (k : ℕ) → k < relationCount (configured T c) → Nth (present T c) (relationCount T) k
+  relation-of k h = nth (present T c) (relationCount T) k (let e = relations-count T c in omega arith)
+
+  -- check 6 of the tables written
+  pub relations-ok : (k : ℕ) → k < relationCount (configured T c) → relationOk (configured T c) k ≡ true
+  relations-ok k h = let n = relation-of k h in subst (λ (x : ℕ). relationOk (configured T c) x ≡ true) (n .number) (relation-ok (n .old) (n .passed))
+
+  -- every relation written is present at 0
+  pub relation-holds : (k : ℕ) → k < relationCount (configured T c) → at (configured T c) 0 (relationExpression (configured T c .relations) k) ≡ true
+  relation-holds k h =
+      let n = relation-of k h in
+      subst (λ (x : ℕ). at (configured T c) 0 (relationExpression (configured T c .relations) x) ≡ true) (n .number)
+      (ap (at (configured T c) 0) (relation-expression-written T c (n .old) (n .passed)) ∙ zero-holds T c)
+
+  pub relation-present : (k : ℕ) → k < relationCount (configured T c) → present (configured T c) 0 k ≡ true
+  relation-present k h = ap₂ _&&_ (lt-ltb k (relationCount (configured T c)) h) (relation-holds k h)
+
+  -- ---- the schema
+
+  -- under its new number a present relation is in the schema of the tables written as it was in the configured schema
+  pub schema-written : (r : ℕ) → present T c r ≡ true → configuredSchema (configured T c) 0 (newRelation T c r) ≡ configuredSchema T c r
+  schema-written r p =
+      ap₂ (λ (t : Bool) (x : ℕ). cond t (some x) none) (relation-present (newRelation T c r) (new-relation T c r p) ∙ sym p)
+      (relation-set-written r p)
+
+-- no other relation is in that schema
+pub schema-end : (U : Tables) (d k : ℕ) → relationCount U ≤ k → configuredSchema U d k ≡ none
+schema-end U d k h =
+    ap (λ (t : Bool). cond (t && at U d (relationExpression (U .relations) k)) (some (relationSet U d k)) none) (le-ltb k (relationCount U) h)

@@ -1,0 +1,221 @@
+-- The tables that configuring writes pass checks 1 to 10, if every relation that c reaches is present. That holds where the report is accepted;
+-- from the form checks of the source alone it does not follow.
+use Prim.Native.Nat.{ℕ, zero, suc, _-_, _<_}
+use mathlib.Core.Path.{_≡_, refl, sym, ap, subst, _∙_}
+use mathlib.Core.Logic.{⊎-elim, _⊎_, inl, inr}
+use mathlib.Core.Bool.{Bool, true, false, _||_, false≢true}
+use native.Mathlib.Omega.{arith}
+use borrow.Author.Tests.{eqb-true, eq-eqb}
+use lib.ListN.{length}
+use lib.Dec.{eqb}
+use Rattle.sets.specs.Search.{countBelow}
+use Rattle.sets.proofs.SearchLaws.{Nth, nth, count-lt, count-le, count-one, at-some}
+use Rattle.report.specs.Tables.{Tables, shapeOf, expressionCount, relationCount, comparisonCount, queryCount, projectStart, report}
+use Rattle.report.specs.Expressions.{permitted}
+use Rattle.report.specs.Typing.{present, reached}
+use Rattle.report.specs.FormChecks.{isOperand, takenBelow, expressionOk, queryOk}
+use Rattle.report.specs.Configuring.{isQueryChoice, queryTarget, comparisonKept, queryKept, newQuery, configured}
+use Rattle.report.specs.declared.Query.{Query}
+use Rattle.report.proofs.Formed.{Formed, Sized}
+use Rattle.report.proofs.FormFacts.{Free, FreePair, QueryLower}
+use Rattle.report.proofs.FitLaws.{query-fits}
+use Rattle.report.proofs.FormedFacts.{query-at, operand-lower, operand-once, counts}
+use Rattle.report.proofs.PassingOn.{or-either, or-first, or-second, same-number}
+use Rattle.report.proofs.LeadLaws.{formAt, lead, leads-apart}
+use Rattle.report.proofs.ReachLaws.{Taker, kept-both, operand-reached, target-kept, kept-count, kept-taken}
+use Rattle.report.proofs.WrittenComparisons.{comparisons-length, comparisons-ok, new-comparison}
+use Rattle.report.proofs.CarriedLists.{carried-in}
+use Rattle.report.proofs.WrittenEntries.{entries-even, entries-ok, relations-length, relations-ok, new-relation}
+use Rattle.report.proofs.WrittenQueries.{renumberedQuery, queries-length, queries-count, query-written, project-stands, all-used, entries-room}
+
+-- every relation that c reaches is present
+abbrev pub RelationsPresent : Tables → ℕ → Type 0
+RelationsPresent T c = (q a : ℕ) → reached T c q ≡ true → formAt T q ≡ Query.Relation a → present T c a ≡ true
+
+-- ---- the operands of a form, renumbered
+
+module _ (T : Tables) (c : ℕ) where
+  -- k is the new number of an operand
+  abbrev NewOperand : ℕ → Query → Type 0
+  NewOperand k y = (z : ℕ) × (isOperand z y ≡ true) × (k ≡ newQuery T c z)
+
+  one-old : (k b : ℕ) → eqb k (newQuery T c b) ≡ true → (z : ℕ) × (eqb z b ≡ true) × (k ≡ newQuery T c z)
+  one-old k b o = (b, same-number b, eqb-true k (newQuery T c b) o)
+
+  two-old : (k a b : ℕ) → (eqb k (newQuery T c a) || eqb k (newQuery T c b)) ≡ true → (z : ℕ) × ((eqb z a || eqb z b) ≡ true) × (k ≡ newQuery T c z)
+  two-old k a b o =
+      ⊎-elim (λ e. (a, or-first _ _ (same-number a), eqb-true k (newQuery T c a) e))
+      (λ e. (b, or-second (eqb b a) _ (same-number b), eqb-true k (newQuery T c b) e))
+      (or-either (eqb k (newQuery T c a)) (eqb k (newQuery T c b)) o)
+
+  old-operand : (q : ℕ) (y : Query) (k : ℕ) → isOperand k (renumberedQuery T c q y) ≡ true → NewOperand k y
+  old-operand q Query.Malformed k o = absurd (false≢true o)
+  old-operand q Query.Empty k o = absurd (false≢true o)
+  old-operand q (Query.Relation a) k o = absurd (false≢true o)
+  old-operand q (Query.Select a b) k o = one-old k b o
+  old-operand q (Query.Project a b) k o = one-old k b o
+  old-operand q (Query.Choice a b d) k o = absurd (false≢true o)
+  old-operand q (Query.Product a b) k o = two-old k a b o
+  old-operand q (Query.Union a b) k o = two-old k a b o
+  old-operand q (Query.Intersection a b) k o = two-old k a b o
+
+  one-new : (z b : ℕ) → eqb z b ≡ true → eqb (newQuery T c z) (newQuery T c b) ≡ true
+  one-new z b o = eq-eqb (newQuery T c z) (newQuery T c b) (ap (newQuery T c) (eqb-true z b o))
+
+  two-new : (z a b : ℕ) → (eqb z a || eqb z b) ≡ true → (eqb (newQuery T c z) (newQuery T c a) || eqb (newQuery T c z) (newQuery T c b)) ≡ true
+  two-new z a b o =
+      ⊎-elim (λ e. or-first _ _ (one-new z a e)) (λ e. or-second (eqb (newQuery T c z) (newQuery T c a)) _ (one-new z b e))
+      (or-either (eqb z a) (eqb z b) o)
+
+  new-operand : (q : ℕ) (y : Query) → isQueryChoice T c y ≡ false → (z : ℕ) → isOperand z y ≡ true
+      → isOperand (newQuery T c z) (renumberedQuery T c q y) ≡ true
+  new-operand q Query.Malformed p z o = o
+  new-operand q Query.Empty p z o = o
+  new-operand q (Query.Relation a) p z o = o
+  new-operand q (Query.Select a b) p z o = one-new z b o
+  new-operand q (Query.Project a b) p z o = one-new z b o
+  new-operand q (Query.Choice a b d) p z o = absurd (false≢true (sym p))
+  new-operand q (Query.Product a b) p z o = two-new z a b o
+  new-operand q (Query.Union a b) p z o = two-new z a b o
+  new-operand q (Query.Intersection a b) p z o = two-new z a b o
+
+module _ {T : Tables} (F : Formed T) (c : ℕ) (ok : permitted T c ≡ true) where
+  operand-kept : (q x : ℕ) → queryKept T c q ≡ true → isOperand x (formAt T q) ≡ true → queryKept T c (queryTarget T c x) ≡ true
+  operand-kept q x k o = target-kept F c ok x (operand-reached F c ok q x k o)
+
+  -- operands of kept forms that have one new number are one
+  new-same : (p q x y : ℕ) → p < queryCount T → q < queryCount T → queryKept T c p ≡ true → queryKept T c q ≡ true → isOperand x (formAt T p) ≡ true
+      → isOperand y (formAt T q) ≡ true → newQuery T c x ≡ newQuery T c y → x ≡ y
+  new-same p q x y h k m n o r e =
+      leads-apart F c p q x y h k (kept-both T c p m .1) (kept-both T c q n .1) o r
+      (count-one (queryKept T c) (queryTarget T c x) (queryTarget T c y) (operand-kept p x m o) (operand-kept q y n r) e)
+
+  -- the operands of a kept form are free for the form that is written
+  new-free : (q x : ℕ) → q < queryCount T → queryKept T c q ≡ true → isOperand x (formAt T q) ≡ true
+      → Free (configured T c .queries) (countBelow (queryKept T c) q) (newQuery T c x)
+  new-free q x h k o = record {
+    lower =
+        let m = operand-lower F q x h o in
+        let l = lead F c x (omega arith) .low in
+        count-lt (queryKept T c) (queryTarget T c x) q (omega arith) (operand-kept q x k o);
+    untaken = λ p l. go p l (isOperand (newQuery T c x) (formAt (configured T c) p)) refl;
+  }
+    where
+      go : (p : ℕ) → p < countBelow (queryKept T c) q → (t : Bool) → isOperand (newQuery T c x) (formAt (configured T c) p) ≡ t → t ≡ false
+      go p l false e = refl
+      go p l true e =
+          let n = nth (queryKept T c) q p l in
+          let b = n .below in
+          let i : n .old < queryCount T = omega arith in
+          let z = old-operand T c (n .old) (formAt T (n .old)) (newQuery T c x)
+          (rw (← query-written F c (n .old) i (n .passed), n .number) e) in
+          let s = new-same q (n .old) x (z .0) h i k (n .passed) o (z .1) (z .2) in
+          let same = operand-once F q (n .old) x h i o (rw s (z .1)) in
+          absurd (omega arith)
+
+  two-free : (q a b : ℕ) → q < queryCount T → queryKept T c q ≡ true → isOperand a (formAt T q) ≡ true → isOperand b (formAt T q) ≡ true → (a ≡ b → ⊥)
+      → FreePair (configured T c .queries) (countBelow (queryKept T c) q) (newQuery T c a) (newQuery T c b)
+  two-free q a b h k o r n = record {
+    first = new-free q a h k o;
+    second = new-free q b h k r;
+    apart = λ e. n (new-same q q a b h h k k o r e);
+  }
+
+  module _ (P : RelationsPresent T c) where
+    -- a pair of operands of form q, given what the form is
+    pair-free : (q a b : ℕ) → q < queryCount T → queryKept T c q ≡ true → ((x : ℕ) → isOperand x (formAt T q) ≡ (eqb x a || eqb x b))
+        → FreePair (T .queries) q a b → FreePair (configured T c .queries) (countBelow (queryKept T c) q) (newQuery T c a) (newQuery T c b)
+    pair-free q a b h k e l =
+        two-free q a b h k (e a ∙ or-first _ _ (same-number a)) (e b ∙ or-second (eqb b a) _ (same-number b)) (l .apart)
+
+    renumbered-lower : (q : ℕ) → q < queryCount T → queryKept T c q ≡ true → (y : Query) → formAt T q ≡ y → QueryLower T q y
+        → QueryLower (configured T c) (countBelow (queryKept T c) q) (renumberedQuery T c q y)
+    renumbered-lower q h k Query.Malformed e l = l
+    renumbered-lower q h k Query.Empty e l = tt
+    renumbered-lower q h k (Query.Relation a) e l = new-relation T c a (P q a (kept-both T c q k .0) e)
+    renumbered-lower q h k (Query.Select a b) e l = (new-comparison F c a (l .0), new-free q b h k (ap (isOperand b) e ∙ same-number b))
+    renumbered-lower q h k (Query.Project a b) e l = (
+      carried-in T c (projectStart T q) a (configured T c) _ (project-stands F c q a b h k e) (l .0),
+      new-free q b h k (ap (isOperand b) e ∙ same-number b),
+    )
+    renumbered-lower q h k (Query.Choice a b d) e l = false≢true (sym (kept-both T c q k .1) ∙ ap (isQueryChoice T c) e)
+    renumbered-lower q h k (Query.Product a b) e l = pair-free q a b h k (λ x. ap (isOperand x) e) l
+    renumbered-lower q h k (Query.Union a b) e l = pair-free q a b h k (λ x. ap (isOperand x) e) l
+    renumbered-lower q h k (Query.Intersection a b) e l = pair-free q a b h k (λ x. ap (isOperand x) e) l
+
+    -- each written form is a kept one
+    pub query-of : (k : ℕ) → k < queryCount (configured T c) → Nth (queryKept T c) (queryCount T) k
+    query-of k h = nth (queryKept T c) (queryCount T) k (let e = queries-count F c in omega arith)
+
+    -- check 8 of the tables written
+    queries-ok : (k : ℕ) → k < queryCount (configured T c) → queryOk (configured T c) k ≡ true
+    queries-ok k h =
+        let n = query-of k h in
+        subst (λ (x : ℕ). queryOk (configured T c) x ≡ true) (n .number)
+        (query-fits (configured T c) _ (formAt (configured T c) (countBelow (queryKept T c) (n .old)))
+        (rw (query-written F c (n .old) (n .below) (n .passed))
+        (renumbered-lower (n .old) (n .below) (n .passed) (formAt T (n .old)) refl (query-at F (n .old) (n .below)))))
+
+    -- check 9
+    queries-taken : (k : ℕ) → k < queryCount (configured T c) - 1 → takenBelow (configured T c .queries) (queryCount (configured T c)) k ≡ true
+    queries-taken k h = let n = query-of k (omega arith) in go n (kept-taken F c ok (n .old) (n .passed))
+      where
+        go : (n : Nth (queryKept T c) (queryCount T) k) → (queryTarget T c (report T) ≡ n .old) ⊎ Taker T c (n .old)
+            → takenBelow (configured T c .queries) (queryCount (configured T c)) k ≡ true
+        go n (inl e) =
+            absurd
+            (let a = n .number in
+            let b = ap (countBelow (queryKept T c)) e in
+            let d = kept-count F c ok in
+            let f = queries-count F c in
+            omega arith)
+        go n (inr t) =
+            at-some (λ p. isOperand k (formAt (configured T c) p)) (queryCount (configured T c)) (countBelow (queryKept T c) (t .by))
+            (let l = count-lt (queryKept T c) (t .by) (queryCount T) (t .inside) (t .isKept) in let f = queries-count F c in omega arith)
+            (rw (query-written F c (t .by) (t .inside) (t .isKept), ← n .number, ← t .leadsTo)
+            (new-operand T c (t .by) (formAt T (t .by)) (kept-both T c (t .by) (t .isKept) .1) (t .operand) (t .isOperandOf)))
+
+    -- ---- the whole
+
+    first-expression : (f : ℕ) → f < expressionCount (configured T c) → expressionOk (configured T c) f ≡ true
+    unfolding configured
+    first-expression zero h = refl
+    first-expression (suc f) h = absurd (omega arith)
+
+    entries-sized : Sized (shapeOf 2 0 512) (length (configured T c .entries))
+    entries-sized = let e = entries-even F c in let m = entries-room F c in let n = counts F .most1 in let w = counts F .words1 in omega arith
+
+    relations-sized : Sized (shapeOf 2 0 32) (length (configured T c .relations))
+    relations-sized = let e = relations-length T c in let m = count-le (present T c) (relationCount T) in let n = counts F .most2 in omega arith
+
+    comparisons-sized : Sized (shapeOf 5 0 256) (length (configured T c .comparisons))
+    comparisons-sized =
+        let e = comparisons-length F c in let m = count-le (comparisonKept T c) (comparisonCount T) in let n = counts F .most3 in omega arith
+
+    queries-sized : Sized (shapeOf 4 1 256) (length (configured T c .queries))
+    queries-sized =
+        let e = queries-length F c in
+        let d = kept-count F c ok in
+        let m = count-le (queryKept T c) (queryCount T) in
+        let n = counts F .most4 in
+        omega arith
+
+    pub written-formed : Formed (configured T c)
+    unfolding configured
+    written-formed = record {
+      few = omega arith;
+      narrow = F .narrow;
+      sized0 = omega arith;
+      sized1 = entries-sized;
+      sized2 = relations-sized;
+      sized3 = comparisons-sized;
+      sized4 = queries-sized;
+      expressionsOk = first-expression;
+      modelIn = omega arith;
+      entriesOk = entries-ok F c;
+      relationsOk = relations-ok F c;
+      comparisonsOk = comparisons-ok F c;
+      queriesOk = queries-ok;
+      allTaken = queries-taken;
+      allUsed = all-used F c;
+    }

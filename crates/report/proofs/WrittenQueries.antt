@@ -1,0 +1,200 @@
+-- The query forms that configuring writes: each is a kept one of the source, its references renumbered. The lists of its project forms.
+use Prim.Native.Nat.{ℕ, zero, suc, _+_, _*_, _<_, _≤_}
+use mathlib.Core.Path.{_≡_, refl, sym, ap, ap₂, _∙_}
+use mathlib.Core.Bool.{Bool, true, false, false≢true}
+use mathlib.Core.List.{List}
+use native.Mathlib.Nat.{le-refl, zero-lt-suc}
+use native.Mathlib.Omega.{arith}
+use lib.ListN.{length, getD, length-append}
+use lib.Seq.{getD-append-add}
+use lib.Dec.{lit<}
+use Rattle.sets.specs.Search.{countBelow}
+use Rattle.sets.proofs.SearchLaws.{count-yes, count-no, count-le}
+use Rattle.sets.proofs.ListLaws.{kept-yes, kept-no, kept-at}
+use Rattle.report.specs.Tables.{Tables, word, queryOf, query, relationLength, relationStart, projectLength, projectStart}
+use Rattle.report.specs.Tables.{entryCount, relationCount, comparisonCount, queryCount}
+use Rattle.report.specs.Typing.{present}
+use Rattle.report.specs.Configuring.{isQueryChoice, comparisonKept, queryKept, newRelation, newComparison, newQuery, entryKept}
+use Rattle.report.specs.Configuring.{keptLength, keptList, relationList, projectListOf, queryFormOf, configured}
+use Rattle.report.specs.declared.Query.{Query}
+use Rattle.report.proofs.Formed.{Formed}
+use Rattle.report.proofs.FormFacts.{QueryLower}
+use Rattle.report.proofs.FormedFacts.{query-at, lists-end, counts}
+use Rattle.report.proofs.LeadLaws.{formAt}
+use Rattle.report.proofs.ReachLaws.{kept-both}
+use Rattle.report.proofs.KeptForms.{kept-inside, kept-short, forms-length, forms-count, first-word, form-word}
+use Rattle.report.proofs.CarriedLists.{Stands, list-length}
+use Rattle.report.proofs.WrittenEntries.{relationLists, projectLists, entries-joined, entries-length, relations-length, relations-end}
+use Rattle.report.proofs.WrittenComparisons.{comparisons-length}
+
+-- ---- one form
+
+module _ (T : Tables) (c q : ℕ) where
+  -- the plain form q, its references renumbered
+  abbrev pub renumberedQuery : Query → Query
+  renumberedQuery Query.Malformed = Query.Malformed
+  renumberedQuery Query.Empty = Query.Empty
+  renumberedQuery (Query.Relation a) = Query.Relation (newRelation T c a)
+  renumberedQuery (Query.Select a b) = Query.Select (newComparison T c a) (newQuery T c b)
+  renumberedQuery (Query.Project a b) = Query.Project (keptLength T c (projectStart T q) a) (newQuery T c b)
+  renumberedQuery (Query.Choice a b d) = Query.Malformed
+  renumberedQuery (Query.Product a b) = Query.Product (newQuery T c a) (newQuery T c b)
+  renumberedQuery (Query.Union a b) = Query.Union (newQuery T c a) (newQuery T c b)
+  renumberedQuery (Query.Intersection a b) = Query.Intersection (newQuery T c a) (newQuery T c b)
+
+  -- the words of a form, and what they say
+  abbrev readQuery : List ℕ → Query
+  readQuery l = queryOf (getD l 0 0) (getD l 1 0) (getD l 2 0) (getD l 3 0)
+
+  -- what is written for a plain form that stands in the table: four words, which say it with its references renumbered, and its list
+  record Form (x : Query) : Type 0 where
+    wide : length (queryFormOf T c q x) ≡ 4
+    says : readQuery (queryFormOf T c q x) ≡ renumberedQuery x
+    lists : length (projectListOf T c q x) ≡ projectLength (renumberedQuery x) * 2
+
+  form : (x : Query) → QueryLower T q x → isQueryChoice T c x ≡ false → Form x
+  form Query.Malformed l p = absurd l
+  form Query.Empty l p = record { wide = refl; says = refl; lists = refl }
+  form (Query.Relation a) l p = record { wide = refl; says = refl; lists = refl }
+  form (Query.Select a b) l p = record { wide = refl; says = refl; lists = refl }
+  form (Query.Project a b) l p = record { wide = refl; says = refl; lists = list-length T c (projectStart T q) a }
+  form (Query.Choice a b d) l p = absurd (false≢true (sym p))
+  form (Query.Product a b) l p = record { wide = refl; says = refl; lists = refl }
+  form (Query.Union a b) l p = record { wide = refl; says = refl; lists = refl }
+  form (Query.Intersection a b) l p = record { wide = refl; says = refl; lists = refl }
+
+  -- a list is not longer than it was
+  list-short : (start count : ℕ) → length (keptList T c start count) ≤ count * 2
+  list-short start count = let e = list-length T c start count in let m = count-le (entryKept T c start) count in omega arith
+
+  project-short : (x : Query) → length (projectListOf T c q x) ≤ projectLength x * 2
+  project-short Query.Malformed = omega arith
+  project-short Query.Empty = omega arith
+  project-short (Query.Relation a) = omega arith
+  project-short (Query.Select a b) = omega arith
+  project-short (Query.Project a b) = list-short (projectStart T q) a
+  project-short (Query.Choice a b d) = omega arith
+  project-short (Query.Product a b) = omega arith
+  project-short (Query.Union a b) = omega arith
+  project-short (Query.Intersection a b) = omega arith
+
+-- ---- table 4 written
+
+module _ {T : Tables} (F : Formed T) (c : ℕ) where
+  abbrev blockOf : ℕ → List ℕ
+  blockOf q = queryFormOf T c q (query (T .queries) q)
+
+  abbrev projectList : ℕ → List ℕ
+  projectList q = projectListOf T c q (query (T .queries) q)
+
+  form-of : (q : ℕ) → q < queryCount T → queryKept T c q ≡ true → Form T c q (formAt T q)
+  form-of q h k = form T c q (formAt T q) (query-at F q h) (kept-both T c q k .1)
+
+  wide : (q : ℕ) → q < queryCount T → queryKept T c q ≡ true → length (blockOf q) ≡ 4
+  wide q h k = form-of q h k .wide
+
+  pub queries-length : length (configured T c .queries) ≡ countBelow (queryKept T c) (queryCount T) * 4
+  unfolding configured
+  queries-length = forms-length (queryKept T c) blockOf 4 (queryCount T) wide (zero-lt-suc 3)
+
+  pub queries-count : queryCount (configured T c) ≡ countBelow (queryKept T c) (queryCount T)
+  unfolding configured
+  queries-count = forms-count (queryKept T c) blockOf 4 (queryCount T) wide (zero-lt-suc 3)
+
+  module _ (q : ℕ) (h : q < queryCount T) (k : queryKept T c q ≡ true) where
+    words-written : (j : ℕ) → j < 4 → word (configured T c .queries) 4 (countBelow (queryKept T c) q) j ≡ getD (blockOf q) j 0
+    unfolding configured
+    words-written = form-word (queryKept T c) blockOf 4 (queryCount T) wide (zero-lt-suc 3) q h k
+
+    kind-written : getD (configured T c .queries) (countBelow (queryKept T c) q * 4) 0 ≡ getD (blockOf q) 0 0
+    unfolding configured
+    kind-written = first-word (queryKept T c) blockOf 4 (queryCount T) wide (zero-lt-suc 3) q h k
+
+    -- a kept form is written as it was, its references renumbered
+    pub query-written : formAt (configured T c) (countBelow (queryKept T c) q) ≡ renumberedQuery T c q (formAt T q)
+    query-written =
+        (λ i. queryOf (kind-written i) (words-written 1 (lit< tt) i) (words-written 2 (lit< tt) i) (words-written 3 (lit< tt) i))
+        ∙ form-of q h k .says
+
+  -- ---- the lists of project forms
+
+  -- the list of a kept project form starts where those of the relations and of the kept forms before it end
+  pub project-start : (q : ℕ) → q ≤ queryCount T
+      → projectStart (configured T c) (countBelow (queryKept T c) q) * 2 ≡ length (relationLists T c (relationCount T)) + length (projectLists T c q)
+  project-start zero h = let e = relations-end T c in omega arith
+  project-start (suc q) h = go (queryKept T c q) refl (project-start q (omega arith))
+    where
+      go : (t : Bool) → queryKept T c q ≡ t
+          → projectStart (configured T c) (countBelow (queryKept T c) q) * 2
+          ≡ length (relationLists T c (relationCount T)) + length (projectLists T c q)
+          → projectStart (configured T c) (countBelow (queryKept T c) (suc q)) * 2
+          ≡ length (relationLists T c (relationCount T)) + length (projectLists T c (suc q))
+      go true k ih =
+          ap (λ (x : ℕ). projectStart (configured T c) x * 2) (count-yes (queryKept T c) q k)
+          ∙ (let w = ap projectLength (query-written q h k) in
+          let l = form-of q h k .lists in
+          let m = ap length (kept-yes (queryKept T c) projectList q k) ∙ length-append (projectLists T c q) (projectList q) in
+          omega arith)
+      go false k ih =
+          ap (λ (x : ℕ). projectStart (configured T c) x * 2) (count-no (queryKept T c) q k) ∙ ih
+          ∙ ap (λ (l : List ℕ). length (relationLists T c (relationCount T)) + length l) (sym (kept-no (queryKept T c) projectList q k))
+
+  -- check 10 of the tables written
+  pub all-used : entryCount (configured T c) ≤ projectStart (configured T c) (queryCount (configured T c))
+  all-used =
+      let e = entries-length T c in
+      let s = ap (λ (x : ℕ). projectStart (configured T c) x * 2) queries-count ∙ project-start (queryCount T) (le-refl _) in
+      omega arith
+
+  -- and stands there
+  pub project-stands : (q a b : ℕ) → q < queryCount T → queryKept T c q ≡ true → formAt T q ≡ Query.Project a b
+      → Stands (configured T c .entries) (projectStart (configured T c) (countBelow (queryKept T c) q)) (keptList T c (projectStart T q) a)
+  project-stands q a b h k form =
+      rw (← ap (projectListOf T c q) form)
+      (let s = project-start q (omega arith) in
+      let i = kept-inside (queryKept T c) projectList (queryCount T) q h k in
+      let t = entries-length T c in
+      let first = relationLists T c (relationCount T) in
+      record {
+        inside = omega arith;
+        reads = λ j l.
+            let place : length first + length (projectLists T c q) + j ≡ length first + (length (projectLists T c q) + j) = omega arith in
+            ap₂ (λ (e : List ℕ) (x : ℕ). getD e x 0) (entries-joined T c) (ap (λ (x : ℕ). x + j) s ∙ place)
+            ∙ getD-append-add first (projectLists T c (queryCount T)) (length (projectLists T c q) + j) 0
+            ∙ kept-at (queryKept T c) projectList 0 (queryCount T) q j h k l;
+      })
+
+  -- ---- no table is longer than its source
+
+  relations-shorter : (r : ℕ) → length (relationLists T c r) ≤ relationStart (T .relations) r * 2
+  relations-shorter zero = omega arith
+  relations-shorter (suc r) =
+      let i = relations-shorter r in
+      let k = kept-short (present T c) (relationList T c) r in
+      let l = list-short T c r (relationStart (T .relations) r) (relationLength (T .relations) r) in
+      omega arith
+
+  lists-shorter : (q : ℕ) → length (relationLists T c (relationCount T)) + length (projectLists T c q) ≤ projectStart T q * 2
+  lists-shorter zero = let l = relations-shorter (relationCount T) in omega arith
+  lists-shorter (suc q) =
+      let i = lists-shorter q in
+      let k = kept-short (queryKept T c) projectList q in
+      let l = project-short T c q (formAt T q) in
+      omega arith
+
+  pub entries-room : length (configured T c .entries) ≤ length (T .entries)
+  entries-room =
+      let e = entries-length T c in
+      let l = lists-shorter (queryCount T) in
+      let u = lists-end F in
+      let w = counts F .words1 in
+      omega arith
+
+  pub relations-room : length (configured T c .relations) ≤ length (T .relations)
+  relations-room = let e = relations-length T c in let m = count-le (present T c) (relationCount T) in omega arith
+
+  pub comparisons-room : length (configured T c .comparisons) ≤ length (T .comparisons)
+  comparisons-room = let e = comparisons-length F c in let m = count-le (comparisonKept T c) (comparisonCount T) in omega arith
+
+  pub queries-room : length (configured T c .queries) ≤ length (T .queries)
+  queries-room = let e = queries-length in let m = count-le (queryKept T c) (queryCount T) in omega arith

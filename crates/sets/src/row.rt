@@ -1,0 +1,256 @@
+// Rows: sets of configurations.
+use crate::Found;
+ghost use mathlib.Core.Path.{_≡_};
+ghost use mathlib.Core.Bool.{true, false};
+ghost use Prim.Native.Nat.{ℕ, _+_, _*_, _<_, _≤_, _^_};
+ghost use lib.ListN.{length};
+ghost use lib.Dec.{ltb};
+ghost use Rattle.sets.specs.Bits.{bit};
+ghost use Rattle.sets.specs.Rows.{rowBit, wordOf, rowOf, within, rowJoin, rowIntersect, rowMinus, rowIsEmpty, rowLowest, rowIn, withRow};
+
+// A set of configurations below 1,024: configuration c is bit c mod 64 of word c div 64.
+pub struct Row {
+    pub words: [u64; 16],
+}
+
+impl Row {
+    pub const WORDS: usize = 16;
+
+    pub fn empty() -> Row
+        ensures { λ r. ⌜ r .words ≡ rowOf 16 (λ c. false) ⌝ }
+    {
+        Row { words: [0; 16] }
+    }
+
+    // The configurations of n features.
+    pub fn full(n: usize) -> Row
+        requires { ⌜ n ≤ 10 ⌝ }
+        ensures { λ r. ⌜ r .words ≡ rowOf 16 (within n (λ c. true)) ⌝ }
+    {
+        let many: usize = 1 << n;
+        let mut words = [0; 16];
+        let mut w = 0;
+        while w < 16 {
+            words[w] = below_word(many, w);
+            w += 1;
+        }
+        Row { words: words }
+    }
+
+    // The configurations where feature i is on, whatever the number of features.
+    pub fn feature(i: usize) -> Row
+        requires { ⌜ i < 10 ⌝ }
+        ensures { λ r. ⌜ r .words ≡ rowOf 16 (λ c. bit c i) ⌝ }
+    {
+        let mut words = [0; 16];
+        let mut w = 0;
+        while w < 16 {
+            words[w] = feature_word(i, w);
+            w += 1;
+        }
+        Row { words: words }
+    }
+
+    // The configurations that either row has.
+    pub fn join(self, other: Row) -> Row
+        ensures { λ r. ⌜ r .words ≡ rowJoin 16 (self .words) (other .words) ⌝ }
+    {
+        let a = self.words;
+        let b = other.words;
+        Row {
+            words: [
+                a[0] | b[0],
+                a[1] | b[1],
+                a[2] | b[2],
+                a[3] | b[3],
+                a[4] | b[4],
+                a[5] | b[5],
+                a[6] | b[6],
+                a[7] | b[7],
+                a[8] | b[8],
+                a[9] | b[9],
+                a[10] | b[10],
+                a[11] | b[11],
+                a[12] | b[12],
+                a[13] | b[13],
+                a[14] | b[14],
+                a[15] | b[15],
+            ],
+        }
+    }
+
+    // The configurations that both rows have.
+    pub fn intersect(self, other: Row) -> Row
+        ensures { λ r. ⌜ r .words ≡ rowIntersect 16 (self .words) (other .words) ⌝ }
+    {
+        let a = self.words;
+        let b = other.words;
+        Row {
+            words: [
+                a[0] & b[0],
+                a[1] & b[1],
+                a[2] & b[2],
+                a[3] & b[3],
+                a[4] & b[4],
+                a[5] & b[5],
+                a[6] & b[6],
+                a[7] & b[7],
+                a[8] & b[8],
+                a[9] & b[9],
+                a[10] & b[10],
+                a[11] & b[11],
+                a[12] & b[12],
+                a[13] & b[13],
+                a[14] & b[14],
+                a[15] & b[15],
+            ],
+        }
+    }
+
+    // The configurations of this row that the other lacks.
+    pub fn minus(self, other: Row) -> Row
+        ensures { λ r. ⌜ r .words ≡ rowMinus 16 (self .words) (other .words) ⌝ }
+    {
+        let a = self.words;
+        let b = other.words;
+        Row {
+            words: [
+                a[0] ^ (a[0] & b[0]),
+                a[1] ^ (a[1] & b[1]),
+                a[2] ^ (a[2] & b[2]),
+                a[3] ^ (a[3] & b[3]),
+                a[4] ^ (a[4] & b[4]),
+                a[5] ^ (a[5] & b[5]),
+                a[6] ^ (a[6] & b[6]),
+                a[7] ^ (a[7] & b[7]),
+                a[8] ^ (a[8] & b[8]),
+                a[9] ^ (a[9] & b[9]),
+                a[10] ^ (a[10] & b[10]),
+                a[11] ^ (a[11] & b[11]),
+                a[12] ^ (a[12] & b[12]),
+                a[13] ^ (a[13] & b[13]),
+                a[14] ^ (a[14] & b[14]),
+                a[15] ^ (a[15] & b[15]),
+            ],
+        }
+    }
+
+    pub fn has(self, c: usize) -> bool
+        requires { ⌜ c < 1024 ⌝ }
+        ensures { λ r. ⌜ r ≡ rowBit (self .words) c ⌝ }
+    {
+        let word = self.words[c / 64];
+        (word >> (c % 64)) % 2 == 1
+    }
+
+    pub fn is_empty(self) -> bool
+        ensures { λ r. ⌜ r ≡ rowIsEmpty 16 (self .words) ⌝ }
+    {
+        let words = self.words;
+        let mut any = 0;
+        let mut w = 0;
+        while w < 16 {
+            any = any | words[w];
+            w += 1;
+        }
+        any == 0
+    }
+
+    // The lowest configuration of the row.
+    pub fn lowest(self) -> Found
+        ensures { λ r. ⌜ r ≡ rowLowest 16 (self .words) ⌝ }
+    {
+        let words = self.words;
+        let mut w = 0;
+        while w < 16 {
+            let word = words[w];
+            if word != 0 {
+                return Found::At(w * 64 + u64::trailing_zeros(word) as usize);
+            }
+            w += 1;
+        }
+        Found::Nothing
+    }
+
+    // Row number a of the rows that lie one after another in `rows`.
+    pub fn load(rows: &[u64], a: usize) -> Row
+        requires { ⌜ a * 16 + 16 ≤ length (now rows) ⌝ }
+        ensures { λ r. ⌜ r .words ≡ rowIn 16 (now (rows .entry)) a ⌝ }
+    {
+        let at = a * 16;
+        Row {
+            words: [
+                rows[at + 0],
+                rows[at + 1],
+                rows[at + 2],
+                rows[at + 3],
+                rows[at + 4],
+                rows[at + 5],
+                rows[at + 6],
+                rows[at + 7],
+                rows[at + 8],
+                rows[at + 9],
+                rows[at + 10],
+                rows[at + 11],
+                rows[at + 12],
+                rows[at + 13],
+                rows[at + 14],
+                rows[at + 15],
+            ],
+        }
+    }
+
+    // Stores this row as number a of the rows that lie one after another in `rows`.
+    pub fn store(self, rows: &mut [u64], a: usize)
+        requires { ⌜ a * 16 + 16 ≤ length (now rows) ⌝ }
+        ensures { λ _. ⌜ now (rows .exit) ≡ withRow 16 (now (rows .entry)) a (self .words) ⌝ }
+    {
+        let words = self.words;
+        let at = a * 16;
+        let mut w = 0;
+        while w < 16 {
+            rows[at + w] = words[w];
+            w += 1;
+        }
+    }
+}
+
+// Word w of the row of the configurations below m.
+fn below_word(m: usize, w: usize) -> u64
+    requires { ⌜ w < 16 ⌝ }
+    ensures { λ r. ⌜ r ≡ wordOf (λ c. ltb c m) w ⌝ }
+{
+    let from = w * 64;
+    if m <= from {
+        return 0;
+    }
+    let more = m - from;
+    if 64 <= more {
+        return 0xFFFF_FFFF_FFFF_FFFF;
+    }
+    (1 << more) - 1
+}
+
+// Each word of the rows of features 0 to 5.
+const MASKS: [u64; 6] = [
+    0xAAAA_AAAA_AAAA_AAAA,
+    0xCCCC_CCCC_CCCC_CCCC,
+    0xF0F0_F0F0_F0F0_F0F0,
+    0xFF00_FF00_FF00_FF00,
+    0xFFFF_0000_FFFF_0000,
+    0xFFFF_FFFF_0000_0000,
+];
+
+// Word w of the row of feature i.
+fn feature_word(i: usize, w: usize) -> u64
+    requires { ⌜ (i < 64) × (w < 16) ⌝ }
+    ensures { λ r. ⌜ r ≡ wordOf (λ c. bit c i) w ⌝ }
+{
+    if i < 6 {
+        return MASKS[i];
+    }
+    if (w >> (i - 6)) % 2 == 1 {
+        return 0xFFFF_FFFF_FFFF_FFFF;
+    }
+    0
+}

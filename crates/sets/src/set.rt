@@ -1,0 +1,107 @@
+// Sets of attributes.
+use crate::Found;
+ghost use mathlib.Core.Path.{_≡_};
+ghost use Prim.Native.Nat.{_<_, _^_};
+ghost use lib.Bits.{bitAnd, bitOr};
+ghost use lib.Dec.{eqb};
+ghost use Rattle.sets.specs.Search.{lowest};
+ghost use Rattle.sets.specs.Bits.{bit, difference, memberCount};
+
+// A set of attributes: attribute a is in it where bit a is 1. The type also holds the limits of document 01.
+pub struct AttributeSet {
+    pub bits: u64,
+}
+
+impl AttributeSet {
+    pub const MOST_FEATURES: usize = 10;
+
+    pub const MOST_ATTRIBUTES: usize = 64;
+
+    pub const MOST_EXPRESSIONS: usize = 256;
+
+    pub const MOST_ENTRIES: usize = 512;
+
+    pub const MOST_RELATIONS: usize = 32;
+
+    pub const MOST_COMPARISONS: usize = 256;
+
+    pub const MOST_QUERIES: usize = 256;
+
+    pub fn empty() -> AttributeSet
+        ensures { λ r. ⌜ r .bits ≡ 0 ⌝ }
+    {
+        AttributeSet { bits: 0 }
+    }
+
+    // The set of attribute a alone.
+    pub fn single(a: usize) -> AttributeSet
+        requires { ⌜ a < 64 ⌝ }
+        ensures { λ r. ⌜ r .bits ≡ 2 ^ a ⌝ }
+    {
+        AttributeSet { bits: 1 << a }
+    }
+
+    // This set and attribute a.
+    pub fn with(self, a: usize) -> AttributeSet
+        requires { ⌜ a < 64 ⌝ }
+        ensures { λ r. ⌜ r .bits ≡ bitOr (self .bits) (2 ^ a) ⌝ }
+    {
+        self.union(AttributeSet::single(a))
+    }
+
+    pub fn union(self, other: AttributeSet) -> AttributeSet
+        ensures { λ r. ⌜ r .bits ≡ bitOr (self .bits) (other .bits) ⌝ }
+    {
+        AttributeSet {
+            bits: self.bits | other.bits,
+        }
+    }
+
+    pub fn intersect(self, other: AttributeSet) -> AttributeSet
+        ensures { λ r. ⌜ r .bits ≡ bitAnd (self .bits) (other .bits) ⌝ }
+    {
+        AttributeSet {
+            bits: self.bits & other.bits,
+        }
+    }
+
+    // The attributes of this set that the other lacks.
+    pub fn minus(self, other: AttributeSet) -> AttributeSet
+        ensures { λ r. ⌜ r .bits ≡ difference (self .bits) (other .bits) ⌝ }
+    {
+        AttributeSet {
+            bits: self.bits ^ (self.bits & other.bits),
+        }
+    }
+
+    pub fn has(self, a: usize) -> bool
+        requires { ⌜ a < 64 ⌝ }
+        ensures { λ r. ⌜ r ≡ bit (self .bits) a ⌝ }
+    {
+        (self.bits >> a) % 2 == 1
+    }
+
+    pub fn is_empty(self) -> bool
+        ensures { λ r. ⌜ r ≡ eqb (self .bits) 0 ⌝ }
+    {
+        self.bits == 0
+    }
+
+    // The lowest attribute of the set.
+    pub fn lowest(self) -> Found
+        ensures { λ r. ⌜ r ≡ lowest (bit (self .bits)) 64 ⌝ }
+    {
+        if self.bits == 0 {
+            Found::Nothing
+        } else {
+            Found::At(u64::trailing_zeros(self.bits) as usize)
+        }
+    }
+
+    // How many attributes the set has.
+    pub fn count(self) -> usize
+        ensures { λ r. ⌜ r ≡ memberCount (self .bits) ⌝ }
+    {
+        u64::count_ones(self.bits) as usize
+    }
+}

@@ -1,0 +1,67 @@
+use borrow.Author.Needs.{needs}
+use Prim.Native.Nat.{_-_, _/_}
+use mathlib.Core.Path.{_∙_}
+use lib.ListN.{length}
+use Rattle.report.specs.Tables.{comparison}
+use Rattle.report.specs.FormChecks.{comparisonFits, comparisonsCheck}
+use Rattle.table_checks.proofs.FormLoops.{Passed, passed-none, passed-more, passed-first, passed-all}
+use Rattle.table_checks.proofs.check_comparisons.Statement.{statement}
+use Rattle.table_checks.proofs.check_comparisons.Tie as tie
+
+abbrev Inv-loop : tie.InvT-loop
+Inv-loop m e t3 count f₀ f = Passed (λ j. comparisonFits m e j (comparison t3 j)) (length t3 / 5) f
+
+abbrev μ-loop : tie.MeasureT-loop
+μ-loop m e t3 count f₀ f = length t3 / 5 - f
+
+loop-holds : tie.Need-loop-holds Inv-loop μ-loop
+loop-holds c = passed-none _ _
+
+comparison-at-requires : tie.Need-comparison-at-requires Inv-loop μ-loop
+comparison-at-requires c κs = search needs
+
+comparison-fits-requires : tie.Need-comparison-fits-requires Inv-loop μ-loop
+comparison-fits-requires c κs = search needs
+
+refuse-requires : tie.Need-refuse-requires Inv-loop μ-loop
+refuse-requires c κs = search needs
+
+returns : tie.Need-returns Inv-loop μ-loop
+unfolding comparisonsCheck
+returns c =
+    let d = c .before .before in
+    c .refuse .ensures
+    ∙ passed-first _ _ (d .before .before .before .loop .inv) (d .before .before .loop-test .taken)
+    (rw (d .before .comparison-at .ensures) at (d .comparison-fits .ensures)) (c .before .if1 .taken) _
+
+add-f : tie.Need-add-f Inv-loop μ-loop
+add-f c = search needs
+
+loop-less : tie.Need-loop-less Inv-loop μ-loop
+loop-less c = search needs
+
+loop-again : tie.Need-loop-again Inv-loop μ-loop
+loop-again c =
+    let d = c .before in
+    passed-more _ _ (d .before .before .before .loop .inv) (d .before .before .loop-test .taken)
+    (rw (d .before .comparison-at .ensures) at (d .comparison-fits .ensures)) (c .if1 .left)
+
+returns-2 : tie.Need-returns-2 Inv-loop μ-loop
+unfolding comparisonsCheck
+returns-2 c = passed-all _ _ (c .before .loop .inv) (c .loop-test .left) _
+
+pub check-comparisons-spec : {M : Type 1} → statement M
+check-comparisons-spec =
+    tie.close
+    (tie.spec
+    Inv-loop
+    μ-loop
+    loop-holds
+    comparison-at-requires
+    comparison-fits-requires
+    refuse-requires
+    returns
+    add-f
+    loop-less
+    loop-again
+    returns-2)

@@ -1,0 +1,59 @@
+use borrow.Author.Needs.{needs}
+use Prim.Native.Nat.{_-_, _/_}
+use mathlib.Core.Path.{_∙_}
+use lib.ListN.{length}
+use Rattle.report.specs.FormChecks.{entryFits, entriesCheck}
+use Rattle.table_checks.proofs.FormLoops.{Passed, passed-none, passed-more, passed-first, passed-all}
+use Rattle.table_checks.proofs.check_entries.Statement.{statement}
+use Rattle.table_checks.proofs.check_entries.Tie as tie
+
+abbrev Inv-loop : tie.InvT-loop
+Inv-loop m e t1 count k₀ k = Passed (entryFits m e t1) (length t1 / 2) k
+
+abbrev μ-loop : tie.MeasureT-loop
+μ-loop m e t1 count k₀ k = length t1 / 2 - k
+
+loop-holds : tie.Need-loop-holds Inv-loop μ-loop
+loop-holds c = passed-none _ _
+
+entry-fits-requires : tie.Need-entry-fits-requires Inv-loop μ-loop
+entry-fits-requires c κs = search needs
+
+refuse-requires : tie.Need-refuse-requires Inv-loop μ-loop
+refuse-requires c κs = search needs
+
+returns : tie.Need-returns Inv-loop μ-loop
+unfolding entriesCheck
+returns c =
+    let d = c .before .before in
+    c .refuse .ensures
+    ∙ passed-first _ _ (d .before .before .loop .inv) (d .before .loop-test .taken) (d .entry-fits .ensures) (c .before .if1 .taken) _
+
+add-k : tie.Need-add-k Inv-loop μ-loop
+add-k c = search needs
+
+loop-less : tie.Need-loop-less Inv-loop μ-loop
+loop-less c = search needs
+
+loop-again : tie.Need-loop-again Inv-loop μ-loop
+loop-again c =
+    passed-more _ _ (c .before .before .before .loop .inv) (c .before .before .loop-test .taken) (c .before .entry-fits .ensures) (c .if1 .left)
+
+returns-2 : tie.Need-returns-2 Inv-loop μ-loop
+unfolding entriesCheck
+returns-2 c = passed-all _ _ (c .before .loop .inv) (c .loop-test .left) _
+
+pub check-entries-spec : {M : Type 1} → statement M
+check-entries-spec =
+    tie.close
+    (tie.spec
+    Inv-loop
+    μ-loop
+    loop-holds
+    entry-fits-requires
+    refuse-requires
+    returns
+    add-k
+    loop-less
+    loop-again
+    returns-2)

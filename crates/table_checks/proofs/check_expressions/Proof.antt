@@ -1,0 +1,67 @@
+use borrow.Author.Needs.{needs}
+use Prim.Native.Nat.{_-_, _/_}
+use mathlib.Core.Path.{_∙_}
+use lib.ListN.{length}
+use Rattle.report.specs.Tables.{expression}
+use Rattle.report.specs.FormChecks.{expressionFits, expressionsCheck}
+use Rattle.table_checks.proofs.FormLoops.{Passed, passed-none, passed-more, passed-first, passed-all}
+use Rattle.table_checks.proofs.check_expressions.Statement.{statement}
+use Rattle.table_checks.proofs.check_expressions.Tie as tie
+
+abbrev Inv-loop : tie.InvT-loop
+Inv-loop n t0 count f₀ f = Passed (λ j. expressionFits n j (expression t0 j)) (length t0 / 3) f
+
+abbrev μ-loop : tie.MeasureT-loop
+μ-loop n t0 count f₀ f = length t0 / 3 - f
+
+loop-holds : tie.Need-loop-holds Inv-loop μ-loop
+loop-holds c = passed-none _ _
+
+expression-at-requires : tie.Need-expression-at-requires Inv-loop μ-loop
+expression-at-requires c κs = search needs
+
+expression-fits-requires : tie.Need-expression-fits-requires Inv-loop μ-loop
+expression-fits-requires c κs = search needs
+
+refuse-requires : tie.Need-refuse-requires Inv-loop μ-loop
+refuse-requires c κs = search needs
+
+returns : tie.Need-returns Inv-loop μ-loop
+unfolding expressionsCheck
+returns c =
+    let d = c .before .before in
+    c .refuse .ensures
+    ∙ passed-first _ _ (d .before .before .before .loop .inv) (d .before .before .loop-test .taken)
+    (rw (d .before .expression-at .ensures) at (d .expression-fits .ensures)) (c .before .if1 .taken) _
+
+add-f : tie.Need-add-f Inv-loop μ-loop
+add-f c = search needs
+
+loop-less : tie.Need-loop-less Inv-loop μ-loop
+loop-less c = search needs
+
+loop-again : tie.Need-loop-again Inv-loop μ-loop
+loop-again c =
+    let d = c .before in
+    passed-more _ _ (d .before .before .before .loop .inv) (d .before .before .loop-test .taken)
+    (rw (d .before .expression-at .ensures) at (d .expression-fits .ensures)) (c .if1 .left)
+
+returns-2 : tie.Need-returns-2 Inv-loop μ-loop
+unfolding expressionsCheck
+returns-2 c = passed-all _ _ (c .before .loop .inv) (c .loop-test .left) _
+
+pub check-expressions-spec : {M : Type 1} → statement M
+check-expressions-spec =
+    tie.close
+    (tie.spec
+    Inv-loop
+    μ-loop
+    loop-holds
+    expression-at-requires
+    expression-fits-requires
+    refuse-requires
+    returns
+    add-f
+    loop-less
+    loop-again
+    returns-2)

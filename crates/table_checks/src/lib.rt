@@ -1,0 +1,178 @@
+// Checks 1 to 5 and 7 of document 01's table, one function a row. Each answers the first fault.
+use decoders::comparison_at;
+use decoders::entry_attribute;
+use decoders::entry_expression;
+use decoders::expression_at;
+use report::Comparison;
+use report::Expression;
+use report::Refusal;
+use report::Verdict;
+use sets::AttributeSet;
+ghost use mathlib.Core.Path.{_≡_};
+ghost use Prim.Native.Nat.{_/_, _<_};
+ghost use lib.ListN.{length};
+ghost use Rattle.report.specs.Tables.{shapeOf, tablesOf};
+ghost use Rattle.report.specs.Verdicts.{refusal, refuseIf, orElse};
+ghost use Rattle.report.specs.FormChecks.{headCheck, lengthCheck, lengthsCheck, expressionFits, expressionsCheck, modelFormCheck};
+ghost use Rattle.report.specs.FormChecks.{entryFits, entriesCheck, comparisonFits, comparisonsCheck};
+ghost use Rattle.report.specs.declared.Verdict.{Verdict};
+
+// The refusal of a form or table: item and configuration are not named.
+pub fn refuse(number: u64, place: usize) -> Verdict
+    ensures { λ r. ⌜ r ≡ Verdict.Refused (refusal number place 0 0) ⌝ }
+{
+    Verdict::Refused(Refusal {
+        number: number,
+        place: place as u64,
+        item: 0,
+        configuration: 0,
+    })
+}
+
+// Refused where `bad` holds.
+pub fn refuse_if(bad: bool, number: u64, place: usize) -> Verdict
+    ensures { λ r. ⌜ r ≡ refuseIf bad (refusal number place 0 0) ⌝ }
+{
+    if bad {
+        return refuse(number, place);
+    }
+    Verdict::Accepted
+}
+
+// The answers of two checks, of which the first runs first: the first refusal.
+pub fn or_else(first: Verdict, next: Verdict) -> Verdict
+    ensures { λ r. ⌜ r ≡ orElse first next ⌝ }
+{
+    match first {
+        Verdict::Accepted => next,
+        Verdict::Refused(r) => Verdict::Refused(r),
+    }
+}
+
+// Check 1.
+pub fn check_head(features: usize, attributes: usize) -> Verdict
+    ensures { λ r. ⌜ r ≡ headCheck features attributes ⌝ }
+{
+    let a = refuse_if(AttributeSet::MOST_FEATURES < features, 1, 0);
+    let b = refuse_if(AttributeSet::MOST_ATTRIBUTES < attributes, 1, 1);
+    or_else(a, b)
+}
+
+// Check 2 of one table, of `count` words.
+fn check_length(width: usize, least: usize, most: usize, table: usize, count: usize) -> Verdict
+    requires { ⌜ 0 < width ⌝ }
+    ensures { λ r. ⌜ r ≡ lengthCheck (shapeOf width least most) table count ⌝ }
+{
+    let forms = count / width;
+    let fits = (count % width == 0) & (least <= forms) & (forms <= most);
+    refuse_if(!fits, 2, table)
+}
+
+// Check 2.
+pub fn check_lengths(t0: &[u16], t1: &[u16], t2: &[u16], t3: &[u16], t4: &[u16]) -> Verdict
+    ensures { λ r.
+        ⌜ r ≡ lengthsCheck (tablesOf 0 0 0 (now (t0 .entry)) (now (t1 .entry)) (now (t2 .entry)) (now (t3 .entry)) (now (t4 .entry))) ⌝ }
+{
+    let a = check_length(3, 1, AttributeSet::MOST_EXPRESSIONS, 0, t0.len());
+    let b = check_length(2, 0, AttributeSet::MOST_ENTRIES, 1, t1.len());
+    let c = check_length(2, 0, AttributeSet::MOST_RELATIONS, 2, t2.len());
+    let d = check_length(5, 0, AttributeSet::MOST_COMPARISONS, 3, t3.len());
+    let e = check_length(4, 1, AttributeSet::MOST_QUERIES, 4, t4.len());
+    or_else(a, or_else(b, or_else(c, or_else(d, e))))
+}
+
+// An expression that stands as form f, where there are n features.
+pub fn expression_fits(n: usize, f: usize, x: Expression) -> bool
+    ensures { λ r. ⌜ r ≡ expressionFits n f x ⌝ }
+{
+    match x {
+        Expression::Malformed => false,
+        Expression::False => true,
+        Expression::True => true,
+        Expression::Feature(a) => a < n,
+        Expression::Not(a) => a < f,
+        Expression::And(a, b) => (a < f) & (b < f),
+        Expression::Or(a, b) => (a < f) & (b < f),
+    }
+}
+
+// Check 3.
+pub fn check_expressions(n: usize, t0: &[u16]) -> Verdict
+    ensures { λ r. ⌜ r ≡ expressionsCheck n (now (t0 .entry)) ⌝ }
+{
+    let count = t0.len() / 3;
+    let mut f = 0;
+    while f < count {
+        let x = expression_at(t0, f);
+        if !expression_fits(n, f, x) {
+            return refuse(3, f);
+        }
+        f += 1;
+    }
+    Verdict::Accepted
+}
+
+// Check 4, where there are e expressions.
+pub fn check_model(e: usize, model: usize) -> Verdict
+    ensures { λ r. ⌜ r ≡ modelFormCheck e model ⌝ }
+{
+    refuse_if(e <= model, 4, 0)
+}
+
+// Entry k, where there are m attributes and e expressions.
+fn entry_fits(m: usize, e: usize, t1: &[u16], k: usize) -> bool
+    requires { ⌜ k < length (now t1) / 2 ⌝ }
+    ensures { λ r. ⌜ r ≡ entryFits m e (now (t1 .entry)) k ⌝ }
+{
+    let a = entry_attribute(t1, k);
+    let x = entry_expression(t1, k);
+    (a < m) & (x < e)
+}
+
+// Check 5.
+pub fn check_entries(m: usize, e: usize, t1: &[u16]) -> Verdict
+    ensures { λ r. ⌜ r ≡ entriesCheck m e (now (t1 .entry)) ⌝ }
+{
+    let count = t1.len() / 2;
+    let mut k = 0;
+    while k < count {
+        if !entry_fits(m, e, t1, k) {
+            return refuse(5, k);
+        }
+        k += 1;
+    }
+    Verdict::Accepted
+}
+
+// A comparison that stands as form f, where there are m attributes and e expressions.
+fn comparison_fits(m: usize, e: usize, f: usize, x: Comparison) -> bool
+    ensures { λ r. ⌜ r ≡ comparisonFits m e f x ⌝ }
+{
+    match x {
+        Comparison::Malformed => false,
+        Comparison::Never => true,
+        Comparison::Always => true,
+        Comparison::Constant(o, a, _) => (o <= 5) & (a < m),
+        Comparison::Attribute(o, a, b) => (o <= 5) & (a < m) & (b < m),
+        Comparison::Not(a) => a < f,
+        Comparison::And(a, b) => (a < f) & (b < f),
+        Comparison::Or(a, b) => (a < f) & (b < f),
+        Comparison::Choice(a, b, d) => (a < e) & (b < f) & (d < f),
+    }
+}
+
+// Check 7.
+pub fn check_comparisons(m: usize, e: usize, t3: &[u16]) -> Verdict
+    ensures { λ r. ⌜ r ≡ comparisonsCheck m e (now (t3 .entry)) ⌝ }
+{
+    let count = t3.len() / 5;
+    let mut f = 0;
+    while f < count {
+        let x = comparison_at(t3, f);
+        if !comparison_fits(m, e, f, x) {
+            return refuse(7, f);
+        }
+        f += 1;
+    }
+    Verdict::Accepted
+}
