@@ -8,7 +8,7 @@ use native.Mathlib.Nat.{le-of-suc-le-suc, not-suc-le-zero, le-refl, eq-or-lt-of-
 use native.Mathlib.Numerals.{add-one}
 use native.Mathlib.Decide.{le-ind, ℕ-discrete}
 use native.Mathlib.Omega.{arith}
-use lib.ListN.{length, getD, set, take, drop, length-set, length-append, List·getD-append}
+use lib.ListN.{length, getD, set, take, drop, replicate, length-set, length-append, length-replicate, drop-of-length-le, List·getD-append}
 use lib.Seq.{ext-getD, getD-set-same, getD-set-other, getD-append-add, take-at, drop-append-add, drop-drop, drop-cons, set-at}
 use Rattle.sets.specs.Search.{countBelow}
 use Rattle.sets.specs.Lists.{table, concat, kept}
@@ -58,6 +58,27 @@ module _ {A : Type 0} where
       ∙ set-at (table n f) (getD l n (f n)) (drop (suc n) l) (f n) n (table-length n f)
       ∙ sym (ap (λ (k : ℕ). table k f ++ drop k l) (add-one n) ∙ ap (λ (s : List A). s ++ drop (suc n) l) (table-suc n f)
       ∙ append-assoc (table n f) (f n ∷ []) (drop (suc n) l))
+
+  -- a loop that fills m places with the elements of f: n of them are there, and d from there on
+  pub record Filled (m : ℕ) (d : A) (f : ℕ → A) (l : List A) (n : ℕ) : Type 0 where
+    pub bound : n ≤ m
+    pub holds : l ≡ table n f ++ drop n (replicate m d)
+
+  module _ {m : ℕ} {d : A} {f : ℕ → A} where
+    pub fill-start : Filled m d f (replicate m d) 0
+    fill-start = record { bound = omega arith; holds = refl }
+
+    pub fill-more : {l : List A} {n : ℕ} {v : A} → Filled m d f l n → n < m → v ≡ f n → Filled m d f (set l n v) (n + 1)
+    fill-more {l} {n} {v} r h e = record {
+      bound = omega arith;
+      holds = ap₂ (λ (s : List A) (x : A). set s n x) (r .holds) e ∙ table-more n f (replicate m d) (omega (arith, length-replicate m d));
+    }
+
+    pub fill-end : {l : List A} {n : ℕ} → Filled m d f l n → m ≤ n → l ≡ table m f
+    fill-end {l} {n} r h =
+        let e : n ≡ m = omega arith in
+        r .holds ∙ ap₂ (λ (k : ℕ) (s : List A). table k f ++ s) e (drop-of-length-le (replicate m d) {i = n} (omega (arith, length-replicate m d)))
+        ∙ append-nil (table m f)
 
   -- ---- lists one after another: where they are equal, one more, and how their length grows
 

@@ -57,26 +57,13 @@ impl Row {
     {
         let a = self.words;
         let b = other.words;
-        Row {
-            words: [
-                a[0] | b[0],
-                a[1] | b[1],
-                a[2] | b[2],
-                a[3] | b[3],
-                a[4] | b[4],
-                a[5] | b[5],
-                a[6] | b[6],
-                a[7] | b[7],
-                a[8] | b[8],
-                a[9] | b[9],
-                a[10] | b[10],
-                a[11] | b[11],
-                a[12] | b[12],
-                a[13] | b[13],
-                a[14] | b[14],
-                a[15] | b[15],
-            ],
+        let mut words = [0; 16];
+        let mut w = 0;
+        while w < 16 {
+            words[w] = a[w] | b[w];
+            w += 1;
         }
+        Row { words: words }
     }
 
     // The configurations that both rows have.
@@ -85,26 +72,13 @@ impl Row {
     {
         let a = self.words;
         let b = other.words;
-        Row {
-            words: [
-                a[0] & b[0],
-                a[1] & b[1],
-                a[2] & b[2],
-                a[3] & b[3],
-                a[4] & b[4],
-                a[5] & b[5],
-                a[6] & b[6],
-                a[7] & b[7],
-                a[8] & b[8],
-                a[9] & b[9],
-                a[10] & b[10],
-                a[11] & b[11],
-                a[12] & b[12],
-                a[13] & b[13],
-                a[14] & b[14],
-                a[15] & b[15],
-            ],
+        let mut words = [0; 16];
+        let mut w = 0;
+        while w < 16 {
+            words[w] = a[w] & b[w];
+            w += 1;
         }
+        Row { words: words }
     }
 
     // The configurations of this row that the other lacks.
@@ -113,26 +87,13 @@ impl Row {
     {
         let a = self.words;
         let b = other.words;
-        Row {
-            words: [
-                a[0] ^ (a[0] & b[0]),
-                a[1] ^ (a[1] & b[1]),
-                a[2] ^ (a[2] & b[2]),
-                a[3] ^ (a[3] & b[3]),
-                a[4] ^ (a[4] & b[4]),
-                a[5] ^ (a[5] & b[5]),
-                a[6] ^ (a[6] & b[6]),
-                a[7] ^ (a[7] & b[7]),
-                a[8] ^ (a[8] & b[8]),
-                a[9] ^ (a[9] & b[9]),
-                a[10] ^ (a[10] & b[10]),
-                a[11] ^ (a[11] & b[11]),
-                a[12] ^ (a[12] & b[12]),
-                a[13] ^ (a[13] & b[13]),
-                a[14] ^ (a[14] & b[14]),
-                a[15] ^ (a[15] & b[15]),
-            ],
+        let mut words = [0; 16];
+        let mut w = 0;
+        while w < 16 {
+            words[w] = a[w] ^ (a[w] & b[w]);
+            w += 1;
         }
+        Row { words: words }
     }
 
     pub fn has(self, c: usize) -> bool
@@ -178,26 +139,13 @@ impl Row {
         ensures { λ r. ⌜ r .words ≡ rowIn 16 (now (rows .entry)) a ⌝ }
     {
         let at = a * 16;
-        Row {
-            words: [
-                rows[at + 0],
-                rows[at + 1],
-                rows[at + 2],
-                rows[at + 3],
-                rows[at + 4],
-                rows[at + 5],
-                rows[at + 6],
-                rows[at + 7],
-                rows[at + 8],
-                rows[at + 9],
-                rows[at + 10],
-                rows[at + 11],
-                rows[at + 12],
-                rows[at + 13],
-                rows[at + 14],
-                rows[at + 15],
-            ],
+        let mut words = [0; 16];
+        let mut w = 0;
+        while w < 16 {
+            words[w] = rows[at + w];
+            w += 1;
         }
+        Row { words: words }
     }
 
     // Stores this row as number a of the rows that lie one after another in `rows`.

@@ -1,0 +1,93 @@
+-- The permitted configurations as a row: what is empty there is nowhere, and what the expression rows say among them.
+use Prim.Native.Nat.{ℕ, _+_, _*_, _/_, _^_, _<_, _≤_}
+use mathlib.Core.Path.{_≡_, refl, sym, ap, ap₂, _∙_}
+use mathlib.Core.Bool.{Bool, true, false, not, _&&_, and-true}
+use mathlib.Core.List.{List}
+use native.Mathlib.Decide.{decLt}
+use native.Mathlib.Omega.{arith}
+use lib.Dec.{ltb}
+use lib.ListN.{length}
+use lib.Pow.{pow-mono}
+use Rattle.sets.specs.Search.{someBelow}
+use Rattle.sets.specs.Rows.{rowOf, rowIn, rowIntersect, rowIsEmpty, within}
+use Rattle.sets.proofs.SearchLaws.{some-at, some-none, none-some, at-some}
+use Rattle.sets.proofs.RowLaws.{rowOf-same, within-out, intersect-rowOf, empty-rowOf}
+use Rattle.report.specs.Tables.{Tables, expressionCount}
+use Rattle.report.specs.Expressions.{holds, permitted}
+use Rattle.report.specs.Typing.{at}
+use Rattle.report.specs.Verdicts.{refusal, refuseIf}
+use Rattle.report.specs.Checks.{somewhere, modelCheck}
+use Rattle.report.proofs.Formed.{Formed}
+use Rattle.conditions.specs.Conditions.{Filled, Reads}
+
+-- a test that fails from m on
+some-narrow : (test : ℕ → Bool) (m n : ℕ) → m ≤ n → ((k : ℕ) → m ≤ k → test k ≡ false) → someBelow test n ≡ someBelow test m
+some-narrow test m n h out = go (someBelow test m) refl
+  where
+    rest : someBelow test m ≡ false → (k : ℕ) → Dec (k < m) → test k ≡ false
+    rest e k (yes l) = some-none test m e k l
+    rest e k (no l) = out k (omega arith)
+
+    go : (b : Bool) → someBelow test m ≡ b → someBelow test n ≡ b
+    go true e = let r = some-at test m e in at-some test n (r .0) (omega arith) (r .2)
+    go false e = none-some test n (λ k l. rest e k (decLt k m))
+
+-- the permitted configurations at which the test holds
+abbrev pub permittedRow : Tables → (ℕ → Bool) → List ℕ
+permittedRow T test = rowOf 16 (λ c. permitted T c && test c)
+
+module _ (T : Tables) where
+  permitted-out : (c : ℕ) → 2 ^ (T .features) ≤ c → permitted T c ≡ false
+  unfolding permitted
+  permitted-out = within-out (T .features) (λ c. holds (T .expressions) c (T .model))
+
+  -- that row is empty exactly where the test holds nowhere
+  pub somewhere-row : T .features ≤ 10 → (test : ℕ → Bool) → rowIsEmpty 16 (permittedRow T test) ≡ not (somewhere T test)
+  somewhere-row few test =
+      empty-rowOf 16 (λ c. permitted T c && test c)
+      ∙ ap not
+      (some-narrow (λ c. permitted T c && test c) (2 ^ (T .features)) 1024 (pow-mono few)
+      (λ k l. ap (λ (t : Bool). t && test k) (permitted-out k l)))
+
+  -- all of them
+  pub permitted-all : rowOf 16 (permitted T) ≡ permittedRow T (λ c. true)
+  permitted-all = rowOf-same 16 (permitted T) (λ c. permitted T c && true) (λ c h. sym (and-true (permitted T c)))
+
+  -- those that the row of another test has too
+  pub meet-within : (p q : ℕ → Bool) → rowIntersect 16 (permittedRow T p) (rowOf 16 (within (T .features) q)) ≡ permittedRow T (λ c. p c && q c)
+  unfolding permitted
+  meet-within p q =
+      intersect-rowOf 16 (λ c. permitted T c && p c) (within (T .features) q)
+      ∙ rowOf-same 16 _ _ (λ c h. go (ltb c (2 ^ (T .features))) (holds (T .expressions) c (T .model)) (p c) (q c))
+    where
+      go : (t m a b : Bool) → (((t && m) && a) && (t && b)) ≡ ((t && m) && (a && b))
+      go true true a b = refl
+      go true false a b = refl
+      go false m a b = refl
+
+-- check 12 of the permitted row
+pub model-check : {T : Tables} → Formed T → {row : List ℕ} → row ≡ rowOf 16 (permitted T)
+    → refuseIf (rowIsEmpty 16 row) (refusal 12 0 0 0) ≡ modelCheck T
+model-check {T} F e =
+    ap (λ (b : Bool). refuseIf b (refusal 12 0 0 0)) (ap (rowIsEmpty 16) (e ∙ permitted-all T) ∙ somewhere-row T (F .few) (λ c. true))
+
+module _ {T : Tables} {rows : List ℕ} (L : Filled T rows) where
+  -- each expression has its row
+  pub row-in : {e : ℕ} → e < expressionCount T → e < length rows / 16
+  row-in h = let m = L .room in omega arith
+
+  -- the permitted configurations at which the test holds and expression e as well
+  pub meet-row : {row : List ℕ} (p : ℕ → Bool) → row ≡ permittedRow T p → (e : ℕ) → e < expressionCount T
+      → rowIntersect 16 row (rowIn 16 rows e) ≡ permittedRow T (λ c. p c && at T c e)
+  meet-row p is e h = ap₂ (rowIntersect 16) is (L .each e h) ∙ meet-within T p (λ c. at T c e)
+
+  -- the row of the model is that of the permitted configurations
+  pub model-room : T .model * 16 + 16 ≤ length rows
+  model-room = let m = L .room in let i = L .formed .modelIn in omega arith
+
+  pub model-row : rowIn 16 rows (T .model) ≡ rowOf 16 (permitted T)
+  unfolding permitted
+  model-row = L .each (T .model) (L .formed .modelIn)
+
+  pub reads : {permits : List ℕ} → permits ≡ rowIn 16 rows (T .model) → Reads T rows permits (T .entries) (T .relations)
+  reads e = record { filled = L; permitting = e ∙ model-row; entries = refl; relations = refl }

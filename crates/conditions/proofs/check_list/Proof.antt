@@ -1,0 +1,85 @@
+use Prim.Native.Nat.{_+_, _-_}
+use native.Mathlib.Omega.{arith}
+use borrow.Author.Needs.{needs}
+use Rattle.conditions.proofs.CheckLaws.{Listed, listed-none, listed-more, listed-here, listed-all}
+use Rattle.conditions.proofs.check_list.Statement.{statement}
+use Rattle.conditions.proofs.check_list.Tie as tie
+
+abbrev Inv-loop : tie.InvT-loop
+Inv-loop rows present t1 r start count end k₀ k = Listed rows (present .words) t1 start count k
+
+abbrev μ-loop : tie.MeasureT-loop
+μ-loop rows present t1 r start count end k₀ k = start + count - k
+
+add-end : tie.Need-add-end Inv-loop μ-loop
+add-end c = let i = c .before .before .pre .inside in omega arith
+
+loop-holds : tie.Need-loop-holds Inv-loop μ-loop
+loop-holds c = listed-none _ _ _ _ _
+
+entry-expression-requires : tie.Need-entry-expression-requires Inv-loop μ-loop
+entry-expression-requires c κs = let i = c .before .before .before .before .pre .inside in omega arith
+
+load-requires : tie.Need-load-requires Inv-loop μ-loop
+load-requires c κs =
+    let i = c .before .before .before .before .before .pre .inside in
+    let l = c .before .before .before .before .before .pre .rowed (c .before .before .loop .k) (omega arith) in
+    let e = c .entry-expression .ensures .same in
+    omega arith
+
+intersect-requires : tie.Need-intersect-requires Inv-loop μ-loop
+intersect-requires c κs = search needs
+
+is-empty-requires : tie.Need-is-empty-requires Inv-loop μ-loop
+is-empty-requires c κs = search needs
+
+entry-attribute-requires : tie.Need-entry-attribute-requires Inv-loop μ-loop
+entry-attribute-requires c κs =
+    let i = c .before .before .before .before .before .before .before .before .before .pre .inside in
+    let t = c .before .before .before .before .before .loop-test .taken in
+    omega arith
+
+returns : tie.Need-returns Inv-loop μ-loop
+returns c =
+    let d = c .before in
+    let i = d .before .before .before .before .before in
+    listed-here _ _ _ _ _ (i .before .loop .inv) (i .loop-test .taken) (d .before .before .before .before .entry-expression .ensures .same)
+    (d .before .before .before .load .ensures) (d .before .before .intersect .ensures) (d .before .is-empty .ensures) _ (d .if1 .taken)
+    (c .entry-attribute .ensures .same)
+
+add-k : tie.Need-add-k Inv-loop μ-loop
+add-k c =
+    let i = c .before .before .before .before .before .before .before .before .before .pre .inside in
+    let t = c .before .before .before .before .before .loop-test .taken in
+    omega arith
+
+loop-less : tie.Need-loop-less Inv-loop μ-loop
+loop-less c = let t = c .before .before .before .before .before .loop-test .taken in omega arith
+
+loop-again : tie.Need-loop-again Inv-loop μ-loop
+loop-again c =
+    let i = c .before .before .before .before .before in
+    listed-more _ _ _ _ _ (i .before .loop .inv) (i .loop-test .taken) (c .before .before .before .before .entry-expression .ensures .same)
+    (c .before .before .before .load .ensures) (c .before .before .intersect .ensures) (c .before .is-empty .ensures) (c .if1 .left)
+
+returns-2 : tie.Need-returns-2 Inv-loop μ-loop
+returns-2 c = listed-all _ _ _ _ _ _ (c .before .loop .inv) (c .loop-test .left)
+
+pub check-list-spec : {M : Type 1} → statement M
+check-list-spec =
+    tie.close
+    (tie.spec
+    Inv-loop
+    μ-loop
+    add-end
+    loop-holds
+    entry-expression-requires
+    load-requires
+    intersect-requires
+    is-empty-requires
+    entry-attribute-requires
+    returns
+    add-k
+    loop-less
+    loop-again
+    returns-2)

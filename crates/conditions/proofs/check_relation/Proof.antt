@@ -1,0 +1,53 @@
+use native.Mathlib.Omega.{arith}
+use borrow.Author.Needs.{needs}
+use Rattle.conditions.proofs.CheckLaws.{relation-absent, relation-present}
+use Rattle.conditions.proofs.check_relation.Statement.{statement}
+use Rattle.conditions.proofs.check_relation.Tie as tie
+
+relation-expression-requires : tie.Need-relation-expression-requires
+relation-expression-requires c κs = c .before .before .before .pre .inside
+
+relation-length-requires : tie.Need-relation-length-requires
+relation-length-requires c κs = c .before .before .before .before .pre .inside
+
+load-requires : tie.Need-load-requires
+load-requires c κs =
+    let l = c .before .before .before .before .before .pre .rowed in
+    let e = c .before .relation-expression .ensures .same in
+    omega arith
+
+intersect-requires : tie.Need-intersect-requires
+intersect-requires c κs = search needs
+
+is-empty-requires : tie.Need-is-empty-requires
+is-empty-requires c κs = search needs
+
+returns : tie.Need-returns
+returns c =
+    let d = c .before in
+    relation-absent _ _ _ _ _ _ (d .before .before .before .before .relation-expression .ensures .same) (d .before .before .load .ensures)
+    (d .before .intersect .ensures) (d .is-empty .ensures) (c .if1 .taken)
+
+check-list-requires : tie.Need-check-list-requires
+check-list-requires c κs =
+    rw (c .before .before .before .before .relation-length .ensures .same)
+    (c .before .before .before .before .before .before .before .before .before .pre .list)
+
+returns-2 : tie.Need-returns-2
+returns-2 c =
+    let d = c .before .before in
+    relation-present _ _ _ _ _ _ (d .before .before .before .before .relation-expression .ensures .same) (d .before .before .load .ensures)
+    (d .before .intersect .ensures) (d .is-empty .ensures) (c .before .if1 .left) (d .before .before .before .relation-length .ensures .same) (c .check-list .ensures)
+
+pub check-relation-spec : {M : Type 1} → statement M
+check-relation-spec =
+    tie.close
+    (tie.spec
+    relation-expression-requires
+    relation-length-requires
+    load-requires
+    intersect-requires
+    is-empty-requires
+    returns
+    check-list-requires
+    returns-2)

@@ -1,0 +1,51 @@
+-- What the private functions do with rows: the row of one expression, and checks 13 and 14 of one relation. proofs/ ties these to the definitions.
+use Prim.Native.Nat.{ℕ, _+_, _/_, _<_, _≤_}
+use mathlib.Core.Bool.{Bool, false}
+use mathlib.Core.List.{List}
+use lib.ListN.{length}
+use Rattle.sets.specs.Search.{seek}
+use Rattle.sets.specs.Bits.{bit}
+use Rattle.sets.specs.Rows.{rowOf, rowIn, rowJoin, rowIntersect, rowMinus, rowIsEmpty}
+use Rattle.report.specs.Tables.{entryAttribute, entryExpression, relationExpression, relationLength}
+use Rattle.report.specs.Verdicts.{refusal, refuseIf, refuseAt, orElse}
+use Rattle.report.specs.declared.Expression.{Expression}
+use Rattle.report.specs.declared.Verdict.{Verdict}
+
+-- the row of one expression, from `full`, which has the configurations of all features, and the rows of lower forms
+abbrev pub stepRow : List ℕ → List ℕ → Expression → List ℕ
+stepRow full rows Expression.Malformed = rowOf 16 (λ c. false)
+stepRow full rows Expression.False = rowOf 16 (λ c. false)
+stepRow full rows Expression.True = full
+stepRow full rows (Expression.Feature a) = rowIntersect 16 full (rowOf 16 (λ c. bit c a))
+stepRow full rows (Expression.Not a) = rowMinus 16 full (rowIn 16 rows a)
+stepRow full rows (Expression.And a b) = rowIntersect 16 (rowIn 16 rows a) (rowIn 16 rows b)
+stepRow full rows (Expression.Or a b) = rowJoin 16 (rowIn 16 rows a) (rowIn 16 rows b)
+
+-- entry k holds nowhere that `present` has
+abbrev pub apartIn : List ℕ → List ℕ → List ℕ → ℕ → Bool
+apartIn rows present t1 k = rowIsEmpty 16 (rowIntersect 16 present (rowIn 16 rows (entryExpression t1 k)))
+
+-- 14 of relation r, of `count` entries from `start` on, where `present` has the permitted configurations at which it is present
+unfoldable pub listRule : List ℕ → List ℕ → List ℕ → ℕ → ℕ → ℕ → Verdict
+listRule rows present t1 r start count = refuseAt (λ k. refusal 14 r (entryAttribute t1 k) 0) (seek (apartIn rows present t1) count start)
+
+-- the permitted configurations at which relation r is present
+abbrev pub presentRow : List ℕ → List ℕ → List ℕ → ℕ → List ℕ
+presentRow rows permits t2 r = rowIntersect 16 permits (rowIn 16 rows (relationExpression t2 r))
+
+-- 13 and 14 of relation r, whose list starts at `start`
+unfoldable pub relationRule : List ℕ → List ℕ → List ℕ → List ℕ → ℕ → ℕ → Verdict
+relationRule rows permits t1 t2 r start =
+    orElse (refuseIf (rowIsEmpty 16 (presentRow rows permits t2 r)) (refusal 13 r 0 0))
+    (listRule rows (presentRow rows permits t2 r) t1 r start (relationLength t2 r))
+
+-- a list lies in table 1, and each expression there has a row
+pub record ListRead (rows t1 : List ℕ) (start count : ℕ) : Type 0 where
+  pub inside : start + count ≤ length t1 / 2
+  pub rowed : (k : ℕ) → k < length t1 / 2 → entryExpression t1 k < length rows / 16
+
+-- relation r is in table 2, its expression has a row, and its list is such a one
+pub record RelationRead (rows t1 t2 : List ℕ) (r start : ℕ) : Type 0 where
+  pub inside : r < length t2 / 2
+  pub rowed : relationExpression t2 r < length rows / 16
+  pub list : ListRead rows t1 start (relationLength t2 r)

@@ -1,0 +1,145 @@
+// Expression rows, and checks 12 to 14.
+use decoders::entry_attribute;
+use decoders::entry_expression;
+use decoders::expression_at;
+use decoders::relation_expression;
+use decoders::relation_length;
+use report::Expression;
+use report::Refusal;
+use report::Verdict;
+use sets::Row;
+ghost use mathlib.Core.Path.{_≡_};
+ghost use Prim.Native.Nat.{_/_};
+ghost use lib.ListN.{length};
+ghost use Rattle.sets.specs.Rows.{rowIsEmpty};
+ghost use Rattle.report.specs.Tables.{Tables};
+ghost use Rattle.report.specs.Verdicts.{refusal, refuseIf};
+ghost use Rattle.report.specs.Checks.{schemaCheck};
+ghost use Rattle.report.specs.Configuring.{written};
+ghost use Rattle.report.proofs.FormFacts.{ExpressionLower};
+ghost use Rattle.conditions.specs.Conditions.{expressionRows, Fillable, Reads, Readable};
+ghost use Rattle.conditions.specs.RowRules.{stepRow, listRule, relationRule, ListRead, RelationRead};
+
+// The row of an expression, from the rows of lower forms; `full` has the configurations of all features.
+fn expression_row(x: Expression, rows: &[u64], full: Row) -> Row
+    requires { ⌜ ExpressionLower 10 (length (now rows) / 16) x ⌝ }
+    ensures { λ r. ⌜ r .words ≡ stepRow (full .words) (now (rows .entry)) x ⌝ }
+{
+    match x {
+        Expression::Malformed => Row::empty(),
+        Expression::False => Row::empty(),
+        Expression::True => full,
+        Expression::Feature(a) => full.intersect(Row::feature(a)),
+        Expression::Not(a) => full.minus(Row::load(rows, a)),
+        Expression::And(a, b) => Row::load(rows, a).intersect(Row::load(rows, b)),
+        Expression::Or(a, b) => Row::load(rows, a).join(Row::load(rows, b)),
+    }
+}
+
+// Fills `rows` with the rows of the expressions of table 0, bottom up.
+pub fn fill_rows(n: usize, t0: &[u16], rows: &mut [u64])
+    requires { ⌜ Fillable n (now t0) (now rows) ⌝ }
+    ensures { λ _. ⌜ now (rows .exit) ≡ written (expressionRows n (now (t0 .entry))) (now (rows .entry)) ⌝ }
+{
+    let full = Row::full(n);
+    let count = t0.len() / 3;
+    let mut f = 0;
+    while f < count {
+        let x = expression_at(t0, f);
+        let r = expression_row(x, &*rows, full);
+        r.store(&mut *rows, f);
+        f += 1;
+    }
+}
+
+// Check 12, where these configurations are permitted.
+pub fn check_permitted(permitted: Row) -> Verdict
+    ensures { λ r. ⌜ r ≡ refuseIf (rowIsEmpty 16 (permitted .words)) (refusal 12 0 0 0) ⌝ }
+{
+    if permitted.is_empty() {
+        return Verdict::Refused(Refusal {
+            number: 12,
+            place: 0,
+            item: 0,
+            configuration: 0,
+        });
+    }
+    Verdict::Accepted
+}
+
+// Check 14 of relation r, which has `count` entries from `start` on; `present` has the permitted configurations where it is present.
+fn check_list(
+    rows: &[u64],
+    present: Row,
+    t1: &[u16],
+    r: usize,
+    start: usize,
+    count: usize,
+) -> Verdict
+    requires { ⌜ ListRead (now rows) (now t1) start count ⌝ }
+    ensures { λ v. ⌜ v ≡ listRule (now (rows .entry)) (present .words) (now (t1 .entry)) r start count ⌝ }
+{
+    let end = start + count;
+    let mut k = start;
+    while k < end {
+        let x = entry_expression(t1, k);
+        let both = present.intersect(Row::load(rows, x));
+        if both.is_empty() {
+            let a = entry_attribute(t1, k);
+            return Verdict::Refused(Refusal {
+                number: 14,
+                place: r as u64,
+                item: a as u64,
+                configuration: 0,
+            });
+        }
+        k += 1;
+    }
+    Verdict::Accepted
+}
+
+// Checks 13 and 14 of relation r, whose list starts at `start`.
+fn check_relation(
+    rows: &[u64],
+    permits: Row,
+    t1: &[u16],
+    t2: &[u16],
+    r: usize,
+    start: usize,
+) -> Verdict
+    requires { ⌜ RelationRead (now rows) (now t1) (now t2) r start ⌝ }
+    ensures { λ v. ⌜ v ≡ relationRule (now (rows .entry)) (permits .words) (now (t1 .entry)) (now (t2 .entry)) r start ⌝ }
+{
+    let x = relation_expression(t2, r);
+    let count = relation_length(t2, r);
+    let own = Row::load(rows, x);
+    let present = permits.intersect(own);
+    if present.is_empty() {
+        return Verdict::Refused(Refusal {
+            number: 13,
+            place: r as u64,
+            item: 0,
+            configuration: 0,
+        });
+    }
+    check_list(rows, present, t1, r, start, count)
+}
+
+// Checks 13 and 14, relation by relation, of tables whose expression rows `rows` starts with.
+pub fn check_schema(rows: &[u64], permits: Row, t1: &[u16], t2: &[u16]) -> Verdict
+    requires { ⌜ Readable (now rows) (permits .words) (now t1) (now t2) ⌝ }
+    ensures { λ v. ⌜ ((T : Tables) → Reads T (now (rows .entry)) (permits .words) (now (t1 .entry)) (now (t2 .entry)) → v ≡ schemaCheck T) ⌝ }
+{
+    let count = t2.len() / 2;
+    let mut start = 0;
+    let mut r = 0;
+    while r < count {
+        let v = check_relation(rows, permits, t1, t2, r, start);
+        if let Verdict::Refused(_) = v {
+            return v;
+        }
+        start += relation_length(t2, r);
+        r += 1;
+    }
+    Verdict::Accepted
+}
