@@ -1,0 +1,84 @@
+-- What the checks that accept leave for the next ones.
+use Prim.Native.Nat.{ℕ, zero, suc, _/_, _≤_, _<_}
+use mathlib.Core.Path.{_≡_, sym, _∙_}
+use mathlib.Core.Bool.{and-eq-true-iff}
+use mathlib.Core.List.{List, []}
+use native.Mathlib.Nat.{le-refl}
+use native.Mathlib.Omega.{arith}
+use borrow.Author.Tests.{ltb-true, ltb-false, not-false}
+use lib.ListN.{length, getD}
+use lib.Dec.{ltb, lit<}
+use Rattle.report.specs.Tables.{Tables, shapes, shapeOf, words, entryAttribute, relationExpression, relationStart}
+use Rattle.report.specs.Verdicts.{refusal, refuseIf, orElse}
+use Rattle.report.specs.FormChecks.{headCheck, lengthCheck, lengthsCheck, entriesCheck, relationsCheck, entryFits, relationFits}
+use Rattle.report.specs.declared.Refusal.{Refusal}
+use Rattle.report.specs.declared.Verdict.{Verdict}
+use Rattle.report.proofs.VerdictLaws.{then-next, then-refused, both-accepted, if-accepted, first-accepted}
+use Rattle.report.proofs.Formed.{Sized, sized, all-fit}
+use Rattle.forms.specs.Steps.{Ready, ListsReady, ContentsReady}
+use Rattle.forms.proofs.Lists.{list-inside}
+
+-- a check that refuses ends the chain; after one that accepts, the rest answers
+pub stops : {v a : Verdict} {r : Refusal} (b : Verdict) → v ≡ a → v ≡ Verdict.Refused r → v ≡ orElse a b
+stops b e f = f ∙ sym (then-refused b (sym e ∙ f))
+
+pub goes-on : {v a w b : Verdict} → v ≡ a → v ≡ Verdict.Accepted → w ≡ b → w ≡ orElse a b
+goes-on e f g = g ∙ sym (then-next (sym e ∙ f))
+
+-- check 6 leaves lists that end in table 1
+module _ (e : ℕ) (entries relations : List ℕ) (accepted : relationsCheck e entries relations ≡ Verdict.Accepted) where
+  ends : (r : ℕ) → r ≤ length relations / 2 → relationStart relations r ≤ length entries / 2
+  unfolding relationsCheck
+  ends zero h = omega arith
+  ends (suc r) h =
+      list-inside entries _ _
+      (and-eq-true-iff (ltb (relationExpression relations r) e) _ .0
+      (all-fit _ (relationFits e entries relations) (length relations / 2) accepted r h) .1)
+
+  pub ready : {start : ℕ} (queries : List ℕ) → ListsReady entries relations queries → start ≡ relationStart relations (length relations / 2)
+      → Ready entries start queries
+  ready queries l f =
+      record {
+        narrow = l .narrow;
+        starts = rw f (ends (length relations / 2) (le-refl _));
+        few = l .few;
+        some = l .some;
+        fits = l .fits;
+      }
+
+-- check 5 leaves attributes below 64
+pub lists-ready : (m e : ℕ) (entries relations queries : List ℕ) → entriesCheck m e entries ≡ Verdict.Accepted
+    → ContentsReady m entries relations queries → ListsReady entries relations queries
+unfolding entriesCheck
+lists-ready m e entries relations queries accepted c = record {
+  narrow =
+      record {
+        each = λ k h.
+            let f = all-fit _ (entryFits m e entries) (length entries / 2) accepted k h in
+            let a = ltb-true (entryAttribute entries k) m (and-eq-true-iff _ _ .0 f .0) in
+            let n = c .narrow in
+            omega arith;
+      };
+  few = c .few;
+  most = c .most;
+  some = c .some;
+  fits = c .fits;
+}
+
+-- checks 1 and 2 leave the limits
+pub contents-ready : (T : Tables) → headCheck (T .features) (T .attributes) ≡ Verdict.Accepted → lengthsCheck T ≡ Verdict.Accepted
+    → ContentsReady (T .attributes) (T .entries) (T .relations) (T .queries)
+contents-ready T head lengths = record {
+  narrow = ltb-false 64 (T .attributes) (if-accepted _ (refusal 1 1 0 0) (both-accepted (refuseIf (ltb 10 (T .features)) (refusal 1 0 0 0)) _ head .1));
+  few = size 1 (lit< tt) .fits;
+  most = size 2 (lit< tt) .fits;
+  some = size 4 (lit< tt) .enough;
+  fits = size 4 (lit< tt) .fits;
+}
+  where
+    size : (t : ℕ) → t < 5 → Sized (getD shapes t (shapeOf 1 0 0)) (length (getD (words T) t []))
+    size t h =
+        sized _ _
+        (not-false _
+        (if-accepted _ _
+        (first-accepted (λ u. lengthCheck (getD shapes u (shapeOf 1 0 0)) u (length (getD (words T) u []))) 5 0 lengths t (omega arith) (omega arith))))

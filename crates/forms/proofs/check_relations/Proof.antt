@@ -1,0 +1,83 @@
+use borrow.Author.Needs.{needs}
+use Prim.Native.Nat.{_-_, _/_}
+use mathlib.Core.Path.{_∙_}
+use lib.ListN.{length}
+use Rattle.report.specs.FormChecks.{relationsCheck}
+use Rattle.table_checks.proofs.FormLoops.{passed-first, passed-all}
+use Rattle.forms.proofs.Lists.{Related, related-none, relation-is, related-inside, related-more}
+use Rattle.forms.proofs.check_relations.Statement.{statement}
+use Rattle.forms.proofs.check_relations.Tie as tie
+
+abbrev Inv-loop : tie.InvT-loop
+Inv-loop e t1 t2 count start₀ r₀ start r = Related e t1 t2 start r
+
+abbrev μ-loop : tie.MeasureT-loop
+μ-loop e t1 t2 count start₀ r₀ start r = length t2 / 2 - r
+
+loop-holds : tie.Need-loop-holds Inv-loop μ-loop
+loop-holds c = related-none _ _ _
+
+relation-expression-requires : tie.Need-relation-expression-requires Inv-loop μ-loop
+relation-expression-requires c κs = search needs
+
+relation-length-requires : tie.Need-relation-length-requires Inv-loop μ-loop
+relation-length-requires c κs = search needs
+
+list-fits-requires : tie.Need-list-fits-requires Inv-loop μ-loop
+list-fits-requires c κs =
+    let l = c .before .before .before in
+    record { narrow = l .before .before .before .pre; starts = l .loop .inv .inside }
+
+refuse-requires : tie.Need-refuse-requires Inv-loop μ-loop
+refuse-requires c κs = search needs
+
+returns : tie.Need-returns Inv-loop μ-loop
+unfolding relationsCheck
+returns c =
+    let d = c .before .before .before in
+    let l = d .before .before .before in
+    c .refuse .ensures
+    ∙ passed-first _ _ (l .loop .inv .passed) (d .before .before .loop-test .taken)
+    (relation-is _ _ _ (l .loop .inv) (d .before .relation-expression .ensures .same) (d .relation-length .ensures .same) (c .before .before .list-fits .ensures))
+    (c .before .if1 .taken) _
+
+add-start : tie.Need-add-start Inv-loop μ-loop
+add-start c =
+    let d = c .before .before in
+    let i = related-inside _ _ _ (d .before .before .before .loop .inv) (d .before .relation-expression .ensures .same) (d .relation-length .ensures .same)
+    (c .before .list-fits .ensures) (c .if1 .left) in
+    search needs
+
+add-r : tie.Need-add-r Inv-loop μ-loop
+add-r c = search needs
+
+loop-less : tie.Need-loop-less Inv-loop μ-loop
+loop-less c = search needs
+
+loop-again : tie.Need-loop-again Inv-loop μ-loop
+loop-again c =
+    let d = c .before .before in
+    related-more _ _ _ (d .before .before .before .loop .inv) (d .before .relation-expression .ensures .same) (d .relation-length .ensures .same)
+    (c .before .list-fits .ensures) (d .before .before .loop-test .taken) (c .if1 .left)
+
+returns-2 : tie.Need-returns-2 Inv-loop μ-loop
+unfolding relationsCheck
+returns-2 c = passed-all _ _ (c .before .loop .inv .passed) (c .loop-test .left) _
+
+pub check-relations-spec : {M : Type 1} → statement M
+check-relations-spec =
+    tie.close
+    (tie.spec
+    Inv-loop
+    μ-loop
+    loop-holds
+    relation-expression-requires
+    relation-length-requires
+    list-fits-requires
+    refuse-requires
+    returns
+    add-start
+    add-r
+    loop-less
+    loop-again
+    returns-2)
