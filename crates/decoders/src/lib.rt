@@ -7,7 +7,7 @@ ghost use mathlib.Core.Bool.{cond};
 ghost use Prim.Native.Nat.{_+_, _*_, _/_, _<_};
 ghost use lib.ListN.{length, getD};
 ghost use Rattle.report.specs.Tables.{entryAttribute, entryExpression, relationExpression, relationLength, expressionOf, expression};
-ghost use Rattle.report.specs.Tables.{comparisonOf, comparison, queryOf, query};
+ghost use Rattle.report.specs.Tables.{comparisonOf, comparison, queryOf, query, projectLength};
 ghost use Rattle.report.specs.declared.Expression.{Expression};
 ghost use Rattle.report.specs.declared.Comparison.{Comparison};
 ghost use Rattle.report.specs.declared.Query.{Query};
@@ -165,4 +165,15 @@ pub fn query_at(t4: &[u16], k: usize) -> Query
         word_at(t4, at + 2),
         word_at(t4, at + 3),
     )
+}
+
+// How many entries a query form lists.
+pub fn project_length(x: Query) -> usize
+    ensures { λ r. ⌜ r ≡ projectLength x ⌝ }
+{
+    if let Query::Project(count, _) = x {
+        count
+    } else {
+        0
+    }
 }

@@ -1,5 +1,6 @@
 // Checks 6 and 8 to 10 of document 01's table, and checks 1 to 10 one after another.
 use decoders::entry_attribute;
+use decoders::project_length;
 use decoders::query_at;
 use decoders::relation_expression;
 use decoders::relation_length;
@@ -19,7 +20,7 @@ ghost use mathlib.Core.Path.{_≡_};
 ghost use mathlib.Core.Bool.{not};
 ghost use Prim.Native.Nat.{_/_, _<_, _≤_};
 ghost use lib.ListN.{length, set};
-ghost use Rattle.report.specs.Tables.{tablesOf, relationStart, projectLength};
+ghost use Rattle.report.specs.Tables.{tablesOf, relationStart};
 ghost use Rattle.report.specs.Verdicts.{orElse};
 ghost use Rattle.report.specs.FormChecks.{repeats, listFits, relationsCheck, leftEntryCheck, formCheck};
 ghost use Rattle.forms.specs.Steps.{Narrow, Inside, Begun, freeBy, freePairBy, queryFitsBy, FormRoom, Markable, markedBy, untakenBy};
@@ -167,13 +168,6 @@ fn mark_operands(marks: &mut [u8], x: Query)
         Query::Union(a, b) => mark_both(marks, a, b),
         Query::Intersection(a, b) => mark_both(marks, a, b),
     }
-}
-
-// How many entries a query form lists.
-fn project_length(x: Query) -> usize
-    ensures { λ r. ⌜ r ≡ projectLength x ⌝ }
-{
-    if let Query::Project(a, _) = x { a } else { 0 }
 }
 
 // Check 9, by the marks of all forms.

@@ -11,27 +11,12 @@ Inv-loop rows present t1 r start count end k₀ k = Listed rows (present .words)
 abbrev μ-loop : tie.MeasureT-loop
 μ-loop rows present t1 r start count end k₀ k = start + count - k
 
-add-end : tie.Need-add-end Inv-loop μ-loop
-add-end c = let i = c .before .before .pre .inside in omega arith
-
-loop-holds : tie.Need-loop-holds Inv-loop μ-loop
-loop-holds c = listed-none _ _ _ _ _
-
-entry-expression-requires : tie.Need-entry-expression-requires Inv-loop μ-loop
-entry-expression-requires c κs = let i = c .before .before .before .before .pre .inside in omega arith
-
 load-requires : tie.Need-load-requires Inv-loop μ-loop
 load-requires c κs =
     let i = c .before .before .before .before .before .pre .inside in
     let l = c .before .before .before .before .before .pre .rowed (c .before .before .loop .k) (omega arith) in
     let e = c .entry-expression .ensures .same in
     omega arith
-
-intersect-requires : tie.Need-intersect-requires Inv-loop μ-loop
-intersect-requires c κs = search needs
-
-is-empty-requires : tie.Need-is-empty-requires Inv-loop μ-loop
-is-empty-requires c κs = search needs
 
 entry-attribute-requires : tie.Need-entry-attribute-requires Inv-loop μ-loop
 entry-attribute-requires c κs =
@@ -53,17 +38,11 @@ add-k c =
     let t = c .before .before .before .before .before .loop-test .taken in
     omega arith
 
-loop-less : tie.Need-loop-less Inv-loop μ-loop
-loop-less c = let t = c .before .before .before .before .before .loop-test .taken in omega arith
-
 loop-again : tie.Need-loop-again Inv-loop μ-loop
 loop-again c =
     let i = c .before .before .before .before .before in
     listed-more _ _ _ _ _ (i .before .loop .inv) (i .loop-test .taken) (c .before .before .before .before .entry-expression .ensures .same)
     (c .before .before .before .load .ensures) (c .before .before .intersect .ensures) (c .before .is-empty .ensures) (c .if1 .left)
-
-returns-2 : tie.Need-returns-2 Inv-loop μ-loop
-returns-2 c = listed-all _ _ _ _ _ _ (c .before .loop .inv) (c .loop-test .left)
 
 pub check-list-spec : {M : Type 1} → statement M
 check-list-spec =
@@ -71,15 +50,15 @@ check-list-spec =
     (tie.spec
     Inv-loop
     μ-loop
-    add-end
-    loop-holds
-    entry-expression-requires
+    (λ c. let i = c .before .before .pre .inside in omega arith)
+    (λ c. listed-none _ _ _ _ _)
+    (λ c κs. let i = c .before .before .before .before .pre .inside in omega arith)
     load-requires
-    intersect-requires
-    is-empty-requires
+    (λ c κs. search needs)
+    (λ c κs. search needs)
     entry-attribute-requires
     returns
     add-k
-    loop-less
+    (λ c. let t = c .before .before .before .before .before .loop-test .taken in omega arith)
     loop-again
-    returns-2)
+    (λ c. listed-all _ _ _ _ _ _ (c .before .loop .inv) (c .loop-test .left)))

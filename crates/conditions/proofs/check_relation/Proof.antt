@@ -4,23 +4,11 @@ use Rattle.conditions.proofs.CheckLaws.{relation-absent, relation-prese
 use Rattle.conditions.proofs.check_relation.Statement.{statement}
 use Rattle.conditions.proofs.check_relation.Tie as tie
 
-relation-expression-requires : tie.Need-relation-expression-requires
-relation-expression-requires c κs = c .before .before .before .pre .inside
-
-relation-length-requires : tie.Need-relation-length-requires
-relation-length-requires c κs = c .before .before .before .before .pre .inside
-
 load-requires : tie.Need-load-requires
 load-requires c κs =
     let l = c .before .before .before .before .before .pre .rowed in
     let e = c .before .relation-expression .ensures .same in
     omega arith
-
-intersect-requires : tie.Need-intersect-requires
-intersect-requires c κs = search needs
-
-is-empty-requires : tie.Need-is-empty-requires
-is-empty-requires c κs = search needs
 
 returns : tie.Need-returns
 returns c =
@@ -43,11 +31,11 @@ pub check-relation-spec : {M : Type 1} → statement M
 check-relation-spec =
     tie.close
     (tie.spec
-    relation-expression-requires
-    relation-length-requires
+    (λ c κs. c .before .before .before .pre .inside)
+    (λ c κs. c .before .before .before .before .pre .inside)
     load-requires
-    intersect-requires
-    is-empty-requires
+    (λ c κs. search needs)
+    (λ c κs. search needs)
     returns
     check-list-requires
     returns-2)

@@ -12,25 +12,13 @@ Inv-loop rows permits t1 t2 count start₀ r₀ start r = Related rows (permits 
 abbrev μ-loop : tie.MeasureT-loop
 μ-loop rows permits t1 t2 count start₀ r₀ start r = length t2 / 2 - r
 
-loop-holds : tie.Need-loop-holds Inv-loop μ-loop
-loop-holds c = related-none _ _ _ _
-
 check-relation-requires : tie.Need-check-relation-requires Inv-loop μ-loop
 check-relation-requires c κs = related-read _ _ _ _ (c .before .loop .inv) (c .loop-test .taken) (c .before .before .before .before .before .pre)
-
-enum-told : tie.Need-enum-told Inv-loop μ-loop
-enum-told c = search needs
 
 returns : tie.Need-returns Inv-loop μ-loop
 returns c =
     let i = c .before .before .before in
     related-here _ _ _ _ (i .before .loop .inv) (i .loop-test .taken) (c .before .before .check-relation .ensures) (c .enum-told .given .1)
-
-enum-told-2 : tie.Need-enum-told-2 Inv-loop μ-loop
-enum-told-2 c = search needs
-
-relation-length-requires : tie.Need-relation-length-requires Inv-loop μ-loop
-relation-length-requires c κs = search needs
 
 add-start : tie.Need-add-start Inv-loop μ-loop
 add-start c =
@@ -39,20 +27,11 @@ add-start c =
     let e = c .relation-length .ensures .same in
     omega arith
 
-add-r : tie.Need-add-r Inv-loop μ-loop
-add-r c = search needs
-
-loop-less : tie.Need-loop-less Inv-loop μ-loop
-loop-less c = search needs
-
 loop-again : tie.Need-loop-again Inv-loop μ-loop
 loop-again c =
     let i = c .before .before .before .before in
     related-more _ _ _ _ (i .before .loop .inv) (i .loop-test .taken) (c .before .before .before .check-relation .ensures)
     (c .before .enum-told2 .given .1) (c .relation-length .ensures .same)
-
-returns-2 : tie.Need-returns-2 Inv-loop μ-loop
-returns-2 c = related-all _ _ _ _ (c .before .loop .inv) (c .loop-test .left)
 
 pub check-schema-spec : {M : Type 1} → statement M
 check-schema-spec =
@@ -60,14 +39,14 @@ check-schema-spec =
     (tie.spec
     Inv-loop
     μ-loop
-    loop-holds
+    (λ c. related-none _ _ _ _)
     check-relation-requires
-    enum-told
+    (λ c. search needs)
     returns
-    enum-told-2
-    relation-length-requires
+    (λ c. search needs)
+    (λ c κs. search needs)
     add-start
-    add-r
-    loop-less
+    (λ c. search needs)
+    (λ c. search needs)
     loop-again
-    returns-2)
+    (λ c. related-all _ _ _ _ (c .before .loop .inv) (c .loop-test .left)))

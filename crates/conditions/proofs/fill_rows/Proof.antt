@@ -12,15 +12,6 @@ Inv-loop n t0 rows₀ full count f₀ rows f = Filling n t0 rows₀ rows f
 abbrev μ-loop : tie.MeasureT-loop
 μ-loop n t0 rows₀ full count f₀ rows f = length t0 / 3 - f
 
-full-requires : tie.Need-full-requires Inv-loop μ-loop
-full-requires c κs = search needs
-
-loop-holds : tie.Need-loop-holds Inv-loop μ-loop
-loop-holds c = filling-none _ _ _
-
-expression-at-requires : tie.Need-expression-at-requires Inv-loop μ-loop
-expression-at-requires c κs = search needs
-
 expression-row-requires : tie.Need-expression-row-requires Inv-loop μ-loop
 expression-row-requires c κs =
     let i = c .before .before in
@@ -34,12 +25,6 @@ store-requires c κs =
     let s = i .before .loop .inv .size in
     omega arith
 
-add-f : tie.Need-add-f Inv-loop μ-loop
-add-f c = search needs
-
-loop-less : tie.Need-loop-less Inv-loop μ-loop
-loop-less c = search needs
-
 loop-again : tie.Need-loop-again Inv-loop μ-loop
 loop-again c =
     let i = c .before .before .before .before .before .before .before in
@@ -48,25 +33,19 @@ loop-again c =
     (i .before .before .full .ensures) (x .before .expression-at .ensures) (c .before .before .before .before .expression-row .ensures)
     (c .before .before .store .kept .1 .0) (c .before .before .store .ensures)
 
-same-length : tie.Need-same-length Inv-loop μ-loop
-same-length c = c .before .loop .inv .size
-
-returns : tie.Need-returns Inv-loop μ-loop
-returns c = filling-all _ _ _ (c .before .before .before .before .before .pre) (c .before .loop .inv) (c .loop-test .left)
-
 pub fill-rows-spec : {M : Type 1} → statement M
 fill-rows-spec =
     tie.close
     (tie.spec
     Inv-loop
     μ-loop
-    full-requires
-    loop-holds
-    expression-at-requires
+    (λ c κs. search needs)
+    (λ c. filling-none _ _ _)
+    (λ c κs. search needs)
     expression-row-requires
     store-requires
-    add-f
-    loop-less
+    (λ c. search needs)
+    (λ c. search needs)
     loop-again
-    same-length
-    returns)
+    (λ c. c .before .loop .inv .size)
+    (λ c. filling-all _ _ _ (c .before .before .before .before .before .pre) (c .before .loop .inv) (c .loop-test .left)))

@@ -4,38 +4,11 @@ use Rattle.forms.proofs.Chain.{stops, goes-on, lists-ready}
 use Rattle.forms.proofs.check_contents.Statement.{statement}
 use Rattle.forms.proofs.check_contents.Tie as tie
 
-check-expressions-requires : tie.Need-check-expressions-requires
-check-expressions-requires c κs = search needs
-
-enum-told : tie.Need-enum-told
-enum-told c = search needs
-
-returns : tie.Need-returns
-returns c = stops _ (c .before .before .check-expressions .ensures) (c .enum-told .given .1)
-
-enum-told-2 : tie.Need-enum-told-2
-enum-told-2 c = search needs
-
-check-model-requires : tie.Need-check-model-requires
-check-model-requires c κs = search needs
-
-enum-told-3 : tie.Need-enum-told-3
-enum-told-3 c = search needs
-
 returns-2 : tie.Need-returns-2
 returns-2 c =
     let d = c .before .before .before in
     goes-on (d .before .before .check-expressions .ensures) (d .enum-told2 .given .1)
     (stops _ (c .before .before .check-model .ensures) (c .enum-told3 .given .1))
-
-enum-told-4 : tie.Need-enum-told-4
-enum-told-4 c = search needs
-
-check-entries-requires : tie.Need-check-entries-requires
-check-entries-requires c κs = search needs
-
-enum-told-5 : tie.Need-enum-told-5
-enum-told-5 c = search needs
 
 returns-3 : tie.Need-returns-3
 returns-3 c =
@@ -44,9 +17,6 @@ returns-3 c =
     goes-on (d .before .before .check-expressions .ensures) (d .enum-told2 .given .1)
     (goes-on (w .before .before .check-model .ensures) (w .enum-told4 .given .1)
     (stops _ (c .before .before .check-entries .ensures) (c .enum-told5 .given .1)))
-
-enum-told-6 : tie.Need-enum-told-6
-enum-told-6 c = search needs
 
 check-lists-requires : tie.Need-check-lists-requires
 check-lists-requires c κs =
@@ -67,17 +37,17 @@ pub check-contents-spec : {M : Type 1} → statement M
 check-contents-spec =
     tie.close
     (tie.spec
-    check-expressions-requires
-    enum-told
-    returns
-    enum-told-2
-    check-model-requires
-    enum-told-3
+    (λ c κs. search needs)
+    (λ c. search needs)
+    (λ c. stops _ (c .before .before .check-expressions .ensures) (c .enum-told .given .1))
+    (λ c. search needs)
+    (λ c κs. search needs)
+    (λ c. search needs)
     returns-2
-    enum-told-4
-    check-entries-requires
-    enum-told-5
+    (λ c. search needs)
+    (λ c κs. search needs)
+    (λ c. search needs)
     returns-3
-    enum-told-6
+    (λ c. search needs)
     check-lists-requires
     returns-4)

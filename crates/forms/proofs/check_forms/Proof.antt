@@ -6,24 +6,9 @@ use Rattle.forms.proofs.Chain.{stops, goes-on, contents-ready}
 use Rattle.forms.proofs.check_forms.Statement.{statement}
 use Rattle.forms.proofs.check_forms.Tie as tie
 
-check-head-requires : tie.Need-check-head-requires
-check-head-requires c κs = search needs
-
-enum-told : tie.Need-enum-told
-enum-told c = search needs
-
 returns : tie.Need-returns
 unfolding formCheck
 returns c = stops _ (c .before .before .check-head .ensures) (c .enum-told .given .1)
-
-enum-told-2 : tie.Need-enum-told-2
-enum-told-2 c = search needs
-
-check-lengths-requires : tie.Need-check-lengths-requires
-check-lengths-requires c κs = search needs
-
-enum-told-3 : tie.Need-enum-told-3
-enum-told-3 c = search needs
 
 returns-2 : tie.Need-returns-2
 unfolding formCheck
@@ -31,9 +16,6 @@ returns-2 c =
     let d = c .before .before .before in
     goes-on (d .before .before .check-head .ensures) (d .enum-told2 .given .1)
     (stops _ (c .before .before .check-lengths .ensures) (c .enum-told3 .given .1))
-
-enum-told-4 : tie.Need-enum-told-4
-enum-told-4 c = search needs
 
 check-contents-requires : tie.Need-check-contents-requires
 check-contents-requires c κs =
@@ -54,13 +36,13 @@ pub check-forms-spec : {M : Type 1} → statement M
 check-forms-spec =
     tie.close
     (tie.spec
-    check-head-requires
-    enum-told
+    (λ c κs. search needs)
+    (λ c. search needs)
     returns
-    enum-told-2
-    check-lengths-requires
-    enum-told-3
+    (λ c. search needs)
+    (λ c κs. search needs)
+    (λ c. search needs)
     returns-2
-    enum-told-4
+    (λ c. search needs)
     check-contents-requires
     returns-3)

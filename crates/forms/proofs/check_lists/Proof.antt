@@ -4,35 +4,11 @@ use Rattle.forms.proofs.Chain.{stops, goes-on, ready}
 use Rattle.forms.proofs.check_lists.Statement.{statement}
 use Rattle.forms.proofs.check_lists.Tie as tie
 
-check-relations-requires : tie.Need-check-relations-requires
-check-relations-requires c κs = search needs
-
-enum-told : tie.Need-enum-told
-enum-told c = search needs
-
-returns : tie.Need-returns
-returns c = stops _ (c .before .before .check-relations .ensures) (c .enum-told .given .1)
-
-enum-told-2 : tie.Need-enum-told-2
-enum-told-2 c = search needs
-
-check-comparisons-requires : tie.Need-check-comparisons-requires
-check-comparisons-requires c κs = search needs
-
-enum-told-3 : tie.Need-enum-told-3
-enum-told-3 c = search needs
-
 returns-2 : tie.Need-returns-2
 returns-2 c =
     let d = c .before .before .before in
     goes-on (d .before .before .check-relations .ensures) (d .enum-told2 .given .1)
     (stops _ (c .before .before .check-comparisons .ensures) (c .enum-told3 .given .1))
-
-enum-told-4 : tie.Need-enum-told-4
-enum-told-4 c = search needs
-
-relations-end-requires : tie.Need-relations-end-requires
-relations-end-requires c κs = search needs
 
 check-queries-requires : tie.Need-check-queries-requires
 check-queries-requires c κs =
@@ -52,14 +28,14 @@ pub check-lists-spec : {M : Type 1} → statement M
 check-lists-spec =
     tie.close
     (tie.spec
-    check-relations-requires
-    enum-told
-    returns
-    enum-told-2
-    check-comparisons-requires
-    enum-told-3
+    (λ c κs. search needs)
+    (λ c. search needs)
+    (λ c. stops _ (c .before .before .check-relations .ensures) (c .enum-told .given .1))
+    (λ c. search needs)
+    (λ c κs. search needs)
+    (λ c. search needs)
     returns-2
-    enum-told-4
-    relations-end-requires
+    (λ c. search needs)
+    (λ c κs. search needs)
     check-queries-requires
     returns-3)

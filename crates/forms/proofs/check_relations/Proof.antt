@@ -14,22 +14,10 @@ Inv-loop e t1 t2 count start₀ r₀ start r = Related e t1 t2 start r
 abbrev μ-loop : tie.MeasureT-loop
 μ-loop e t1 t2 count start₀ r₀ start r = length t2 / 2 - r
 
-loop-holds : tie.Need-loop-holds Inv-loop μ-loop
-loop-holds c = related-none _ _ _
-
-relation-expression-requires : tie.Need-relation-expression-requires Inv-loop μ-loop
-relation-expression-requires c κs = search needs
-
-relation-length-requires : tie.Need-relation-length-requires Inv-loop μ-loop
-relation-length-requires c κs = search needs
-
 list-fits-requires : tie.Need-list-fits-requires Inv-loop μ-loop
 list-fits-requires c κs =
     let l = c .before .before .before in
     record { narrow = l .before .before .before .pre; starts = l .loop .inv .inside }
-
-refuse-requires : tie.Need-refuse-requires Inv-loop μ-loop
-refuse-requires c κs = search needs
 
 returns : tie.Need-returns Inv-loop μ-loop
 unfolding relationsCheck
@@ -48,12 +36,6 @@ add-start c =
     (c .before .list-fits .ensures) (c .if1 .left) in
     search needs
 
-add-r : tie.Need-add-r Inv-loop μ-loop
-add-r c = search needs
-
-loop-less : tie.Need-loop-less Inv-loop μ-loop
-loop-less c = search needs
-
 loop-again : tie.Need-loop-again Inv-loop μ-loop
 loop-again c =
     let d = c .before .before in
@@ -70,14 +52,14 @@ check-relations-spec =
     (tie.spec
     Inv-loop
     μ-loop
-    loop-holds
-    relation-expression-requires
-    relation-length-requires
+    (λ c. related-none _ _ _)
+    (λ c κs. search needs)
+    (λ c κs. search needs)
     list-fits-requires
-    refuse-requires
+    (λ c κs. search needs)
     returns
     add-start
-    add-r
-    loop-less
+    (λ c. search needs)
+    (λ c. search needs)
     loop-again
     returns-2)

@@ -14,33 +14,15 @@ Inv-loop marks last q₀ q = Passed (marked marks) last q
 abbrev μ-loop : tie.MeasureT-loop
 μ-loop marks last q₀ q = last - q
 
-loop-holds : tie.Need-loop-holds Inv-loop μ-loop
-loop-holds c = passed-none _ _
-
-shared-slice-read-if1 : tie.Need-shared-slice-read-if1 Inv-loop μ-loop
-shared-slice-read-if1 c = search needs
-
-refuse-requires : tie.Need-refuse-requires Inv-loop μ-loop
-refuse-requires c κs = search needs
-
 returns : tie.Need-returns Inv-loop μ-loop
 returns c =
     let d = c .before .before .before in
     c .refuse .ensures ∙ passed-first _ _ (d .before .loop .inv) (d .loop-test .taken) refl (ap not (ne-eqb _ _ (c .before .if1 .taken))) _
 
-add-q : tie.Need-add-q Inv-loop μ-loop
-add-q c = search needs
-
-loop-less : tie.Need-loop-less Inv-loop μ-loop
-loop-less c = search needs
-
 loop-again : tie.Need-loop-again Inv-loop μ-loop
 loop-again c =
     let d = c .before .before in
     passed-more _ _ (d .before .loop .inv) (d .loop-test .taken) refl (ap not (eq-eqb _ _ (c .if1 .left)))
-
-returns-2 : tie.Need-returns-2 Inv-loop μ-loop
-returns-2 c = passed-all _ _ (c .before .loop .inv) (c .loop-test .left) _
 
 pub check-untaken-spec : {M : Type 1} → statement M
 check-untaken-spec =
@@ -48,11 +30,11 @@ check-untaken-spec =
     (tie.spec
     Inv-loop
     μ-loop
-    loop-holds
-    shared-slice-read-if1
-    refuse-requires
+    (λ c. passed-none _ _)
+    (λ c. search needs)
+    (λ c κs. search needs)
     returns
-    add-q
-    loop-less
+    (λ c. search needs)
+    (λ c. search needs)
     loop-again
-    returns-2)
+    (λ c. passed-all _ _ (c .before .loop .inv) (c .loop-test .left) _))

@@ -14,18 +14,6 @@ Inv-loop m e t3 count f₀ f = Passed (λ j. comparisonFits m e j (comparison t3
 abbrev μ-loop : tie.MeasureT-loop
 μ-loop m e t3 count f₀ f = length t3 / 5 - f
 
-loop-holds : tie.Need-loop-holds Inv-loop μ-loop
-loop-holds c = passed-none _ _
-
-comparison-at-requires : tie.Need-comparison-at-requires Inv-loop μ-loop
-comparison-at-requires c κs = search needs
-
-comparison-fits-requires : tie.Need-comparison-fits-requires Inv-loop μ-loop
-comparison-fits-requires c κs = search needs
-
-refuse-requires : tie.Need-refuse-requires Inv-loop μ-loop
-refuse-requires c κs = search needs
-
 returns : tie.Need-returns Inv-loop μ-loop
 unfolding comparisonsCheck
 returns c =
@@ -33,12 +21,6 @@ returns c =
     c .refuse .ensures
     ∙ passed-first _ _ (d .before .before .before .loop .inv) (d .before .before .loop-test .taken)
     (rw (d .before .comparison-at .ensures) at (d .comparison-fits .ensures)) (c .before .if1 .taken) _
-
-add-f : tie.Need-add-f Inv-loop μ-loop
-add-f c = search needs
-
-loop-less : tie.Need-loop-less Inv-loop μ-loop
-loop-less c = search needs
 
 loop-again : tie.Need-loop-again Inv-loop μ-loop
 loop-again c =
@@ -56,12 +38,12 @@ check-comparisons-spec =
     (tie.spec
     Inv-loop
     μ-loop
-    loop-holds
-    comparison-at-requires
-    comparison-fits-requires
-    refuse-requires
+    (λ c. passed-none _ _)
+    (λ c κs. search needs)
+    (λ c κs. search needs)
+    (λ c κs. search needs)
     returns
-    add-f
-    loop-less
+    (λ c. search needs)
+    (λ c. search needs)
     loop-again
     returns-2)

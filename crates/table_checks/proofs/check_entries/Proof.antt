@@ -13,27 +13,12 @@ Inv-loop m e t1 count k₀ k = Passed (entryFits m e t1) (length t1 / 2) k
 abbrev μ-loop : tie.MeasureT-loop
 μ-loop m e t1 count k₀ k = length t1 / 2 - k
 
-loop-holds : tie.Need-loop-holds Inv-loop μ-loop
-loop-holds c = passed-none _ _
-
-entry-fits-requires : tie.Need-entry-fits-requires Inv-loop μ-loop
-entry-fits-requires c κs = search needs
-
-refuse-requires : tie.Need-refuse-requires Inv-loop μ-loop
-refuse-requires c κs = search needs
-
 returns : tie.Need-returns Inv-loop μ-loop
 unfolding entriesCheck
 returns c =
     let d = c .before .before in
     c .refuse .ensures
     ∙ passed-first _ _ (d .before .before .loop .inv) (d .before .loop-test .taken) (d .entry-fits .ensures) (c .before .if1 .taken) _
-
-add-k : tie.Need-add-k Inv-loop μ-loop
-add-k c = search needs
-
-loop-less : tie.Need-loop-less Inv-loop μ-loop
-loop-less c = search needs
 
 loop-again : tie.Need-loop-again Inv-loop μ-loop
 loop-again c =
@@ -49,11 +34,11 @@ check-entries-spec =
     (tie.spec
     Inv-loop
     μ-loop
-    loop-holds
-    entry-fits-requires
-    refuse-requires
+    (λ c. passed-none _ _)
+    (λ c κs. search needs)
+    (λ c κs. search needs)
     returns
-    add-k
-    loop-less
+    (λ c. search needs)
+    (λ c. search needs)
     loop-again
     returns-2)

@@ -14,18 +14,6 @@ Inv-loop n t0 count f₀ f = Passed (λ j. expressionFits n j (expression t0 j))
 abbrev μ-loop : tie.MeasureT-loop
 μ-loop n t0 count f₀ f = length t0 / 3 - f
 
-loop-holds : tie.Need-loop-holds Inv-loop μ-loop
-loop-holds c = passed-none _ _
-
-expression-at-requires : tie.Need-expression-at-requires Inv-loop μ-loop
-expression-at-requires c κs = search needs
-
-expression-fits-requires : tie.Need-expression-fits-requires Inv-loop μ-loop
-expression-fits-requires c κs = search needs
-
-refuse-requires : tie.Need-refuse-requires Inv-loop μ-loop
-refuse-requires c κs = search needs
-
 returns : tie.Need-returns Inv-loop μ-loop
 unfolding expressionsCheck
 returns c =
@@ -33,12 +21,6 @@ returns c =
     c .refuse .ensures
     ∙ passed-first _ _ (d .before .before .before .loop .inv) (d .before .before .loop-test .taken)
     (rw (d .before .expression-at .ensures) at (d .expression-fits .ensures)) (c .before .if1 .taken) _
-
-add-f : tie.Need-add-f Inv-loop μ-loop
-add-f c = search needs
-
-loop-less : tie.Need-loop-less Inv-loop μ-loop
-loop-less c = search needs
 
 loop-again : tie.Need-loop-again Inv-loop μ-loop
 loop-again c =
@@ -56,12 +38,12 @@ check-expressions-spec =
     (tie.spec
     Inv-loop
     μ-loop
-    loop-holds
-    expression-at-requires
-    expression-fits-requires
-    refuse-requires
+    (λ c. passed-none _ _)
+    (λ c κs. search needs)
+    (λ c κs. search needs)
+    (λ c κs. search needs)
     returns
-    add-f
-    loop-less
+    (λ c. search needs)
+    (λ c. search needs)
     loop-again
     returns-2)

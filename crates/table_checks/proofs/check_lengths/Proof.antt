@@ -5,33 +5,6 @@ use Rattle.report.proofs.VerdictLaws.{or-else-accepted}
 use Rattle.table_checks.proofs.check_lengths.Statement.{statement}
 use Rattle.table_checks.proofs.check_lengths.Tie as tie
 
-check-length-requires : tie.Need-check-length-requires
-check-length-requires c κs = search needs
-
-check-length-requires-2 : tie.Need-check-length-requires-2
-check-length-requires-2 c κs = search needs
-
-check-length-requires-3 : tie.Need-check-length-requires-3
-check-length-requires-3 c κs = search needs
-
-check-length-requires-4 : tie.Need-check-length-requires-4
-check-length-requires-4 c κs = search needs
-
-check-length-requires-5 : tie.Need-check-length-requires-5
-check-length-requires-5 c κs = search needs
-
-or-else-requires : tie.Need-or-else-requires
-or-else-requires c κs = search needs
-
-or-else-requires-2 : tie.Need-or-else-requires-2
-or-else-requires-2 c κs = search needs
-
-or-else-requires-3 : tie.Need-or-else-requires-3
-or-else-requires-3 c κs = search needs
-
-or-else-requires-4 : tie.Need-or-else-requires-4
-or-else-requires-4 c κs = search needs
-
 returns : tie.Need-returns
 returns c =
     let o = c .before .before .before in
@@ -52,13 +25,13 @@ pub check-lengths-spec : {M : Type 1} → statement M
 check-lengths-spec =
     tie.close
     (tie.spec
-    check-length-requires
-    check-length-requires-2
-    check-length-requires-3
-    check-length-requires-4
-    check-length-requires-5
-    or-else-requires
-    or-else-requires-2
-    or-else-requires-3
-    or-else-requires-4
+    (λ c κs. search needs)
+    (λ c κs. search needs)
+    (λ c κs. search needs)
+    (λ c κs. search needs)
+    (λ c κs. search needs)
+    (λ c κs. search needs)
+    (λ c κs. search needs)
+    (λ c κs. search needs)
+    (λ c κs. search needs)
     returns)

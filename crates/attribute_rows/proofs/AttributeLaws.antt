@@ -1,0 +1,143 @@
+-- Laws of the rows of one attribute, for the functions of this crate and for the crates above.
+use Prim.Native.Nat.{ℕ, _+_, _^_, _≤_}
+use mathlib.Core.Path.{_≡_, refl, sym, ap, ap₂, _∙_}
+use mathlib.Core.Bool.{Bool, true, false, cond, not, _&&_, _||_, and-true, and-false}
+use mathlib.Core.List.{List, _++_}
+use native.Mathlib.Omega.{arith}
+use lib.Dec.{ltb}
+use lib.Bits.{bitAnd, bitOr}
+use lib.ListN.{length, length-append}
+use Rattle.sets.specs.Lists.{concat}
+use Rattle.sets.specs.Bits.{bit}
+use Rattle.sets.specs.Rows.{rowOf, rowIn, rowJoin, rowIntersect, within}
+use Rattle.sets.proofs.ListLaws.{concat-length}
+use Rattle.sets.proofs.BitLaws.{bit-none, bit-and, bit-or}
+use Rattle.sets.proofs.RowLaws.{rowOf-same, rowOf-row, join-within, intersect-within, minus-within, rowIn-concat}
+use Rattle.report.specs.Tables.{Tables, entryCount, relationCount, comparisonCount, queryCount, relationStart}
+use Rattle.report.specs.Typing.{present, relationSet, names, setOf}
+use Rattle.report.specs.Configuring.{written}
+use Rattle.attribute_rows.specs.AttributeRows.{hasRow, relationRow, namedRow, setRow, RowsAre}
+use Rattle.attribute_rows.specs.AttributeRows.{Reads, ListReads, RelationReads, NamedReads, SetReads}
+use Rattle.attribute_rows.specs.RowRules.{choiceRow}
+
+-- ---- rows of the configurations of n features
+
+module _ (n : ℕ) where
+  -- tests that agree have one row
+  pub row-same : (p q : ℕ → Bool) → ((c : ℕ) → p c ≡ q c) → rowOf 16 (within n p) ≡ rowOf 16 (within n q)
+  row-same p q e = rowOf-same 16 (within n p) (within n q) (λ c h. ap (λ (t : Bool). ltb c (2 ^ n) && t) (e c))
+
+  pub none-within : rowOf 16 (λ c. false) ≡ rowOf 16 (within n (λ c. false))
+  none-within = rowOf-same 16 (λ c. false) (within n (λ c. false)) (λ c h. sym (and-false (ltb c (2 ^ n))))
+
+  -- a choice: the row of the side that the test takes
+  pub choice-within : (h p q : ℕ → Bool)
+      → choiceRow (rowOf 16 (within n h)) (rowOf 16 (within n p)) (rowOf 16 (within n q)) ≡ rowOf 16 (within n (λ c. cond (h c) (p c) (q c)))
+  choice-within h p q =
+      ap₂ (rowJoin 16) (intersect-within 16 n p h) (minus-within 16 n q h)
+      ∙ join-within 16 n (λ c. p c && h c) (λ c. q c && not (h c))
+      ∙ row-same (λ c. (p c && h c) || (q c && not (h c))) (λ c. cond (h c) (p c) (q c)) (λ c. side (h c) (p c) (q c))
+    where
+      side : (t x y : Bool) → ((x && t) || (y && not t)) ≡ cond t x y
+      side true true y = refl
+      side true false true = refl
+      side true false false = refl
+      side false true true = refl
+      side false true false = refl
+      side false false true = refl
+      side false false false = refl
+
+-- rows that are equal are chosen from alike
+pub choice-of : {h i x y u v : List ℕ} → h ≡ i → x ≡ u → y ≡ v → choiceRow h x y ≡ choiceRow i u v
+choice-of {h} {i} {x} {y} {u} {v} p q r = ap₂ (choiceRow h) q r ∙ ap (λ (j : List ℕ). choiceRow j u v) p
+
+-- ---- the rows of attribute a
+
+module _ (T : Tables) (a : ℕ) where
+  pub has-wide : (set : ℕ → ℕ) → length (hasRow T a set) ≡ 16
+  has-wide set = rowOf-row 16 (within (T .features) (λ c. bit (set c) a)) .size
+
+  pub relation-wide : (r : ℕ) → length (relationRow T a r) ≡ 16
+  relation-wide r = has-wide (λ c. cond (present T c r) (relationSet T c r) 0)
+
+  pub named-wide : (f : ℕ) → length (namedRow T a f) ≡ 16
+  named-wide f = has-wide (λ c. names T c f)
+
+  pub set-wide : (q : ℕ) → length (setRow T a q) ≡ 16
+  set-wide q = has-wide (λ c. setOf T c q)
+
+  pub has-same : (f g : ℕ → ℕ) → ((c : ℕ) → f c ≡ g c) → hasRow T a f ≡ hasRow T a g
+  has-same f g e = row-same (T .features) (λ c. bit (f c) a) (λ c. bit (g c) a) (λ c. ap (λ (s : ℕ). bit s a) (e c))
+
+  -- of the empty set, of a union, of an intersection
+  pub has-none : rowOf 16 (λ c. false) ≡ hasRow T a (λ c. 0)
+  has-none = none-within (T .features) ∙ row-same (T .features) (λ c. false) (λ c. bit 0 a) (λ c. sym (bit-none a))
+
+  module _ (f g : ℕ → ℕ) where
+    pub has-or : rowJoin 16 (hasRow T a f) (hasRow T a g) ≡ hasRow T a (λ c. bitOr (f c) (g c))
+    has-or =
+        join-within 16 (T .features) (λ c. bit (f c) a) (λ c. bit (g c) a)
+        ∙ row-same (T .features) (λ c. bit (f c) a || bit (g c) a) (λ c. bit (bitOr (f c) (g c)) a) (λ c. sym (bit-or (f c) (g c) a))
+
+    pub has-and : rowIntersect 16 (hasRow T a f) (hasRow T a g) ≡ hasRow T a (λ c. bitAnd (f c) (g c))
+    has-and =
+        intersect-within 16 (T .features) (λ c. bit (f c) a) (λ c. bit (g c) a)
+        ∙ row-same (T .features) (λ c. bit (f c) a && bit (g c) a) (λ c. bit (bitAnd (f c) (g c)) a) (λ c. sym (bit-and (f c) (g c) a))
+
+  -- of a set where a test holds, and the empty one elsewhere
+  pub has-where : (h : ℕ → Bool) (f : ℕ → ℕ)
+      → rowIntersect 16 (hasRow T a f) (rowOf 16 (within (T .features) h)) ≡ hasRow T a (λ c. cond (h c) (f c) 0)
+  has-where h f =
+      intersect-within 16 (T .features) (λ c. bit (f c) a) h
+      ∙ row-same (T .features) (λ c. bit (f c) a && h c) (λ c. bit (cond (h c) (f c) 0) a) (λ c. go (f c) (h c))
+    where
+      go : (s : ℕ) (t : Bool) → (bit s a && t) ≡ bit (cond t s 0) a
+      go s true = and-true (bit s a)
+      go s false = and-false (bit s a) ∙ sym (bit-none a)
+
+  -- of the form that a choice takes, where `set` has the sets of all forms
+  pub has-choice : (h : ℕ → Bool) (set : ℕ → ℕ → ℕ) (b d : ℕ)
+      → choiceRow (rowOf 16 (within (T .features) h)) (hasRow T a (λ c. set c b)) (hasRow T a (λ c. set c d)) ≡ hasRow T a (λ c. set c (cond (h c) b d))
+  has-choice h set b d =
+      choice-within (T .features) h (λ c. bit (set c b) a) (λ c. bit (set c d) a)
+      ∙ row-same (T .features) (λ c. cond (h c) (bit (set c b) a) (bit (set c d) a))
+      (λ c. bit (set c (cond (h c) b d)) a) (λ c. go c (h c))
+    where
+      go : (c : ℕ) (t : Bool) → cond t (bit (set c b) a) (bit (set c d) a) ≡ bit (set c (cond t b d)) a
+      go c true = refl
+      go c false = refl
+
+-- ---- rows that were written are those of the forms
+
+module _ (count : ℕ) (f : ℕ → List ℕ) (wide : (k : ℕ) → length (f k) ≡ 16) where
+  pub rows-are : (rest : List ℕ) {rows : List ℕ} → rows ≡ concat count f ++ rest → RowsAre count f rows
+  rows-are rest e = record {
+    room = let l = ap length e ∙ length-append (concat count f) rest in let s = concat-length f 16 count (λ k h. wide k) in omega arith;
+    each = λ k h. ap (λ (s : List ℕ). rowIn 16 s k) e ∙ rowIn-concat 16 count f rest (λ i l. wide i) k h;
+  }
+
+module _ (T : Tables) (a : ℕ) (lent : List ℕ) {rows : List ℕ} where
+  pub relations-are : rows ≡ written (concat (relationCount T) (relationRow T a)) lent → RowsAre (relationCount T) (relationRow T a) rows
+  relations-are = rows-are (relationCount T) (relationRow T a) (relation-wide T a) _
+
+  pub named-are : rows ≡ written (concat (comparisonCount T) (namedRow T a)) lent → RowsAre (comparisonCount T) (namedRow T a) rows
+  named-are = rows-are (comparisonCount T) (namedRow T a) (named-wide T a) _
+
+  pub sets-are : rows ≡ written (concat (queryCount T) (setRow T a)) lent → RowsAre (queryCount T) (setRow T a) rows
+  sets-are = rows-are (queryCount T) (setRow T a) (set-wide T a) _
+
+-- ---- what each function reads, of tables that can be read whole
+
+module _ {T : Tables} {conditions t1 t2 t3 t4 : List ℕ} (R : Reads T conditions t1 t2 t3 t4) where
+  pub reads-list : {start count : ℕ} → start + count ≤ entryCount T → ListReads T conditions t1 start count
+  reads-list h = record { filled = R .filled; entries = R .entries; inside = h }
+
+  pub reads-relations : RelationReads T conditions t1 t2
+  reads-relations = record { filled = R .filled; entries = R .entries; relations = R .relations }
+
+  pub reads-named : {full : List ℕ} → full ≡ rowOf 16 (within (T .features) (λ c. true)) → NamedReads T conditions t3 full
+  reads-named e = record { filled = R .filled; comparisons = R .comparisons; whole = e }
+
+  pub reads-sets : {relations : List ℕ} {first a : ℕ} → RowsAre (relationCount T) (relationRow T a) relations
+      → first ≡ relationStart (T .relations) (relationCount T) → SetReads T conditions t1 t4 relations first a
+  reads-sets S e = record { filled = R .filled; entries = R .entries; queries = R .queries; related = S; begins = e }

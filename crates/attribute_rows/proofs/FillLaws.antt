@@ -1,0 +1,44 @@
+-- The loops that fill rows: which rows stand there so far. Which tables T they are of is left open: all those that the loop can read.
+use Prim.Native.Nat.{ℕ, _+_, _*_, _<_, _≤_}
+use mathlib.Core.Path.{_≡_, refl, sym, ap, ap₂, _∙_}
+use mathlib.Core.List.{List, _++_}
+use native.Mathlib.Omega.{arith}
+use lib.ListN.{length, drop}
+use Rattle.sets.specs.Lists.{concat}
+use Rattle.sets.specs.Rows.{withRow}
+use Rattle.sets.proofs.ListLaws.{concat-length}
+use Rattle.sets.proofs.RowLaws.{withRow-more}
+use Rattle.report.specs.Tables.{Tables}
+use Rattle.report.specs.Configuring.{written}
+use Rattle.attribute_rows.specs.AttributeRows.{RowsAre}
+use Rattle.attribute_rows.proofs.AttributeLaws.{rows-are}
+
+-- of `count` rows of attribute a those below k stand over `lent`: for tables that the loop can read, the rows `row` of these
+pub record Filling (Reads : Tables → Type 0) (row : Tables → ℕ → ℕ → List ℕ) (a count : ℕ) (lent rows : List ℕ) (k : ℕ) : Type 0 where
+  pub most : k ≤ count
+  pub size : length rows ≡ length lent
+  pub filled : (T : Tables) → Reads T → rows ≡ concat k (row T a) ++ drop (k * 16) lent
+
+pub filling-none : {Reads : Tables → Type 0} {row : Tables → ℕ → ℕ → List ℕ} {a count : ℕ} {lent : List ℕ}
+    → Filling Reads row a count lent lent 0
+filling-none = record { most = omega arith; size = refl; filled = λ T R. refl }
+
+module _ {Reads : Tables → Type 0} {row : Tables → ℕ → ℕ → List ℕ} (wide : (T : Tables) (a k : ℕ) → length (row T a k) ≡ 16)
+    {a count : ℕ} {lent rows : List ℕ} {k : ℕ} (S : Filling Reads row a count lent rows k) where
+  pub filling-more : k < count → {new after : List ℕ} → ((T : Tables) → Reads T → RowsAre k (row T a) rows → new ≡ row T a k)
+      → length after ≡ length rows → after ≡ withRow 16 rows k new → Filling Reads row a count lent after (k + 1)
+  filling-more h next same stored = record {
+    most = omega arith;
+    size = same ∙ S .size;
+    filled =
+        λ T R. stored
+        ∙ ap₂ (λ (l r : List ℕ). withRow 16 l k r) (S .filled T R) (next T R (rows-are k (row T a) (wide T a) (drop (k * 16) lent) (S .filled T R)))
+        ∙ withRow-more 16 (row T a) k lent (λ i l. wide T a i);
+  }
+
+  pub filling-all : count ≤ k → (T : Tables) → Reads T → {whole : ℕ} → count ≡ whole → rows ≡ written (concat whole (row T a)) lent
+  filling-all h T R {whole} e =
+      let m : k ≡ whole = (let l = S .most in omega arith) in
+      S .filled T R
+      ∙ ap₂ (λ (i j : ℕ). concat i (row T a) ++ drop j lent) m
+      (ap (λ (i : ℕ). i * 16) m ∙ sym (concat-length (row T a) 16 whole (λ i l. wide T a i)))

@@ -1,0 +1,5 @@
+pub mod AttributeLaws
+pub mod FillLaws
+pub mod ListedLaws
+pub mod NamedLaws
+pub mod SetLaws

@@ -1,0 +1,164 @@
+-- Laws of the rows of lists and relations.
+use Prim.Native.Nat.{ℕ, _+_, _*_, _/_, _^_, _<_, _≤_}
+use mathlib.Core.Path.{_≡_, refl, sym, ap, ap₂, _∙_}
+use mathlib.Core.Bool.{Bool, true, false, cond, _&&_, _||_, and-true, and-false, or-false}
+use mathlib.Core.List.{List}
+use native.Mathlib.Numerals.{add-one}
+use native.Mathlib.Omega.{arith}
+use borrow.Author.Tests.{lt-ltb, eq-eqb, ne-eqb}
+use lib.Dec.{eqb}
+use lib.Bits.{bitOr}
+use lib.ListN.{length}
+use Rattle.sets.specs.Lists.{concat}
+use Rattle.sets.specs.Bits.{bit}
+use Rattle.sets.specs.Rows.{rowOf, rowIn, rowJoin, rowIntersect, withRow, within}
+use Rattle.sets.proofs.BitLaws.{bit-none, bit-or, bit-pow}
+use Rattle.sets.proofs.RowLaws.{join-within}
+use Rattle.report.specs.Tables.{Tables, entryCount, entryAttribute, entryExpression}
+use Rattle.report.specs.Tables.{relationCount, relationExpression, relationLength, relationStart}
+use Rattle.report.specs.Typing.{at, listed, relationSet}
+use Rattle.report.specs.Configuring.{written}
+use Rattle.report.proofs.FormedFacts.{entry-expression, relation-expression, relation-list}
+use Rattle.attribute_rows.specs.AttributeRows.{hasRow, listRow, relationRow, ListReads, ListReadable, RelationReads, RelationReadable}
+use Rattle.attribute_rows.specs.RowRules.{entryRow, EntryRead, RelationAt, SomeRelation}
+use Rattle.attribute_rows.proofs.AttributeLaws.{row-same, relation-wide, has-none, has-where}
+use Rattle.attribute_rows.proofs.FillLaws.{Filling, filling-none, filling-more, filling-all}
+
+-- ---- one entry: what the code found of it (E says which entry of which table)
+
+module _ {conditions t1 : List ℕ} {k : ℕ} (E : EntryRead conditions t1 k) (row : List ℕ) {a t : ℕ} (p : t ≡ entryAttribute t1 k) where
+  pub entry-named : a ≡ t → {x : ℕ} {own all : List ℕ} → x ≡ entryExpression t1 k → own ≡ rowIn 16 conditions x → all ≡ rowJoin 16 row own
+      → all ≡ entryRow conditions t1 a k row
+  entry-named e q load joined = rw (eq-eqb a (entryAttribute t1 k) (e ∙ p)) (joined ∙ ap (rowJoin 16 row) (load ∙ ap (rowIn 16 conditions) q))
+
+  pub entry-other : (a ≡ t → ⊥) → row ≡ entryRow conditions t1 a k row
+  entry-other e = rw (ne-eqb a (entryAttribute t1 k) (λ i. e (i ∙ sym p)))
+
+-- ---- one entry more
+
+module _ (T : Tables) (a : ℕ) (h : ℕ → Bool) (f : ℕ → ℕ) where
+  -- a row, joined with that of a test or not
+  join-if : (b : Bool) → cond b (rowJoin 16 (hasRow T a f) (rowOf 16 (within (T .features) h))) (hasRow T a f)
+      ≡ rowOf 16 (within (T .features) (λ c. bit (f c) a || (h c && b)))
+  join-if true =
+      join-within 16 (T .features) (λ c. bit (f c) a) h
+      ∙ row-same (T .features) (λ c. bit (f c) a || h c) (λ c. bit (f c) a || (h c && true))
+      (λ c. ap (λ (s : Bool). bit (f c) a || s) (sym (and-true (h c))))
+  join-if false =
+      row-same (T .features) (λ c. bit (f c) a) (λ c. bit (f c) a || (h c && false))
+      (λ c. sym (ap (λ (s : Bool). bit (f c) a || s) (and-false (h c)) ∙ or-false (bit (f c) a)))
+
+  -- joined if a is t: the row of a set that has t besides where the test holds
+  join-entry : (t : ℕ) → cond (eqb a t) (rowJoin 16 (hasRow T a f) (rowOf 16 (within (T .features) h))) (hasRow T a f)
+      ≡ hasRow T a (λ c. bitOr (f c) (cond (h c) (2 ^ t) 0))
+  join-entry t =
+      join-if (eqb a t)
+      ∙ row-same (T .features) (λ c. bit (f c) a || (h c && eqb a t)) (λ c. bit (bitOr (f c) (cond (h c) (2 ^ t) 0)) a)
+      (λ c. sym (bit-or (f c) (cond (h c) (2 ^ t) 0) a ∙ ap (λ (s : Bool). bit (f c) a || s) (own (h c))))
+    where
+      own : (s : Bool) → bit (cond s (2 ^ t) 0) a ≡ (s && eqb a t)
+      own true = bit-pow t a
+      own false = bit-none a
+
+-- ---- the loop over a list
+
+-- of the `count` entries from `start` on the first i are joined
+pub record Listing (conditions t1 : List ℕ) (a start count : ℕ) (row : List ℕ) (i : ℕ) : Type 0 where
+  pub most : i ≤ count
+  pub joined : (T : Tables) → ListReads T conditions t1 start count → row ≡ listRow T a start i
+
+pub entry-read : {conditions t1 : List ℕ} {start count : ℕ} → ListReadable conditions t1 start count → (i : ℕ) → i < count
+    → EntryRead conditions t1 (start + i)
+entry-read {conditions} {t1} {start} A i h =
+    let R = A .reads in
+    let k : start + i < entryCount (A .tables) = (let l = R .inside in omega arith) in
+    rw (R .entries)
+    (record { inside = k; rowed = let x = entry-expression (R .filled .formed) (start + i) k in let m = R .filled .room in omega arith })
+
+module _ {conditions t1 : List ℕ} {a start count : ℕ} {row : List ℕ} where
+  pub listing-none : row ≡ rowOf 16 (λ c. false) → Listing conditions t1 a start count row 0
+  unfolding listed
+  listing-none e = record { most = omega arith; joined = λ T R. e ∙ has-none T a }
+
+  module _ {i : ℕ} (S : Listing conditions t1 a start count row i) where
+    pub listing-more : i < count → {after : List ℕ} → after ≡ entryRow conditions t1 a (start + i) row
+        → Listing conditions t1 a start count after (i + 1)
+    unfolding listed
+    listing-more h e = record {
+      most = omega arith;
+      joined = λ T R.
+          let k : start + i < entryCount T = (let l = R .inside in omega arith) in
+          let x = entryExpression (T .entries) (start + i) in
+          let t = entryAttribute (T .entries) (start + i) in
+          e ∙ ap₂ (λ (l r : List ℕ). entryRow conditions l a (start + i) r) (R .entries) (S .joined T R)
+          ∙ ap (λ (r : List ℕ). cond (eqb a t) (rowJoin 16 (listRow T a start i) r) (listRow T a start i))
+          (R .filled .each x (entry-expression (R .filled .formed) (start + i) k))
+          ∙ join-entry T a (λ c. at T c x) (λ c. listed T c start i) t ∙ ap (listRow T a start) (sym (add-one i));
+    }
+
+    pub listing-all : count ≤ i → (T : Tables) → ListReads T conditions t1 start count → row ≡ listRow T a start count
+    listing-all h T R = let e : i ≡ count = (let l = S .most in omega arith) in S .joined T R ∙ ap (listRow T a start) e
+
+-- ---- one relation
+
+module _ {T : Tables} {conditions t1 t2 : List ℕ} {r start : ℕ} (A : RelationAt T conditions t1 t2 r start) where
+  pub relation-reads : {n : ℕ} → n ≡ relationLength t2 r → ListReads T conditions t1 start n
+  relation-reads e = record {
+    filled = A .reads .filled;
+    entries = A .reads .entries;
+    inside = rw (e, A .reads .relations, A .starts) (relation-list (A .reads .filled .formed) r (A .inside) .inside);
+  }
+
+  pub relation-rowed : {x : ℕ} → x ≡ relationExpression t2 r → x * 16 + 16 ≤ length conditions
+  relation-rowed e =
+      let l = relation-expression (A .reads .filled .formed) r (A .inside) in
+      let m = A .reads .filled .room in
+      let s = e ∙ ap (λ (t : List ℕ). relationExpression t r) (A .reads .relations) in
+      omega arith
+
+  pub relation-is : (a : ℕ) {n x : ℕ} {all own row : List ℕ} → n ≡ relationLength t2 r → x ≡ relationExpression t2 r → all ≡ listRow T a start n
+      → own ≡ rowIn 16 conditions x → row ≡ rowIntersect 16 all own → row ≡ relationRow T a r
+  relation-is a {n} {x} p q list load met =
+      let e = relationExpression (T .relations) r in
+      met
+      ∙ ap₂ (rowIntersect 16) (list ∙ ap₂ (listRow T a) (A .starts) (p ∙ ap (λ (t : List ℕ). relationLength t r) (A .reads .relations)))
+      (load ∙ ap (rowIn 16 conditions) (q ∙ ap (λ (t : List ℕ). relationExpression t r) (A .reads .relations))
+      ∙ A .reads .filled .each e (relation-expression (A .reads .filled .formed) r (A .inside)))
+      ∙ has-where T a (λ c. at T c e) (λ c. relationSet T c r)
+      ∙ ap (λ (t : Bool). hasRow T a (λ c. cond (t && at T c e) (relationSet T c r) 0)) (sym (lt-ltb r (relationCount T) (A .inside)))
+
+-- ---- the loop over the relations
+
+-- the rows of those below r stand over `lent`, and the list of r starts at `start`
+pub record Related (conditions t1 t2 : List ℕ) (a : ℕ) (lent relations : List ℕ) (r start : ℕ) : Type 0 where
+  pub rows : Filling (λ T. RelationReads T conditions t1 t2) relationRow a (length t2 / 2) lent relations r
+  pub starts : start ≡ relationStart t2 r
+
+pub related-none : {conditions t1 t2 : List ℕ} {a : ℕ} {lent : List ℕ} → Related conditions t1 t2 a lent lent 0 0
+related-none = record { rows = filling-none; starts = refl }
+
+module _ {conditions t1 t2 : List ℕ} {a : ℕ} {lent relations : List ℕ} {r start : ℕ} (S : Related conditions t1 t2 a lent relations r start) where
+  module _ (h : r < length t2 / 2) where
+    related-at : {T : Tables} → RelationReads T conditions t1 t2 → RelationAt T conditions t1 t2 r start
+    related-at R = record { reads = R; inside = rw (R .relations) at h; starts = rw (R .relations) at (S .starts) }
+
+    pub related-some : RelationReadable conditions t1 t2 lent → SomeRelation conditions t1 t2 r start
+    related-some A = record { tables = A .tables; at = related-at (A .reads) }
+
+    module _ {n : ℕ} (e : n ≡ relationLength t2 r) where
+      pub related-small : RelationReadable conditions t1 t2 lent → start + n ≤ 512
+      related-small A =
+          let l = relation-reads (related-at (A .reads)) e .inside in
+          let m = A .reads .filled .formed .sized1 .fits in
+          omega arith
+
+      pub related-more : {row after : List ℕ} → ((T : Tables) → RelationAt T conditions t1 t2 r start → row ≡ relationRow T a r)
+          → length after ≡ length relations → after ≡ withRow 16 relations r row → Related conditions t1 t2 a lent after (r + 1) (start + n)
+      related-more row same stored = record {
+        rows = filling-more relation-wide (S .rows) h (λ T R B. row T (related-at R)) same stored;
+        starts = ap₂ _+_ (S .starts) e ∙ ap (relationStart t2) (sym (add-one r));
+      }
+
+  pub related-all : length t2 / 2 ≤ r → (T : Tables) → RelationReads T conditions t1 t2
+      → relations ≡ written (concat (relationCount T) (relationRow T a)) lent
+  related-all h T R = filling-all relation-wide (S .rows) h T R (ap (λ (t : List ℕ). length t / 2) (R .relations))

@@ -1,0 +1,2 @@
+pub mod AttributeRows
+pub mod RowRules

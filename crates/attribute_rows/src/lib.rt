@@ -1,0 +1,215 @@
+// The rows of one attribute a: the configurations at which the lists, the relations, the comparisons and the query forms have it. Forms go
+// bottom up, each from the rows of lower ones, so a form that others share is worked out once.
+use decoders::comparison_at;
+use decoders::entry_attribute;
+use decoders::entry_expression;
+use decoders::project_length;
+use decoders::query_at;
+use decoders::relation_expression;
+use decoders::relation_length;
+use report::Comparison;
+use report::Query;
+use sets::Row;
+ghost use mathlib.Core.Path.{_≡_};
+ghost use mathlib.Core.Bool.{false, cond};
+ghost use Prim.Native.Nat.{ℕ, _+_, _*_, _≤_};
+ghost use lib.ListN.{length};
+ghost use Rattle.sets.specs.Lists.{concat};
+ghost use Rattle.sets.specs.Rows.{rowOf, rowIn, rowJoin, rowIntersect, rowMinus};
+ghost use Rattle.report.specs.Tables.{Tables, relationCount, comparisonCount, queryCount};
+ghost use Rattle.report.specs.Configuring.{written};
+ghost use Rattle.attribute_rows.specs.AttributeRows.{listRow, relationRow, namedRow, setRow, ListReads, ListReadable};
+ghost use Rattle.attribute_rows.specs.AttributeRows.{RelationReads, RelationReadable, NamedReads, NamedReadable, SetReads, SetReadable};
+ghost use Rattle.attribute_rows.specs.RowRules.{choiceRow, entryRow, EntryRead, RelationAt, SomeRelation, namedStep, NamedRead};
+ghost use Rattle.attribute_rows.specs.RowRules.{setStep, QueryAt, SetRead};
+
+// A row joined with that of entry k, if it names attribute a.
+fn with_entry(t1: &[u16], conditions: &[u64], k: usize, a: usize, r: Row) -> Row
+    requires { ⌜ EntryRead (now conditions) (now t1) k ⌝ }
+    ensures { λ s. ⌜ s .words ≡ entryRow (now (conditions .entry)) (now (t1 .entry)) a k (r .words) ⌝ }
+{
+    if a == entry_attribute(t1, k) {
+        let x = entry_expression(t1, k);
+        return r.join(Row::load(conditions, x));
+    }
+    r
+}
+
+// The join of the rows of the entries that name attribute a, of `count` entries from `start` on.
+pub fn list_row(t1: &[u16], conditions: &[u64], start: usize, count: usize, a: usize) -> Row
+    requires { ⌜ ListReadable (now conditions) (now t1) start count ⌝ }
+    ensures { λ r.
+        ⌜ ((T : Tables) → ListReads T (now (conditions .entry)) (now (t1 .entry)) start count → r .words ≡ listRow T a start count) ⌝ }
+{
+    let mut r = Row::empty();
+    let mut i = 0;
+    while i < count {
+        r = with_entry(t1, conditions, start + i, a, r);
+        i += 1;
+    }
+    r
+}
+
+// Where `holds` has it the configurations of x, elsewhere those of y.
+pub fn choice_row(holds: Row, x: Row, y: Row) -> Row
+    ensures { λ r. ⌜ r .words ≡ rowJoin 16 (rowIntersect 16 (x .words) (holds .words)) (rowMinus 16 (y .words) (holds .words)) ⌝ }
+{
+    x.intersect(holds).join(y.minus(holds))
+}
+
+// All configurations if the test is true, and none else.
+fn row_if(full: Row, test: bool) -> Row
+    ensures { λ r. ⌜ r .words ≡ cond test (full .words) (rowOf 16 (λ c. false)) ⌝ }
+{
+    if test {
+        return full;
+    }
+    Row::empty()
+}
+
+// The join of rows b and d.
+fn joined_row(rows: &[u64], b: usize, d: usize) -> Row
+    requires { ⌜ (b * 16 + 16 ≤ length (now rows)) × (d * 16 + 16 ≤ length (now rows)) ⌝ }
+    ensures { λ r. ⌜ r .words ≡ rowJoin 16 (rowIn 16 (now (rows .entry)) b) (rowIn 16 (now (rows .entry)) d) ⌝ }
+{
+    Row::load(rows, b).join(Row::load(rows, d))
+}
+
+// Where expression e holds row b, elsewhere row d.
+fn chosen_row(conditions: &[u64], rows: &[u64], e: usize, b: usize, d: usize) -> Row
+    requires { ⌜ (e * 16 + 16 ≤ length (now conditions)) × (b * 16 + 16 ≤ length (now rows)) × (d * 16 + 16 ≤ length (now rows)) ⌝ }
+    ensures { λ r.
+        ⌜ r .words ≡ choiceRow (rowIn 16 (now (conditions .entry)) e) (rowIn 16 (now (rows .entry)) b) (rowIn 16 (now (rows .entry)) d) ⌝ }
+{
+    choice_row(
+        Row::load(conditions, e),
+        Row::load(rows, b),
+        Row::load(rows, d),
+    )
+}
+
+// The row of a comparison; `full` has all configurations, `named` the rows of lower comparisons.
+fn named_row(x: Comparison, conditions: &[u64], full: Row, named: &[u64], a: usize) -> Row
+    requires { ⌜ NamedRead (now conditions) (now named) x ⌝ }
+    ensures { λ r. ⌜ r .words ≡ namedStep (now (conditions .entry)) (full .words) (now (named .entry)) a x ⌝ }
+{
+    match x {
+        Comparison::Malformed => Row::empty(),
+        Comparison::Never => Row::empty(),
+        Comparison::Always => Row::empty(),
+        Comparison::Constant(_, b, _) => row_if(full, a == b),
+        Comparison::Attribute(_, b, d) => row_if(full, (a == b) | (a == d)),
+        Comparison::Not(b) => Row::load(named, b),
+        Comparison::And(b, d) => joined_row(named, b, d),
+        Comparison::Or(b, d) => joined_row(named, b, d),
+        Comparison::Choice(e, b, d) => chosen_row(conditions, named, e, b, d),
+    }
+}
+
+// Fills `named` with the rows of all comparisons.
+pub fn named_rows(t3: &[u16], conditions: &[u64], full: Row, a: usize, named: &mut [u64])
+    requires { ⌜ NamedReadable (now conditions) (now t3) (full .words) (now named) ⌝ }
+    ensures { λ _.
+        ⌜ ((T : Tables) → NamedReads T (now (conditions .entry)) (now (t3 .entry)) (full .words)
+        → now (named .exit) ≡ written (concat (comparisonCount T) (namedRow T a)) (now (named .entry))) ⌝ }
+{
+    let count = t3.len() / 5;
+    let mut f = 0;
+    while f < count {
+        let x = comparison_at(t3, f);
+        let r = named_row(x, conditions, full, &*named, a);
+        r.store(&mut *named, f);
+        f += 1;
+    }
+}
+
+// Relation r, whose list starts at `start`: its list where it is present.
+fn relation_row(t1: &[u16], t2: &[u16], conditions: &[u64], r: usize, start: usize, a: usize) -> Row
+    requires { ⌜ SomeRelation (now conditions) (now t1) (now t2) r start ⌝ }
+    ensures { λ s.
+        ⌜ ((T : Tables) → RelationAt T (now (conditions .entry)) (now (t1 .entry)) (now (t2 .entry)) r start
+        → s .words ≡ relationRow T a r) ⌝ }
+{
+    let count = relation_length(t2, r);
+    let x = relation_expression(t2, r);
+    let listed = list_row(t1, conditions, start, count, a);
+    let present = Row::load(conditions, x);
+    listed.intersect(present)
+}
+
+// Fills `relations` with the rows of all relations.
+pub fn relation_rows(t1: &[u16], t2: &[u16], conditions: &[u64], a: usize, relations: &mut [u64])
+    requires { ⌜ RelationReadable (now conditions) (now t1) (now t2) (now relations) ⌝ }
+    ensures { λ _.
+        ⌜ ((T : Tables) → RelationReads T (now (conditions .entry)) (now (t1 .entry)) (now (t2 .entry))
+        → now (relations .exit) ≡ written (concat (relationCount T) (relationRow T a)) (now (relations .entry))) ⌝ }
+{
+    let count = t2.len() / 2;
+    let mut start = 0;
+    let mut r = 0;
+    while r < count {
+        let row = relation_row(t1, t2, conditions, r, start, a);
+        row.store(&mut *relations, r);
+        start += relation_length(t2, r);
+        r += 1;
+    }
+}
+
+// The row of a query form, a project's list starting at `start`; `sets` has the rows of lower forms.
+fn set_row(
+    x: Query,
+    t1: &[u16],
+    conditions: &[u64],
+    relations: &[u64],
+    sets: &[u64],
+    start: usize,
+    a: usize,
+) -> Row
+    requires { ⌜ SetRead (now conditions) (now t1) (now relations) (now sets) start x ⌝ }
+    ensures { λ r.
+        ⌜ ((T : Tables) (q : ℕ) → QueryAt T q (now (conditions .entry)) (now (t1 .entry)) start x
+        → r .words ≡ setStep T a start (now (conditions .entry)) (now (relations .entry)) (now (sets .entry)) x) ⌝ }
+{
+    match x {
+        Query::Malformed => Row::empty(),
+        Query::Empty => Row::empty(),
+        Query::Relation(r) => Row::load(relations, r),
+        Query::Select(_, b) => Row::load(sets, b),
+        Query::Project(count, b) => {
+            let listed = list_row(t1, conditions, start, count, a);
+            let under = Row::load(sets, b);
+            listed.intersect(under)
+        }
+        Query::Choice(e, b, d) => chosen_row(conditions, sets, e, b, d),
+        Query::Product(b, d) => joined_row(sets, b, d),
+        Query::Union(b, _) => Row::load(sets, b),
+        Query::Intersection(b, _) => Row::load(sets, b),
+    }
+}
+
+// Fills `sets` with the rows of all query forms; project lists lie from `first` on.
+pub fn set_rows(
+    t1: &[u16],
+    t4: &[u16],
+    conditions: &[u64],
+    relations: &[u64],
+    first: usize,
+    a: usize,
+    sets: &mut [u64],
+)
+    requires { ⌜ SetReadable (now conditions) (now t1) (now t4) (now relations) first a (now sets) ⌝ }
+    ensures { λ _.
+        ⌜ ((T : Tables) → SetReads T (now (conditions .entry)) (now (t1 .entry)) (now (t4 .entry)) (now (relations .entry)) first a
+        → now (sets .exit) ≡ written (concat (queryCount T) (setRow T a)) (now (sets .entry))) ⌝ }
+{
+    let count = t4.len() / 4;
+    let mut start = first;
+    let mut q = 0;
+    while q < count {
+        let x = query_at(t4, q);
+        let row = set_row(x, t1, conditions, relations, &*sets, start, a);
+        row.store(&mut *sets, q);
+        start += project_length(x);
+        q += 1;
+    }
+}
