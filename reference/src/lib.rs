@@ -13,6 +13,7 @@ pub mod generate;
 pub mod plain;
 pub mod random;
 pub mod refusal;
+pub mod rows;
 pub mod schema;
 pub mod small;
 pub mod tables;
