@@ -42,6 +42,10 @@ impl Row {
         requires { ⌜ i < 10 ⌝ }
         ensures { λ r. ⌜ r .words ≡ rowOf 16 (λ c. bit c i) ⌝ }
     {
+        if i < 6 {
+            let word = MASKS[i];
+            return Row { words: [word; 16] };
+        }
         let mut words = [0; 16];
         let mut w = 0;
         while w < 16 {
@@ -189,14 +193,11 @@ const MASKS: [u64; 6] = [
     0xFFFF_FFFF_0000_0000,
 ];
 
-// Word w of the row of feature i.
+// Word w of the row of feature i, which is not among the first six.
 fn feature_word(i: usize, w: usize) -> u64
-    requires { ⌜ (i < 64) × (w < 16) ⌝ }
+    requires { ⌜ (6 ≤ i) × (i < 64) × (w < 16) ⌝ }
     ensures { λ r. ⌜ r ≡ wordOf (λ c. bit c i) w ⌝ }
 {
-    if i < 6 {
-        return MASKS[i];
-    }
     if (w >> (i - 6)) % 2 == 1 {
         return 0xFFFF_FFFF_FFFF_FFFF;
     }
