@@ -1,0 +1,5 @@
+pub mod FaultLaws
+pub mod FormLaws
+pub mod JoinLaws
+pub mod FailLaws
+pub mod ItemLaws

@@ -1,0 +1,27 @@
+use borrow.Author.Needs.{needs}
+use mathlib.Core.Path.{ap, ap₂, _∙_}
+use Rattle.sets.specs.Rows.{rowJoin, rowIntersect, withRow}
+use Rattle.fault_rows.proofs.join_fault.Statement.{statement}
+use Rattle.fault_rows.proofs.join_fault.Tie as tie
+
+returns : tie.Need-returns
+returns c =
+    let j = c .before .before .before .before in
+    let i = j .before .before .before in
+    let x = i .before .before .before .before .args in
+    c .before .before .store .ensures
+    ∙ ap (withRow 16 (x .faults .now) (x .q))
+    (j .join .ensures
+    ∙ ap₂ (rowJoin 16) (j .before .load2 .ensures) (i .intersect .ensures ∙ ap (rowIntersect 16 (x .here .words)) (i .before .load .ensures)))
+
+pub join-fault-spec : {M : Type 1} → statement M
+join-fault-spec =
+    tie.close
+    (tie.spec
+    (λ c κs. search needs)
+    (λ c κs. search needs)
+    (λ c κs. search needs)
+    (λ c κs. search needs)
+    (λ c κs. search needs)
+    (λ c. search needs)
+    returns)

@@ -1,0 +1,79 @@
+-- Fault rows: the configurations at which an item is at fault in a query form, and at which the form fails; and the column rows.
+use Prim.Native.Nat.{ℕ, _*_, _^_, _<_, _≤_}
+use mathlib.Core.Path.{_≡_}
+use mathlib.Core.Bool.{true, _&&_}
+use mathlib.Core.List.{List}
+use lib.ListN.{length, replicate}
+use Rattle.sets.specs.Search.{someBelow}
+use Rattle.sets.specs.Lists.{concat}
+use Rattle.sets.specs.Bits.{bit}
+use Rattle.sets.specs.Rows.{rowOf, within}
+use Rattle.report.specs.Tables.{Tables, relationCount, queryCount, relationStart, projectStart}
+use Rattle.report.specs.Expressions.{permitted}
+use Rattle.report.specs.Typing.{reached, faults}
+use Rattle.report.specs.ColumnRows.{hasColumn}
+use Rattle.report.specs.Configuring.{written}
+use Rattle.conditions.specs.Conditions.{Filled}
+use Rattle.attribute_rows.specs.AttributeRows.{RowsAre}
+
+module _ (T : Tables) where
+  -- the configurations at which item a is at fault in form q, whether they reach it or not
+  abbrev pub faultRow : ℕ → ℕ → List ℕ
+  faultRow a q = rowOf 16 (within (T .features) (λ c. bit (faults T c q) a))
+
+  -- those that reach form q, and at which an item below `items` is at fault in it
+  abbrev pub faultyRow : ℕ → ℕ → List ℕ
+  faultyRow items q = rowOf 16 (λ c. reached T c q && someBelow (bit (faults T c q)) items)
+
+  -- the column row of attribute a
+  abbrev pub columnRow : ℕ → List ℕ
+  columnRow a = rowOf 16 (hasColumn T a)
+
+-- what fault rows are worked out from: tables that have passed the form checks, their expression rows, all configurations, and where the lists
+-- of project forms start
+pub record FaultReads (T : Tables) (conditions full t1 t2 t3 t4 : List ℕ) (first : ℕ) : Type 0 where
+  pub filled : Filled T conditions
+  pub whole : full ≡ rowOf 16 (within (T .features) (λ c. true))
+  pub entries : t1 ≡ T .entries
+  pub relations : t2 ≡ T .relations
+  pub comparisons : t3 ≡ T .comparisons
+  pub queries : t4 ≡ T .queries
+  pub begins : first ≡ relationStart (T .relations) (relationCount T)
+
+-- besides, the permitted configurations and those that reach each form
+pub record FailReads (T : Tables) (conditions full permits reach t1 t2 t3 t4 : List ℕ) (first : ℕ) : Type 0 where
+  pub reads : FaultReads T conditions full t1 t2 t3 t4 first
+  pub permitting : permits ≡ rowOf 16 (permitted T)
+  pub reaching : RowsAre (queryCount T) (λ q. rowOf 16 (λ c. reached T c q)) reach
+
+-- there are such tables, `faults` has only zeros and room for a row a form, and `columns` room for a row an item
+pub record FailReadable (conditions full permits reach t1 t2 t3 t4 : List ℕ) (first items : ℕ) (faults columns : List ℕ) : Type 0 where
+  pub tables : Tables
+  pub reads : FailReads tables conditions full permits reach t1 t2 t3 t4 first
+  pub words : ℕ
+  pub clear : faults ≡ replicate words 0
+  pub room : queryCount tables * 16 ≤ words
+  pub column : items * 16 ≤ length columns
+
+-- what is filled in: the rows of the forms, and over the words that were there before the column rows
+pub record FailsFilled (T : Tables) (items : ℕ) (faults before columns : List ℕ) : Type 0 where
+  pub rows : RowsAre (queryCount T) (faultyRow T items) faults
+  pub shown : columns ≡ written (concat items (columnRow T)) before
+
+-- items are attributes and relations
+pub record Items (T : Tables) (items : ℕ) : Type 0 where
+  pub attributes : T .attributes ≤ items
+  pub relations : relationCount T ≤ items
+  pub most : items ≤ 64
+
+-- form q, whose list, if it is a project, starts at `start`, and a configuration c
+pub record ItemReads (T : Tables) (conditions full t1 t2 t3 t4 : List ℕ) (first items q start c : ℕ) : Type 0 where
+  pub reads : FaultReads T conditions full t1 t2 t3 t4 first
+  pub enough : Items T items
+  pub inside : q < queryCount T
+  pub starts : start ≡ projectStart T q
+  pub configuration : c < 2 ^ (T .features)
+
+pub record ItemReadable (conditions full t1 t2 t3 t4 : List ℕ) (first items q start c : ℕ) : Type 0 where
+  pub tables : Tables
+  pub reads : ItemReads tables conditions full t1 t2 t3 t4 first items q start c

@@ -1,0 +1,2 @@
+pub mod FaultRows
+pub mod FaultRules
