@@ -1,0 +1,4 @@
+pub mod RowSearch
+pub mod StartLaws
+pub mod RowsVerdict
+pub mod TypingSteps

@@ -1,0 +1,58 @@
+use borrow.Author.Needs.{needs}
+use Rattle.typing.proofs.TypingSteps.{rows-room, no-form, form-room, no-configuration, form-told, form-refused}
+use Rattle.typing.proofs.check_rows.Statement.{statement}
+use Rattle.typing.proofs.check_rows.Tie as tie
+
+lowest-row-requires : tie.Need-lowest-row-requires
+lowest-row-requires c κs = rows-room (c .before .before .before .before .before .before .pre .reads)
+
+returns : tie.Need-returns
+returns c = λ T R. no-form R (c .before .before .lowest-row .ensures) (c .enum-told .given .1)
+
+load-requires : tie.Need-load-requires
+load-requires c κs =
+    let r = c .before .before .before in
+    form-room (r .before .before .before .before .before .before .before .pre .reads) (r .lowest-row .ensures) (c .before .form .given .1)
+
+returns-2 : tie.Need-returns-2
+returns-2 c =
+    let l = c .before .before in
+    let f = l .before .before .before in
+    λ T R. no-configuration R (f .before .before .lowest-row .ensures) (f .form .given .1) (l .before .load .ensures) (l .lowest .ensures)
+    (c .enum-told2 .given .1)
+
+refusal-at-requires : tie.Need-refusal-at-requires
+refusal-at-requires c κs =
+    let l = c .before .before .before in
+    let f = l .before .before .before in
+    let r = f .before .before in
+    let p = r .before .before .before .before .before .before .before .pre in
+    record {
+      tables = p .tables;
+      reads =
+          form-told (p .reads) (r .lowest-row .ensures) (f .form .given .1) (l .before .load .ensures) (l .lowest .ensures)
+          (c .before .configuration .given .1);
+    }
+
+returns-3 : tie.Need-returns-3
+returns-3 c =
+    let l = c .before .before .before .before in
+    let f = l .before .before .before in
+    λ T R. form-refused R (f .before .before .lowest-row .ensures) (f .form .given .1) (l .before .load .ensures) (l .lowest .ensures)
+    (c .before .before .configuration .given .1) (c .refusal-at .ensures)
+
+pub check-rows-spec : {M : Type 1} → statement M
+check-rows-spec =
+    tie.close
+    (tie.spec
+    lowest-row-requires
+    (λ c. search needs)
+    (λ c. search needs)
+    returns
+    load-requires
+    (λ c κs. search needs)
+    (λ c. search needs)
+    (λ c. search needs)
+    returns-2
+    refusal-at-requires
+    returns-3)
