@@ -78,7 +78,7 @@ fn check_relations(e: usize, t1: &[u16], t2: &[u16]) -> Verdict
 }
 
 // Where the lists of the relations end.
-fn relations_end(t2: &[u16]) -> usize
+pub fn relations_end(t2: &[u16]) -> usize
     requires { ⌜ length (now t2) / 2 ≤ 32 ⌝ }
     ensures { λ r. ⌜ r ≡ relationStart (now (t2 .entry)) (length (now (t2 .entry)) / 2) ⌝ }
 {
