@@ -1,0 +1,32 @@
+use borrow.Author.Needs.{needs}
+use mathlib.Core.Path.{sym, _∙_}
+use Rattle.gelvomas.proofs.Laws.{answered}
+use Rattle.gelvomas.proofs.gelvomas_check.Statement.{statement}
+use Rattle.gelvomas.proofs.gelvomas_check.Tie as tie
+
+returns : tie.Need-returns
+returns c =
+    let k = c .before .before in
+    let called = k .before .before .before .before in
+    let s = called .before .before .before .before .before .before .before .before in
+    let a = answered (s .args .refusal .now) (sym (k .v .given .1) ∙ called .check .ensures .0) in
+    (a .0, (a .1, called .check .ensures .1))
+
+returns-2 : tie.Need-returns-2
+returns-2 c =
+    let called = c .before .before .before .before in
+    let s = called .before .before .before .before .before .before .before .before in
+    let a = answered (s .args .refusal .now) (sym (c .enum-told .given .1) ∙ called .check .ensures .0) in
+    (a .0, (a .1, called .check .ensures .1))
+
+pub gelvomas-check-spec : {M : Type 1} → statement M
+gelvomas-check-spec =
+    tie.close
+    (tie.spec
+    (λ c κs. search needs)
+    (λ c. search needs)
+    (λ c. search needs)
+    returns
+    (λ c. search needs)
+    (λ c. search needs)
+    returns-2)
