@@ -12,7 +12,7 @@ fn main() {
     let archive = folder.join("libbench_exports.a");
     if !Path::exists(&archive) {
         println!(
-            "cargo:error={} is missing: run `rt staticlib bench_exports` first",
+            "cargo::error={} is missing: run `rt staticlib bench_exports` first",
             archive.display()
         );
         return;

@@ -1,6 +1,7 @@
-//! The functions of the crate `bench_exports`, as safe functions. None of them
-//! requires anything of its arguments.
+//! The functions of the crates `bench_exports` and `gelvomas`, as safe functions.
+//! None of them requires anything of its arguments.
 
+pub mod cases;
 pub mod damage;
 
 use reference::{Refusal, Tables};
@@ -54,7 +55,7 @@ const UNTOUCHED: [u64; 4] = [0xDEAD_0000, 0xDEAD_0001, 0xDEAD_0002, 0xDEAD_0003]
 
 /// Checks 1 to 10. An answer that is neither of the two that the contract
 /// allows is an error with the answer's number and words.
-pub fn check_forms(tables: &Tables) -> Result<Result<(), Refusal>, (u64, [u64; 4])> {
+pub fn check_forms(tables: &Tables) -> Answer {
     let mut words = UNTOUCHED;
     // The slices are lent for the call, and the lengths are theirs.
     let answer = unsafe {
@@ -75,10 +76,46 @@ pub fn check_forms(tables: &Tables) -> Result<Result<(), Refusal>, (u64, [u64; 4
             &mut words,
         )
     };
+    answered(answer, words)
+}
+
+/// What a call answers, or a number and words that no contract allows.
+pub type Answer = Result<Result<(), Refusal>, (u64, [u64; 4])>;
+
+fn answered(answer: u64, words: [u64; 4]) -> Answer {
     let [number, place, item, configuration] = words;
     match answer {
         0 if words == UNTOUCHED => Ok(Ok(())),
         1 => Ok(Err(Refusal::new(number, place, item, configuration))),
         _ => Err((answer, words)),
     }
+}
+
+/// The whole check, by the C function. An answer that is neither of the two that
+/// the contract allows is an error with the answer's number and words.
+#[inline]
+pub fn check(tables: &Tables, rows: &mut [u64]) -> Answer {
+    let mut words = UNTOUCHED;
+    // The slices are lent for the call, and the lengths are theirs.
+    let answer = unsafe {
+        gelvomas::ffi::gelvomas_check(
+            tables.features,
+            tables.attributes,
+            tables.model,
+            tables.expressions.as_ptr(),
+            tables.expressions.len(),
+            tables.entries.as_ptr(),
+            tables.entries.len(),
+            tables.relations.as_ptr(),
+            tables.relations.len(),
+            tables.comparisons.as_ptr(),
+            tables.comparisons.len(),
+            tables.queries.as_ptr(),
+            tables.queries.len(),
+            rows.as_mut_ptr(),
+            rows.len(),
+            &mut words,
+        )
+    };
+    answered(answer, words)
 }

@@ -1,4 +1,4 @@
--- What the tests of the code say of `fillable`, and that equal answers are passed on alike.
+-- What the tests of the code say of `fillable`.
 use Prim.Native.Nat.{ℕ, _/_}
 use mathlib.Core.Path.{_≡_, refl, sym, ap, ap₂, _∙_}
 use mathlib.Core.Bool.{Bool, true, false, cond, _&&_, not, and-eq-true-iff}
@@ -14,7 +14,7 @@ use Rattle.report.specs.declared.Refusal.{Refusal}
 use Rattle.report.specs.declared.Verdict.{Verdict}
 use Rattle.report.proofs.Formed.{all-fit}
 use Rattle.conditions.specs.Conditions.{Fillable, expressionRows}
-use Rattle.bench_exports.specs.Exports.{isAccepted, fillable, rowsFilled, answerNumber, answerWords}
+use Rattle.bench_exports.specs.Exports.{isAccepted, fillable, rowsFilled}
 
 accepted : (v : Verdict) → isAccepted v ≡ true → v ≡ Verdict.Accepted
 accepted Verdict.Accepted e = refl
@@ -59,6 +59,3 @@ module _ (n : ℕ) (t0 lent : List ℕ) where
   pub unfilled : fillable n t0 (length lent) ≡ false → _≡_ {A = ℕ} 0 (cond (fillable n t0 (length lent)) 1 0) × (lent ≡ rowsFilled n t0 lent)
   unfilled e =
       (ap (λ (t : Bool). cond t 1 0) (sym e), ap (λ (t : Bool). cond t (written (expressionRows n t0) lent) lent) (sym e))
-
-pub answered : {v w : Verdict} (lent : List ℕ) → v ≡ w → (answerNumber v ≡ answerNumber w) × (answerWords v lent ≡ answerWords w lent)
-answered lent e = (ap answerNumber e, ap (λ (x : Verdict). answerWords x lent) e)

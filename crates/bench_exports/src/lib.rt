@@ -8,7 +8,8 @@ ghost use mathlib.Core.Bool.{cond};
 ghost use lib.ListN.{length};
 ghost use Rattle.report.specs.Tables.{tablesOf};
 ghost use Rattle.report.specs.FormChecks.{formCheck};
-ghost use Rattle.bench_exports.specs.Exports.{fillable, rowsFilled, answerNumber, answerWords};
+ghost use Rattle.gelvomas.specs.Answers.{answerNumber, answerWords};
+ghost use Rattle.bench_exports.specs.Exports.{fillable, rowsFilled};
 
 fn can_fill(n: usize, t0: &[u16], room: usize) -> bool
     ensures { λ r. ⌜ r ≡ fillable n (now (t0 .entry)) room ⌝ }

@@ -1,6 +1,6 @@
 use borrow.Author.Needs.{needs}
 use mathlib.Core.Path.{sym, _∙_}
-use Rattle.bench_exports.proofs.Laws.{answered}
+use Rattle.gelvomas.proofs.Laws.{answered}
 use Rattle.bench_exports.proofs.gelvomas_bench_check_forms.Statement.{statement}
 use Rattle.bench_exports.proofs.gelvomas_bench_check_forms.Tie as tie
 

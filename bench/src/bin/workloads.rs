@@ -1,0 +1,291 @@
+//! The time of the whole check at full size, ours and the reference's plain one,
+//! configuration by configuration, in one run and in a thread with a stack of
+//! 1 MiB.
+
+use std::collections::BTreeMap;
+use std::hint::black_box;
+use std::process::ExitCode;
+use std::thread;
+use std::time::Instant;
+
+use reference::check::ROWS;
+use reference::generate;
+use reference::random::Random;
+use reference::{expression, Refusal, Tables};
+
+const STACK: usize = 1 << 20;
+
+/// Measurements of each workload, and of each of the generated cases.
+const TIMES: usize = 201;
+const FEWER: usize = 15;
+
+/// Our goal for each workload.
+const GOAL: f64 = 0.2;
+
+const FEATURES: u16 = 10;
+const ATTRIBUTES: u16 = 64;
+const FORMS: u16 = 256;
+
+fn main() -> ExitCode {
+    let run = thread::Builder::new().stack_size(STACK).spawn(run);
+    match run.map(thread::JoinHandle::join) {
+        Ok(Ok(code)) => code,
+        _ => ExitCode::FAILURE,
+    }
+}
+
+fn run() -> ExitCode {
+    let deep = deep(mixed_expressions(), mixed_comparisons());
+    let mut refused = deep.clone();
+    refuse_last(&mut refused);
+    let workloads = [
+        ("(a) union of 32 relations", union_of_relations()),
+        ("(b) deep, accepted", deep.clone()),
+        ("(c) deep, refused last", refused),
+    ];
+    println!("medians of {TIMES} measurements, ours and the reference's in turn; µs a call; a stack of 1 MiB");
+    println!(
+        "{:<26} {:>8} {:>10} {:>7}  answer",
+        "workload", "ours", "reference", "ratio"
+    );
+    let mut met = true;
+    for (name, tables) in &workloads {
+        let Some(answer) = same_answer(tables) else {
+            println!("{name}: the answers or the rows differ");
+            return ExitCode::FAILURE;
+        };
+        let [ours, theirs] = in_turn(TIMES, [tables, tables], [true, false]);
+        met &= ours / theirs <= GOAL;
+        println!(
+            "{name:<26} {ours:>8.1} {theirs:>10.1} {:>7.3}  {}",
+            ours / theirs,
+            words(answer)
+        );
+    }
+    println!(
+        "goal, a ratio of at most {GOAL} on each of these: {}",
+        if met { "met" } else { "not met" }
+    );
+
+    // The reference's time goes with the number of permitted configurations.
+    let mut groups: BTreeMap<usize, Vec<f64>> = BTreeMap::new();
+    for tables in generated() {
+        if same_answer(&tables).is_none() {
+            println!("a generated case: the answers or the rows differ");
+            return ExitCode::FAILURE;
+        }
+        let [ours, theirs] = in_turn(FEWER, [&tables, &tables], [true, false]);
+        let permitted = expression::permitted(&tables).len();
+        groups.entry(permitted).or_default().push(ours / theirs);
+    }
+    println!("full cases of the generator, accepted, by number of permitted configurations:");
+    for (permitted, mut ratios) in groups.into_iter().rev() {
+        ratios.sort_unstable_by(f64::total_cmp);
+        let [low, high] = [0, ratios.len() - 1].map(|at| ratios[at]);
+        println!(
+            "{permitted:>6} permitted, {:>2} cases: ratios {low:.3} to {high:.3}{}",
+            ratios.len(),
+            if high <= GOAL { "" } else { ", above the goal" }
+        );
+    }
+
+    // Chains in which each form joins the one below it with itself.
+    let chains = [
+        ("another full table", deep),
+        (
+            "comparisons 5 0 i i",
+            self::deep(mixed_expressions(), joined_comparisons()),
+        ),
+        (
+            "expressions 5 i i",
+            self::deep(joined_expressions(), mixed_comparisons()),
+        ),
+    ];
+    for (name, tables) in &chains {
+        if same_answer(tables) != Some(Ok(())) {
+            println!("{name}: not accepted, or the rows differ");
+            return ExitCode::FAILURE;
+        }
+    }
+    let times = in_turn(
+        TIMES,
+        chains.each_ref().map(|(_, tables)| tables),
+        [true; 3],
+    );
+    println!("(d) ours in turn, all accepted:");
+    for ((name, _), time) in chains.iter().zip(times) {
+        println!(
+            "{name:<26} {time:>8.1} {:>18.3} of the first",
+            time / times[0]
+        );
+    }
+    ExitCode::SUCCESS
+}
+
+fn words(answer: Result<(), Refusal>) -> String {
+    match answer {
+        Ok(()) => "accepted".to_string(),
+        Err(r) => format!("{} {} {} {}", r.number, r.place, r.item, r.configuration),
+    }
+}
+
+/// The answer of both, where their answers and rows are the same.
+fn same_answer(tables: &Tables) -> Option<Result<(), Refusal>> {
+    let mut mine = [7; ROWS];
+    let mut theirs = [7; ROWS];
+    let wanted = reference::check(tables, &mut theirs);
+    let same = bench::check(tables, &mut mine) == Ok(wanted) && mine == theirs;
+    same.then_some(wanted)
+}
+
+/// Medians in µs of calls that take turns, so that all meet the same machine:
+/// ours where it says so, else the reference's.
+fn in_turn<const N: usize>(count: usize, tables: [&Tables; N], ours: [bool; N]) -> [f64; N] {
+    let mut times = [const { Vec::new() }; N];
+    let mut rows = vec![0; ROWS];
+    for _ in 0..count {
+        for (number, times) in times.iter_mut().enumerate() {
+            let tables = black_box(tables[number]);
+            let start = Instant::now();
+            match ours[number] {
+                true => drop(black_box(bench::check(tables, black_box(&mut rows)))),
+                false => drop(black_box(reference::check(tables, black_box(&mut rows)))),
+            }
+            times.push(start.elapsed().as_nanos() as f64 / 1000.0);
+        }
+    }
+    times.each_mut().map(|of| {
+        of.sort_unstable_by(f64::total_cmp);
+        of[of.len() / 2]
+    })
+}
+
+/// 32 relations, each listing the same 16 attributes under 200 nots of feature
+/// 9, and their union.
+fn union_of_relations() -> Tables {
+    let mut expressions = vec![[1, 0, 0], [2, 9, 0]];
+    expressions.extend((1..=200).map(|form| [3, form, 0]));
+    let mut entries = Vec::new();
+    let mut queries = Vec::new();
+    for relation in 0..32 {
+        entries.extend((0..16).map(|attribute| [attribute, 201]));
+        queries.push([1, relation, 0, 0]);
+    }
+    queries.push([6, 0, 1, 0]);
+    queries.extend((2..32).map(|relation| [6, relation + 30, relation, 0]));
+    Tables {
+        features: FEATURES.into(),
+        attributes: 16,
+        model: 0,
+        expressions: expressions.concat(),
+        entries: entries.concat(),
+        relations: [[0, 16]; 32].concat(),
+        comparisons: vec![],
+        queries: queries.concat(),
+    }
+}
+
+/// In every expression table: true, the features, and the expression that holds
+/// at all configurations but the last.
+const ALWAYS: u16 = 0;
+const NOT_LAST: u16 = 20;
+
+fn first_expressions() -> Vec<[u16; 3]> {
+    let mut forms = vec![[1, 0, 0]];
+    forms.extend((0..FEATURES).map(|feature| [2, feature, 0]));
+    // 11 to 19: all features so far are on.
+    forms.push([4, 1, 2]);
+    forms.extend((3..=FEATURES).map(|feature| [4, feature + 8, feature]));
+    forms.push([3, 19, 0]);
+    forms
+}
+
+fn mixed_expressions() -> Vec<[u16; 3]> {
+    let mut random = Random::new(1);
+    let mut forms = first_expressions();
+    while forms.len() < FORMS.into() {
+        let mut lower = || random.below(forms.len()) as u16;
+        let (a, b) = (lower(), lower());
+        forms.push(random.pick(&[[3, a, 0], [4, a, b], [5, a, b]]));
+    }
+    forms
+}
+
+fn joined_expressions() -> Vec<[u16; 3]> {
+    let mut forms = first_expressions();
+    forms.extend((NOT_LAST..FORMS - 1).map(|below| [5, below, below]));
+    forms
+}
+
+/// Comparison 63 names attribute 63 everywhere; all that is built on the others
+/// names it where `NOT_LAST` holds only.
+const LAST_NAMED: u16 = 63;
+
+fn mixed_comparisons() -> Vec<[u16; 5]> {
+    let mut random = Random::new(2);
+    let mut forms: Vec<[u16; 5]> = (0..ATTRIBUTES).map(|a| [2, a % 6, a, 500, 0]).collect();
+    forms.push([7, 0, NOT_LAST, LAST_NAMED, 0]);
+    while forms.len() < FORMS.into() {
+        let mut lower = || match random.below(forms.len()) as u16 {
+            LAST_NAMED => 64,
+            other => other,
+        };
+        let (a, b) = (lower(), lower());
+        let condition = random.below(FORMS.into()) as u16;
+        forms.push(random.pick(&[
+            [4, 0, a, 0, 0],
+            [5, 0, a, b, 0],
+            [6, 0, a, b, 0],
+            [7, 0, condition, a, b],
+        ]));
+    }
+    forms
+}
+
+fn joined_comparisons() -> Vec<[u16; 5]> {
+    let mut forms = vec![[2, 0, 0, 500, 0]];
+    forms.extend((0..FORMS - 1).map(|below| [5, 0, below, below, 0]));
+    forms
+}
+
+/// A report of 256 forms, each on the one below it: a relation of 64 attributes,
+/// seven projects that keep them all, and selects; 512 entries in all, of which
+/// the last attribute's hold at all configurations but the last.
+fn deep(expressions: Vec<[u16; 3]>, comparisons: Vec<[u16; 5]>) -> Tables {
+    let list = (0..ATTRIBUTES).map(|a| match a {
+        63 => [a, NOT_LAST],
+        _ => [a, ALWAYS],
+    });
+    let mut queries = vec![[1, 0, 0, 0]];
+    for form in 1..FORMS {
+        queries.push(match (form % 32, form) {
+            (0, _) => [3, ATTRIBUTES, form - 1, 0],
+            (_, LAST_NAMED) => [2, 64, form - 1, 0],
+            _ => [2, form, form - 1, 0],
+        });
+    }
+    Tables {
+        features: FEATURES.into(),
+        attributes: ATTRIBUTES.into(),
+        model: ALWAYS.into(),
+        expressions: expressions.concat(),
+        entries: list.collect::<Vec<_>>().concat().repeat(8),
+        relations: vec![0, ATTRIBUTES],
+        comparisons: comparisons.concat(),
+        queries: queries.concat(),
+    }
+}
+
+/// The last form selects by an attribute that is missing at the last
+/// configuration only.
+fn refuse_last(tables: &mut Tables) {
+    let last = tables.queries.len() - 4;
+    tables.queries[last..].copy_from_slice(&[2, LAST_NAMED, FORMS - 2, 0]);
+}
+
+/// The first 40 full cases of the reference's generator that are accepted.
+fn generated() -> Vec<Tables> {
+    let accepted = |tables: &Tables| reference::check(tables, &mut [0; ROWS]).is_ok();
+    let cases = (1..).map(generate::full).filter(accepted);
+    cases.take(40).collect()
+}

@@ -1,0 +1,66 @@
+//! The tables that are compared, and how a difference is told.
+
+use std::fmt::Write;
+use std::process::ExitCode;
+
+use reference::generate::{self, Family};
+use reference::random::Random;
+use reference::{Refusal, Tables};
+
+use crate::damage::damage;
+use crate::Answer;
+
+/// The arguments of a comparing program.
+pub fn seed_and_count() -> Option<[u64; 2]> {
+    let numbers = std::env::args().skip(1).map(|a| a.parse().ok());
+    numbers.collect::<Option<Vec<u64>>>()?.try_into().ok()
+}
+
+/// A case of one of the generator's families, in so many of five with raw damage.
+pub fn case(seed: u64, number: u64, damaged_of_5: usize) -> (&'static str, Tables) {
+    // Seeds far apart, so that runs with neighbouring seeds share no case.
+    let seed = seed.wrapping_mul(1_000_003).wrapping_add(number);
+    let mut random = Random::new(!seed);
+    let (family, names) = random.pick(&[
+        (Family::Accepted, ["accepted", "accepted, damaged"]),
+        (Family::Accepted, ["accepted", "accepted, damaged"]),
+        (Family::Accepted, ["accepted", "accepted, damaged"]),
+        (Family::Fault, ["fault", "fault, damaged"]),
+        (Family::Fault, ["fault", "fault, damaged"]),
+        (Family::Several, ["several", "several, damaged"]),
+        (Family::Small, ["small", "small, damaged"]),
+        (Family::Full, ["full", "full, damaged"]),
+    ]);
+    let mut tables = generate::of_family(family, seed);
+    let damaged = random.chance(damaged_of_5, 5);
+    if damaged {
+        damage(&mut random, &mut tables);
+    }
+    (names[usize::from(damaged)], tables)
+}
+
+/// Says the difference, and writes it to the file.
+pub fn differ(
+    file: &str,
+    number: u64,
+    tables: &Tables,
+    wanted: Result<(), Refusal>,
+    ours: Answer,
+) -> ExitCode {
+    let mut text = String::new();
+    let _ = writeln!(
+        text,
+        "head {} {} {}",
+        tables.features, tables.attributes, tables.model
+    );
+    for table in 0..5 {
+        let words: Vec<String> = tables.words(table).iter().map(u16::to_string).collect();
+        let _ = writeln!(text, "t{table} {}", words.join(" "));
+    }
+    let _ = writeln!(text, "reference {wanted:?}\nours {ours:?}");
+    println!("table {number} differs: reference {wanted:?}, ours {ours:?}; it is in {file}");
+    if let Err(error) = std::fs::write(file, text) {
+        println!("{file} could not be written: {error}");
+    }
+    ExitCode::FAILURE
+}
