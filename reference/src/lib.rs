@@ -10,6 +10,7 @@ pub mod expression;
 pub mod file;
 pub mod form;
 pub mod generate;
+pub mod parallel;
 pub mod plain;
 pub mod random;
 pub mod refusal;

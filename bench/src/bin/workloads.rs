@@ -1,6 +1,6 @@
 //! The time of the whole check at full size, ours and the reference's plain one,
 //! configuration by configuration, in one run and in a thread with a stack of
-//! 1 MiB.
+//! 1 MiB; on three workloads also the reference's of all configurations at once.
 
 use std::collections::BTreeMap;
 use std::hint::black_box;
@@ -11,7 +11,7 @@ use std::time::Instant;
 use reference::check::ROWS;
 use reference::generate;
 use reference::random::Random;
-use reference::{expression, Refusal, Tables};
+use reference::{expression, parallel, Refusal, Tables};
 
 const STACK: usize = 1 << 20;
 
@@ -45,8 +45,8 @@ fn run() -> ExitCode {
     ];
     println!("medians of {TIMES} measurements, ours and the reference's in turn; µs a call; a stack of 1 MiB");
     println!(
-        "{:<26} {:>8} {:>10} {:>7}  answer",
-        "workload", "ours", "reference", "ratio"
+        "{:<26} {:>8} {:>10} {:>7} {:>9} {:>7}  answer",
+        "workload", "ours", "reference", "ratio", "parallel", "ratio"
     );
     let mut met = true;
     for (name, tables) in &workloads {
@@ -54,11 +54,16 @@ fn run() -> ExitCode {
             println!("{name}: the answers or the rows differ");
             return ExitCode::FAILURE;
         };
-        let [ours, theirs] = in_turn(TIMES, [tables, tables], [true, false]);
+        let [ours, theirs, parallel] = in_turn(
+            TIMES,
+            [tables; 3],
+            [Check::Ours, Check::Plain, Check::Parallel],
+        );
         met &= ours / theirs <= GOAL;
         println!(
-            "{name:<26} {ours:>8.1} {theirs:>10.1} {:>7.3}  {}",
+            "{name:<26} {ours:>8.1} {theirs:>10.1} {:>7.3} {parallel:>9.1} {:>7.2}  {}",
             ours / theirs,
+            ours / parallel,
             words(answer)
         );
     }
@@ -74,7 +79,7 @@ fn run() -> ExitCode {
             println!("a generated case: the answers or the rows differ");
             return ExitCode::FAILURE;
         }
-        let [ours, theirs] = in_turn(FEWER, [&tables, &tables], [true, false]);
+        let [ours, theirs] = in_turn(FEWER, [&tables; 2], [Check::Ours, Check::Plain]);
         let permitted = expression::permitted(&tables).len();
         groups.entry(permitted).or_default().push(ours / theirs);
     }
@@ -110,7 +115,7 @@ fn run() -> ExitCode {
     let times = in_turn(
         TIMES,
         chains.each_ref().map(|(_, tables)| tables),
-        [true; 3],
+        [Check::Ours; 3],
     );
     println!("(d) ours in turn, all accepted:");
     for ((name, _), time) in chains.iter().zip(times) {
@@ -129,27 +134,38 @@ fn words(answer: Result<(), Refusal>) -> String {
     }
 }
 
-/// The answer of both, where their answers and rows are the same.
+/// The answer of all three, where their answers and rows are the same.
 fn same_answer(tables: &Tables) -> Option<Result<(), Refusal>> {
-    let mut mine = [7; ROWS];
-    let mut theirs = [7; ROWS];
+    let [mut mine, mut theirs, mut parallel] = [[7; ROWS]; 3];
     let wanted = reference::check(tables, &mut theirs);
-    let same = bench::check(tables, &mut mine) == Ok(wanted) && mine == theirs;
+    let same = bench::check(tables, &mut mine) == Ok(wanted)
+        && parallel::check(tables, &mut parallel) == wanted
+        && mine == theirs
+        && parallel == theirs;
     same.then_some(wanted)
 }
 
-/// Medians in µs of calls that take turns, so that all meet the same machine:
-/// ours where it says so, else the reference's.
-fn in_turn<const N: usize>(count: usize, tables: [&Tables; N], ours: [bool; N]) -> [f64; N] {
+/// Whose check is measured: ours, the reference's plain one, or the reference's
+/// of all configurations at once.
+#[derive(Clone, Copy)]
+enum Check {
+    Ours,
+    Plain,
+    Parallel,
+}
+
+/// Medians in µs of calls that take turns, so that all meet the same machine.
+fn in_turn<const N: usize>(count: usize, tables: [&Tables; N], checks: [Check; N]) -> [f64; N] {
     let mut times = [const { Vec::new() }; N];
     let mut rows = vec![0; ROWS];
     for _ in 0..count {
         for (number, times) in times.iter_mut().enumerate() {
             let tables = black_box(tables[number]);
             let start = Instant::now();
-            match ours[number] {
-                true => drop(black_box(bench::check(tables, black_box(&mut rows)))),
-                false => drop(black_box(reference::check(tables, black_box(&mut rows)))),
+            match checks[number] {
+                Check::Ours => drop(black_box(bench::check(tables, black_box(&mut rows)))),
+                Check::Plain => drop(black_box(reference::check(tables, black_box(&mut rows)))),
+                Check::Parallel => drop(black_box(parallel::check(tables, black_box(&mut rows)))),
             }
             times.push(start.elapsed().as_nanos() as f64 / 1000.0);
         }
