@@ -1,0 +1,87 @@
+-- Texts written one after another, and the pieces that decimals and lines are written in.
+use Prim.Native.Nat.{ℕ, suc, _+_, _/_, _%_, _≤_, _<_}
+use mathlib.Core.Path.{_≡_, refl, sym, ap, ap₂, _∙_}
+use mathlib.Core.List.{List, [], _∷_, _++_}
+use native.Mathlib.Numerals.{add-one}
+use native.Mathlib.Nat.{div-add-mod'}
+use native.Mathlib.Omega.{arith}
+use lib.ListN.{length, set, take, getD, length-append, length-set}
+use lib.Seq.{sets, length-sets, take-suc, take-all}
+use Rattle.report.specs.Text.{decimal}
+use Rattle.report.proofs.TextLaws.{decimal-small, decimal-step}
+use Rattle.printing.specs.Writing.{Room, Written}
+
+-- ---- one after another
+
+-- stores of a text and then of another are those of the two as one
+pub sets-append : (xs ys l : List ℕ) (i : ℕ) → sets l i (xs ++ ys) ≡ sets (sets l i xs) (i + length xs) ys
+sets-append [] ys l i = let e : i + 0 ≡ i = omega arith in rw e
+sets-append (x ∷ xs) ys l i = let e : i + suc (length xs) ≡ suc i + length xs = omega arith in rw e (sets-append xs ys (set l i x) (suc i))
+
+pub kept-length : {xs o o′ : List ℕ} {at p : ℕ} → Written xs o at o′ p → length o′ ≡ length o
+kept-length {xs} {o} {o′} {at} w = ap length (w .stored) ∙ length-sets o at xs
+
+module _ {xs ys o : List ℕ} {at : ℕ} where
+  pub and-then : {o′ o″ : List ℕ} {p q : ℕ} → Written xs o at o′ p → Written ys o′ p o″ q → Written (xs ++ ys) o at o″ q
+  and-then f g = record {
+    place = omega (arith, f .place, g .place, length-append xs ys);
+    stored = g .stored ∙ ap₂ (λ (l : List ℕ) (k : ℕ). sets l k ys) (f .stored) (f .place) ∙ sym (sets-append xs ys o at);
+  }
+
+  -- room for two is, after the first, room for the second
+  pub room-next : {o′ : List ℕ} {p : ℕ} → Room (xs ++ ys) o at → Written xs o at o′ p → Room ys o′ p
+  room-next r w = record { fits = omega (arith, r .fits, length-append xs ys, w .place, kept-length w) }
+
+-- and at first room for the first
+pub room-first : {xs o : List ℕ} {at : ℕ} (ys : List ℕ) → Room (xs ++ ys) o at → Room xs o at
+room-first {xs} ys r = record { fits = omega (arith, r .fits, length-append xs ys) }
+
+-- one byte
+pub one-written : (o : List ℕ) (at b : ℕ) → Written (b ∷ []) o at (set o at b) (at + 1)
+one-written o at b = record { place = omega arith; stored = refl }
+
+-- ---- a text byte by byte: its first i bytes stand from `at` on
+
+pub record Copied (text first out : List ℕ) (at i : ℕ) : Type 0 where
+  pub within : i ≤ length text
+  pub written : Written (take i text) first at out (at + i)
+  pub long : length out ≡ length first
+
+module _ (text first : List ℕ) (at : ℕ) where
+  pub copied-none : Copied text first first at 0
+  copied-none = record { within = omega arith; written = record { place = refl; stored = refl }; long = refl }
+
+  pub copied-more : (out : List ℕ) (i : ℕ) → Copied text first out at i → i < length text
+      → Copied text first (set out (at + i) (getD text i 0)) at (i + 1)
+  copied-more out i r h =
+      let e : at + i + 1 ≡ at + (i + 1) = omega arith in
+      record {
+        within = omega arith;
+        written = rw (add-one i, take-suc text i 0 h) (rw (← add-one i, ← e) (and-then (r .written) (one-written out (at + i) (getD text i 0))));
+        long = length-set out (at + i) (getD text i 0) ∙ r .long;
+      }
+
+  pub copied-all : (out : List ℕ) (i : ℕ) → Copied text first out at i → length text ≤ i → Written text first at out (at + i)
+  copied-all out i r h = rw (take-all i text h) at (r .written)
+
+-- ---- decimals
+
+module _ (out : List ℕ) (at n : ℕ) where
+  pub small-written : n < 10 → Written (decimal n) out at (set out at (48 + n)) (at + 1)
+  small-written h = rw (decimal-small n h) (one-written out at (48 + n))
+
+  pub small-room : n < 10 → Room (decimal n) out at → at < length out
+  small-room h r = omega (arith, r .fits, ap length (decimal-small n h))
+
+  pub tenth-room : 10 ≤ n → Room (decimal n) out at → Room (decimal (n / 10) ++ ((48 + n % 10) ∷ [])) out at
+  tenth-room h r = rw (decimal-step n h) at r
+
+  pub last-written : {p : ℕ} {o : List ℕ} → 10 ≤ n → Written (decimal (n / 10)) out at o p
+      → Written (decimal n) out at (set o p (48 + n % 10)) (p + 1)
+  last-written {p} {o} h w = rw (decimal-step n h) (and-then w (one-written o p (48 + n % 10)))
+
+  pub last-place : {p : ℕ} {o : List ℕ} → 10 ≤ n → Room (decimal n) out at → Written (decimal (n / 10)) out at o p → p < length o
+  last-place {p} {o} h r w = let k = room-next (tenth-room h r) w in omega (arith, k .fits)
+
+pub tenth-falls : (n : ℕ) → 10 ≤ n → n / 10 < n
+tenth-falls n h = omega (arith, div-add-mod' n 10)

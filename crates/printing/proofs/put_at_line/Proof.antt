@@ -1,0 +1,93 @@
+-- The word, the configuration, the second word, the members, the ending.
+use Rattle.printing.proofs.Pieces.{room-first, room-next, and-then}
+use Rattle.printing.proofs.LinePieces.{configuration-pieces, same-room, same-written}
+use borrow.Author.Needs.{needs}
+use Rattle.printing.proofs.put_at_line.Statement.{statement}
+use Rattle.printing.proofs.put_at_line.Tie as tie
+
+slice-aggregate-put-bytes : tie.Need-slice-aggregate-put-bytes
+slice-aggregate-put-bytes c = search needs
+
+put-bytes-requires : tie.Need-put-bytes-requires
+put-bytes-requires c κs =
+    let s = c .before .before .before in
+    room-first _ (same-room (configuration-pieces (s .args .c) (s .args .s .bits)) (s .pre))
+
+put-spaced-requires : tie.Need-put-spaced-requires
+put-spaced-requires c κs =
+    let one = c .before .before .before in
+    let s = one .before .before .before .before in
+    room-first _ (room-next (same-room (configuration-pieces (s .args .c) (s .args .s .bits)) (s .pre)) (one .put-bytes .ensures))
+
+slice-aggregate-put-bytes-2 : tie.Need-slice-aggregate-put-bytes-2
+slice-aggregate-put-bytes-2 c = search needs
+
+put-bytes-requires-2 : tie.Need-put-bytes-requires-2
+put-bytes-requires-2 c κs =
+    let two = c .before .before .before .before in
+    let one = two .before .before .before .before in
+    let s = one .before .before .before .before in
+    let r0 = same-room (configuration-pieces (s .args .c) (s .args .s .bits)) (s .pre) in
+    let r1 = room-next r0 (one .put-bytes .ensures) in
+    let r2 = room-next r1 (two .put-spaced .ensures) in
+    room-first _ r2
+
+put-members-requires : tie.Need-put-members-requires
+put-members-requires c κs =
+    let three = c .before .before .before in
+    let two = three .before .before .before .before .before in
+    let one = two .before .before .before .before in
+    let s = one .before .before .before .before in
+    let r0 = same-room (configuration-pieces (s .args .c) (s .args .s .bits)) (s .pre) in
+    let r1 = room-next r0 (one .put-bytes .ensures) in
+    let r2 = room-next r1 (two .put-spaced .ensures) in
+    let r3 = room-next r2 (three .put-bytes2 .ensures) in
+    room-first _ r3
+
+slice-aggregate-put-bytes-3 : tie.Need-slice-aggregate-put-bytes-3
+slice-aggregate-put-bytes-3 c = search needs
+
+put-bytes-requires-3 : tie.Need-put-bytes-requires-3
+put-bytes-requires-3 c κs =
+    let four = c .before .before .before .before in
+    let three = four .before .before .before .before in
+    let two = three .before .before .before .before .before in
+    let one = two .before .before .before .before in
+    let s = one .before .before .before .before in
+    let r0 = same-room (configuration-pieces (s .args .c) (s .args .s .bits)) (s .pre) in
+    let r1 = room-next r0 (one .put-bytes .ensures) in
+    let r2 = room-next r1 (two .put-spaced .ensures) in
+    let r3 = room-next r2 (three .put-bytes2 .ensures) in
+    room-next r3 (four .put-members .ensures)
+
+same-length : tie.Need-same-length
+same-length c = search needs
+
+returns : tie.Need-returns
+returns c =
+    let five = c .before .before in
+    let four = five .before .before .before .before .before in
+    let three = four .before .before .before .before in
+    let two = three .before .before .before .before .before in
+    let one = two .before .before .before .before in
+    let s = one .before .before .before .before in
+    let w4 = five .put-bytes3 .ensures in
+    let w3 = and-then (four .put-members .ensures) w4 in
+    let w2 = and-then (three .put-bytes2 .ensures) w3 in
+    let w1 = and-then (two .put-spaced .ensures) w2 in
+    same-written (configuration-pieces (s .args .c) (s .args .s .bits)) (and-then (one .put-bytes .ensures) w1)
+
+pub put-at-line-spec : {M : Type 1} → statement M
+put-at-line-spec =
+    tie.close
+    (tie.spec
+    slice-aggregate-put-bytes
+    put-bytes-requires
+    put-spaced-requires
+    slice-aggregate-put-bytes-2
+    put-bytes-requires-2
+    put-members-requires
+    slice-aggregate-put-bytes-3
+    put-bytes-requires-3
+    same-length
+    returns)

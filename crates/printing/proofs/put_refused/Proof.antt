@@ -1,0 +1,108 @@
+-- The word, the four numbers, the ending: before each piece there is room for it and for those that follow.
+use Rattle.printing.proofs.Pieces.{room-first, room-next, and-then}
+use Rattle.printing.proofs.LinePieces.{refusal-pieces, same-room, same-written}
+use borrow.Author.Needs.{needs}
+use Rattle.printing.proofs.put_refused.Statement.{statement}
+use Rattle.printing.proofs.put_refused.Tie as tie
+
+slice-aggregate-put-bytes : tie.Need-slice-aggregate-put-bytes
+slice-aggregate-put-bytes c = search needs
+
+put-bytes-requires : tie.Need-put-bytes-requires
+put-bytes-requires c κs =
+    let s = c .before .before .before in
+    room-first _ (same-room (refusal-pieces (s .args .f)) (s .pre))
+
+put-spaced-requires : tie.Need-put-spaced-requires
+put-spaced-requires c κs =
+    let one = c .before .before .before in
+    let s = one .before .before .before .before in
+    room-first _ (room-next (same-room (refusal-pieces (s .args .f)) (s .pre)) (one .put-bytes .ensures))
+
+put-spaced-requires-2 : tie.Need-put-spaced-requires-2
+put-spaced-requires-2 c κs =
+    let two = c .before .before .before in
+    let one = two .before .before .before .before in
+    let s = one .before .before .before .before in
+    let r0 = same-room (refusal-pieces (s .args .f)) (s .pre) in
+    let r1 = room-next r0 (one .put-bytes .ensures) in
+    let r2 = room-next r1 (two .put-spaced .ensures) in
+    room-first _ r2
+
+put-spaced-requires-3 : tie.Need-put-spaced-requires-3
+put-spaced-requires-3 c κs =
+    let three = c .before .before .before in
+    let two = three .before .before .before .before in
+    let one = two .before .before .before .before in
+    let s = one .before .before .before .before in
+    let r0 = same-room (refusal-pieces (s .args .f)) (s .pre) in
+    let r1 = room-next r0 (one .put-bytes .ensures) in
+    let r2 = room-next r1 (two .put-spaced .ensures) in
+    let r3 = room-next r2 (three .put-spaced2 .ensures) in
+    room-first _ r3
+
+put-spaced-requires-4 : tie.Need-put-spaced-requires-4
+put-spaced-requires-4 c κs =
+    let four = c .before .before .before in
+    let three = four .before .before .before .before in
+    let two = three .before .before .before .before in
+    let one = two .before .before .before .before in
+    let s = one .before .before .before .before in
+    let r0 = same-room (refusal-pieces (s .args .f)) (s .pre) in
+    let r1 = room-next r0 (one .put-bytes .ensures) in
+    let r2 = room-next r1 (two .put-spaced .ensures) in
+    let r3 = room-next r2 (three .put-spaced2 .ensures) in
+    let r4 = room-next r3 (four .put-spaced3 .ensures) in
+    room-first _ r4
+
+slice-aggregate-put-bytes-2 : tie.Need-slice-aggregate-put-bytes-2
+slice-aggregate-put-bytes-2 c = search needs
+
+put-bytes-requires-2 : tie.Need-put-bytes-requires-2
+put-bytes-requires-2 c κs =
+    let five = c .before .before .before .before in
+    let four = five .before .before .before .before in
+    let three = four .before .before .before .before in
+    let two = three .before .before .before .before in
+    let one = two .before .before .before .before in
+    let s = one .before .before .before .before in
+    let r0 = same-room (refusal-pieces (s .args .f)) (s .pre) in
+    let r1 = room-next r0 (one .put-bytes .ensures) in
+    let r2 = room-next r1 (two .put-spaced .ensures) in
+    let r3 = room-next r2 (three .put-spaced2 .ensures) in
+    let r4 = room-next r3 (four .put-spaced3 .ensures) in
+    room-next r4 (five .put-spaced4 .ensures)
+
+same-length : tie.Need-same-length
+same-length c = search needs
+
+returns : tie.Need-returns
+returns c =
+    let six = c .before .before in
+    let five = six .before .before .before .before .before in
+    let four = five .before .before .before .before in
+    let three = four .before .before .before .before in
+    let two = three .before .before .before .before in
+    let one = two .before .before .before .before in
+    let s = one .before .before .before .before in
+    let w5 = six .put-bytes2 .ensures in
+    let w4 = and-then (five .put-spaced4 .ensures) w5 in
+    let w3 = and-then (four .put-spaced3 .ensures) w4 in
+    let w2 = and-then (three .put-spaced2 .ensures) w3 in
+    let w1 = and-then (two .put-spaced .ensures) w2 in
+    same-written (refusal-pieces (s .args .f)) (and-then (one .put-bytes .ensures) w1)
+
+pub put-refused-spec : {M : Type 1} → statement M
+put-refused-spec =
+    tie.close
+    (tie.spec
+    slice-aggregate-put-bytes
+    put-bytes-requires
+    put-spaced-requires
+    put-spaced-requires-2
+    put-spaced-requires-3
+    put-spaced-requires-4
+    slice-aggregate-put-bytes-2
+    put-bytes-requires-2
+    same-length
+    returns)

@@ -1,0 +1,32 @@
+-- The space, then the number.
+use mathlib.Core.List.{[], _∷_}
+use denote.Ref.{now}
+use Rattle.printing.proofs.Pieces.{room-next, and-then, kept-length, one-written}
+use borrow.Author.Needs.{needs}
+use Rattle.printing.proofs.put_spaced.Statement.{statement}
+use Rattle.printing.proofs.put_spaced.Tie as tie
+
+slice-write-out : tie.Need-slice-write-out
+slice-write-out c = search needs
+
+add-put-decimal : tie.Need-add-put-decimal
+add-put-decimal c = search needs
+
+put-decimal-requires : tie.Need-put-decimal-requires
+put-decimal-requires c κs =
+    let d = c .before .before in
+    room-next {xs = 32 ∷ []} (d .pre) (one-written (now (d .args .out)) (d .args .at) 32)
+
+same-length : tie.Need-same-length
+same-length c =
+    let d = c .before .before .before .before .before in
+    kept-length (and-then (one-written (now (d .args .out)) (d .args .at) 32) (c .before .before .put-decimal .ensures))
+
+returns : tie.Need-returns
+returns c =
+    let d = c .before .before .before .before .before in
+    and-then (one-written (now (d .args .out)) (d .args .at) 32) (c .before .before .put-decimal .ensures)
+
+pub put-spaced-spec : {M : Type 1} → statement M
+put-spaced-spec =
+    tie.close (tie.spec slice-write-out add-put-decimal put-decimal-requires same-length returns)

@@ -1,0 +1,40 @@
+-- A text written into lent bytes at a position, and the texts that the print is made of.
+use Prim.Native.Nat.{ℕ, _+_, _≤_}
+use mathlib.Core.Path.{_≡_}
+use mathlib.Core.List.{List, [], _∷_}
+use mathlib.Core.Bool.{cond}
+use lib.ListN.{length}
+use lib.Seq.{sets}
+use Rattle.sets.specs.Bits.{bit}
+use Rattle.report.specs.Text.{bytes, spaced, line}
+use Rattle.report.specs.Print.{members, atLine}
+use Rattle.report.specs.declared.Refusal.{Refusal}
+
+-- from `at` on there is room for the text
+pub record Room (text out : List ℕ) (at : ℕ) : Type 0 where
+  pub fits : at + length text ≤ length out
+
+-- afterwards the text stands from `at` on, all else is as before, and the answer is the position after it
+pub record Written (text before : List ℕ) (at : ℕ) (after : List ℕ) (answer : ℕ) : Type 0 where
+  pub place : answer ≡ at + length text
+  pub stored : after ≡ sets before at text
+
+-- the line of a refusal (proofs/LinePieces: refusal-print)
+unfoldable pub refusalLine : Refusal → List ℕ
+refusalLine f = line (bytes "refused") (f .number ∷ f .place ∷ f .item ∷ f .configuration ∷ [])
+
+-- the line of a file that cannot be read (proofs/LinePieces: unread-print)
+unfoldable pub unreadLine : ℕ → List ℕ
+unreadLine n = line (bytes "unread") (n ∷ [])
+
+-- attribute a after a space, where it is in the set
+unfoldable pub memberText : ℕ → ℕ → List ℕ
+memberText s a = spaced (cond (bit s a) (a ∷ []) [])
+
+-- the members of a set of attributes, each after a space
+unfoldable pub membersText : ℕ → List ℕ
+membersText s = spaced (members s)
+
+-- the line of one configuration
+unfoldable pub configurationLine : ℕ → ℕ → List ℕ
+configurationLine c s = atLine c s
