@@ -7,6 +7,9 @@ ghost use Rattle.report.specs.Tables.{tablesOf};
 ghost use Rattle.report.specs.Checks.{Call, answer, rowsAfter};
 ghost use Rattle.gelvomas.specs.Answers.{answerNumber, answerWords};
 
+// Number, place, item and configuration.
+pub type RefusalWords = [u64; 4];
+
 // Answers 0 where the report is accepted: `rows` holds its column rows, and `refusal` is as it was.
 // Else answers 1: `refusal` holds number, place, item and configuration, and `rows` is as it was.
 #[no_mangle]
@@ -20,7 +23,7 @@ pub extern "C" fn gelvomas_check(
     t3: &[u16],
     t4: &[u16],
     rows: &mut [u64],
-    refusal: &mut [u64; 4],
+    refusal: &mut RefusalWords,
 ) -> u64
     ensures { λ r.
         ⌜ r
