@@ -19,6 +19,7 @@ pub mod schema;
 pub mod small;
 pub mod tables;
 pub mod typing;
+pub mod vectors;
 
 pub use check::check;
 pub use configure::configure;

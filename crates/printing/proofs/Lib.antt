@@ -1,2 +1,4 @@
 pub mod Pieces
 pub mod LinePieces
+pub mod ColumnLaws
+pub mod PrintLaws

@@ -1,44 +1,16 @@
--- Texts written one after another, and the pieces that decimals and lines are written in.
-use Prim.Native.Nat.{ℕ, suc, _+_, _/_, _%_, _≤_, _<_}
-use mathlib.Core.Path.{_≡_, refl, sym, ap, ap₂, _∙_}
+-- Texts written byte by byte, and the pieces that decimals are written in.
+use Prim.Native.Nat.{ℕ, _+_, _/_, _%_, _≤_, _<_}
+use mathlib.Core.Path.{_≡_, refl, ap, _∙_}
 use mathlib.Core.List.{List, [], _∷_, _++_}
 use native.Mathlib.Numerals.{add-one}
 use native.Mathlib.Nat.{div-add-mod'}
 use native.Mathlib.Omega.{arith}
-use lib.ListN.{length, set, take, getD, length-append, length-set}
-use lib.Seq.{sets, length-sets, take-suc, take-all}
+use lib.ListN.{length, set, take, getD, length-set}
+use lib.Seq.{take-suc, take-all}
+use Rattle.sets.specs.Writing.{Room, Written}
+use Rattle.sets.proofs.WritingLaws.{and-then, room-next, one-written}
 use Rattle.report.specs.Text.{decimal}
 use Rattle.report.proofs.TextLaws.{decimal-small, decimal-step}
-use Rattle.printing.specs.Writing.{Room, Written}
-
--- ---- one after another
-
--- stores of a text and then of another are those of the two as one
-pub sets-append : (xs ys l : List ℕ) (i : ℕ) → sets l i (xs ++ ys) ≡ sets (sets l i xs) (i + length xs) ys
-sets-append [] ys l i = let e : i + 0 ≡ i = omega arith in rw e
-sets-append (x ∷ xs) ys l i = let e : i + suc (length xs) ≡ suc i + length xs = omega arith in rw e (sets-append xs ys (set l i x) (suc i))
-
-pub kept-length : {xs o o′ : List ℕ} {at p : ℕ} → Written xs o at o′ p → length o′ ≡ length o
-kept-length {xs} {o} {o′} {at} w = ap length (w .stored) ∙ length-sets o at xs
-
-module _ {xs ys o : List ℕ} {at : ℕ} where
-  pub and-then : {o′ o″ : List ℕ} {p q : ℕ} → Written xs o at o′ p → Written ys o′ p o″ q → Written (xs ++ ys) o at o″ q
-  and-then f g = record {
-    place = omega (arith, f .place, g .place, length-append xs ys);
-    stored = g .stored ∙ ap₂ (λ (l : List ℕ) (k : ℕ). sets l k ys) (f .stored) (f .place) ∙ sym (sets-append xs ys o at);
-  }
-
-  -- room for two is, after the first, room for the second
-  pub room-next : {o′ : List ℕ} {p : ℕ} → Room (xs ++ ys) o at → Written xs o at o′ p → Room ys o′ p
-  room-next r w = record { fits = omega (arith, r .fits, length-append xs ys, w .place, kept-length w) }
-
--- and at first room for the first
-pub room-first : {xs o : List ℕ} {at : ℕ} (ys : List ℕ) → Room (xs ++ ys) o at → Room xs o at
-room-first {xs} ys r = record { fits = omega (arith, r .fits, length-append xs ys) }
-
--- one byte
-pub one-written : (o : List ℕ) (at b : ℕ) → Written (b ∷ []) o at (set o at b) (at + 1)
-one-written o at b = record { place = omega arith; stored = refl }
 
 -- ---- a text byte by byte: its first i bytes stand from `at` on
 

@@ -1,10 +1,14 @@
 // Numbers, lines and the print of an answer, written into lent bytes. Each function writes at a position and returns the position after.
+mod columns;
+
+pub use columns::put_accepted;
 use report::Refusal;
 use sets::AttributeSet;
 ghost use Prim.Native.Nat.{_<_};
 ghost use mathlib.Core.List.{_∷_};
+ghost use Rattle.sets.specs.Writing.{Room, Written};
 ghost use Rattle.report.specs.Text.{decimal};
-ghost use Rattle.printing.specs.Writing.{Room, Written, refusalLine, unreadLine, memberText, membersText, configurationLine};
+ghost use Rattle.printing.specs.Lines.{refusalLine, unreadLine, memberText, membersText, configurationLine};
 
 // A text.
 pub fn put_bytes(out: &mut [u8], at: usize, text: &[u8]) -> usize

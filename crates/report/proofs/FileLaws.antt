@@ -216,15 +216,16 @@ module _ (lines : List (List ℕ)) where
 
 -- ---- the words of a table
 
-module _ (lines : List (List ℕ)) (g : ℕ) (h : g < 6) where
-  in-group : (k : ℕ) → groupIn lines k ≡ groupNumber groups (getD lines k [])
-  unfolding numbersIn
-  in-group k = List·getD-map (groupNumber groups) lines k []
+-- the group of a line is that of its text
+pub group-of : (lines : List (List ℕ)) (k : ℕ) → groupIn lines k ≡ groupNumber groups (getD lines k [])
+unfolding numbersIn
+group-of lines k = List·getD-map (groupNumber groups) lines k []
 
+module _ (lines : List (List ℕ)) (g : ℕ) (h : g < 6) where
   -- a line of group g has as many numbers as its form has words
   pub group-width : (k : ℕ) → groupIn lines k ≡ g → length (numbersIn (getD lines k [])) ≡ groupAt g .shape .width
   group-width k e =
-      let l = line-of-iff (groupAt g) (getD lines k []) (group-word g) .0 (group-iff (getD lines k []) g h .0 (sym (in-group k) ∙ e)) in
+      let l = line-of-iff (groupAt g) (getD lines k []) (group-word g) .0 (group-iff (getD lines k []) g h .0 (sym (group-of lines k) ∙ e)) in
       ap length (line-of-numbers (groupAt g) (getD lines k []) (group-word g) l) ∙ l .count
 
   -- so the words are whole forms, one for each line of the group

@@ -94,7 +94,8 @@ decimal-ind P one more = strong (λ n. P n (decimal n)) (λ n before. go n befor
         let h : 10 ≤ n = omega arith in
         rw (decimal-step n h) (more n h (before (n / 10) (omega (arith, div-add-mod' n 10))))
 
-digit-of : (n : ℕ) → n < 10 → isDigit (48 + n) ≡ true
+-- 48 and a value below 10 is a digit
+pub digit-of : (n : ℕ) → n < 10 → isDigit (48 + n) ≡ true
 digit-of n h = both (le-leb 48 (48 + n) (omega arith)) (le-leb (48 + n) 57 (omega arith))
 
 -- every byte is a digit

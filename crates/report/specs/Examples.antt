@@ -1,4 +1,4 @@
--- Document 01, "Berths to try" and "Wrong ships": H1 to H10 and two cases more, as one list. Their theorem is proofs/ExamplesHold.
+-- Document 01, "Berths to try" and "Wrong ships": H1 to H10 and three cases more, as one list. Their theorem is proofs/ExamplesHold.
 use Prim.Native.Nat.{ℕ, zero, suc, _+_, _-_, _^_}
 use mathlib.Core.List.{List, [], _∷_, _++_}
 use lib.ListN.{replicate, length}
@@ -108,4 +108,10 @@ examples =
     -- holds only where the relation is absent. (The second and fourth are H2 and H7)
     ∷ (checked (guarded (0 ∷ 0 ∷ []) 1) gives Outcome.rows (2 ∷ replicate 1023 0))
     ∷ (checked (guarded (0 ∷ 0 ∷ 1 ∷ 2 ∷ []) 2) gives Outcome.refused 14 0 1 0)
+    -- W5: the project forms 2 and 3 and their product, the report, all fail, 3 at a lower configuration than 2; from the report 3 is met before
+    -- 2. The lowest form is named
+    ∷ (checked
+    (harbour 2 h1Expressions (h1Entries 1 ++ (2 ∷ 0 ∷ []))
+    (1 ∷ 0 ∷ 0 ∷ 0 ∷ 1 ∷ 0 ∷ 0 ∷ 0 ∷ 3 ∷ 2 ∷ 0 ∷ 0 ∷ 3 ∷ 1 ∷ 1 ∷ 0 ∷ 5 ∷ 3 ∷ 2 ∷ 0 ∷ []))
+    gives Outcome.refused 17 2 2 1)
     ∷ []

@@ -155,6 +155,12 @@ module _ {A : Type 0} (keep : ℕ → Bool) (block : ℕ → List A) where
   pub kept-no : (n : ℕ) → keep n ≡ false → kept keep block (suc n) ≡ kept keep block n
   kept-no n e = ap (λ (t : Bool). kept keep block n ++ cond t (block n) []) e ∙ append-nil (kept keep block n)
 
+  -- where none from i on is kept, what is kept stays
+  pub kept-none : (i n : ℕ) → i ≤ n → ((x : ℕ) → i ≤ x → x < n → keep x ≡ false) → kept keep block n ≡ kept keep block i
+  kept-none i n h =
+      le-ind (λ (m : ℕ). ((x : ℕ) → i ≤ x → x < m → keep x ≡ false) → kept keep block m ≡ kept keep block i) (λ f. refl)
+      (λ m l ih f. kept-no m (f m l (le-refl (suc m))) ∙ ih (λ x a b. f x a (omega arith))) n h
+
   pub kept-grows : (i n : ℕ) → i ≤ n → length (kept keep block i) ≤ length (kept keep block n)
   kept-grows = concat-grows part
 

@@ -4,10 +4,12 @@
 mod build;
 mod damage;
 mod fault;
+mod mutate;
 
 pub use build::Size;
 pub use damage::{damage, lengthened};
 pub use fault::{is_crossed, lengths_are_sound, more_comparisons, outcome, Limit, LIMITS};
+pub use mutate::mutate;
 
 use crate::random::Random;
 use crate::tables::Tables;

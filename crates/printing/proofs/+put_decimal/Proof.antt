@@ -1,7 +1,8 @@
 -- By recursion on the number: the digits of its tenth part, then the last digit.
 use denote.Ref.{now}
 use native.Mathlib.Omega.{arith}
-use Rattle.printing.proofs.Pieces.{tenth-falls, small-written, small-room, tenth-room, room-first, last-written, last-place, kept-length}
+use Rattle.sets.proofs.WritingLaws.{room-first, same-length}
+use Rattle.printing.proofs.Pieces.{tenth-falls, small-written, small-room, tenth-room, last-written, last-place}
 use borrow.Author.Needs.{needs}
 use Prim.Native.Nat.{ℕ, _<_}
 use borrow.Fn.Kinds.{In}
@@ -113,7 +114,7 @@ put-decimal-same-length-2 t c =
     let d = c .before .before .before .before .before .before in
     let q = c .before .before .put-decimal in
     let h = c .before .before .before .before .if1 .left in
-    kept-length (last-written (now (d .args .out)) (d .args .at) (d .args .n) h (q .ensures))
+    same-length (last-written (now (d .args .out)) (d .args .at) (d .args .n) h (q .ensures))
 
 put-decimal-returns-2 : (t : ℕ) → put-decimal-lts.Need-returns-2 (
   put-decimal-below t,

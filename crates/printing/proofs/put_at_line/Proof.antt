@@ -1,6 +1,6 @@
 -- The word, the configuration, the second word, the members, the ending.
-use Rattle.printing.proofs.Pieces.{room-first, room-next, and-then}
-use Rattle.printing.proofs.LinePieces.{configuration-pieces, same-room, same-written}
+use Rattle.sets.proofs.WritingLaws.{and-then, room-first, room-next, same-room, same-written}
+use Rattle.printing.proofs.LinePieces.{configuration-pieces}
 use borrow.Author.Needs.{needs}
 use Rattle.printing.proofs.put_at_line.Statement.{statement}
 use Rattle.printing.proofs.put_at_line.Tie as tie

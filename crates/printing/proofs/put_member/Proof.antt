@@ -1,7 +1,8 @@
 -- By whether the set has the attribute.
 use mathlib.Core.Path.{sym, _∙_}
 use denote.Ref.{now}
-use Rattle.printing.proofs.LinePieces.{member-yes, member-no, none-written, same-room, same-written}
+use Rattle.sets.proofs.WritingLaws.{none-written, same-room, same-written}
+use Rattle.printing.proofs.LinePieces.{member-yes, member-no}
 use borrow.Author.Needs.{needs}
 use Rattle.printing.proofs.put_member.Statement.{statement}
 use Rattle.printing.proofs.put_member.Tie as tie

@@ -1,6 +1,6 @@
 -- The word, the four numbers, the ending: before each piece there is room for it and for those that follow.
-use Rattle.printing.proofs.Pieces.{room-first, room-next, and-then}
-use Rattle.printing.proofs.LinePieces.{refusal-pieces, same-room, same-written}
+use Rattle.sets.proofs.WritingLaws.{and-then, room-first, room-next, same-room, same-written}
+use Rattle.printing.proofs.LinePieces.{refusal-pieces}
 use borrow.Author.Needs.{needs}
 use Rattle.printing.proofs.put_refused.Statement.{statement}
 use Rattle.printing.proofs.put_refused.Tie as tie

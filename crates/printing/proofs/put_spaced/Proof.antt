@@ -1,8 +1,8 @@
 -- The space, then the number.
 use mathlib.Core.List.{[], _∷_}
 use denote.Ref.{now}
-use Rattle.printing.proofs.Pieces.{room-next, and-then, kept-length, one-written}
 use borrow.Author.Needs.{needs}
+use Rattle.sets.proofs.WritingLaws.{and-then, one-written, room-next, same-length}
 use Rattle.printing.proofs.put_spaced.Statement.{statement}
 use Rattle.printing.proofs.put_spaced.Tie as tie
 
@@ -17,10 +17,10 @@ put-decimal-requires c κs =
     let d = c .before .before in
     room-next {xs = 32 ∷ []} (d .pre) (one-written (now (d .args .out)) (d .args .at) 32)
 
-same-length : tie.Need-same-length
-same-length c =
+long : tie.Need-same-length
+long c =
     let d = c .before .before .before .before .before in
-    kept-length (and-then (one-written (now (d .args .out)) (d .args .at) 32) (c .before .before .put-decimal .ensures))
+    same-length (and-then (one-written (now (d .args .out)) (d .args .at) 32) (c .before .before .put-decimal .ensures))
 
 returns : tie.Need-returns
 returns c =
@@ -29,4 +29,4 @@ returns c =
 
 pub put-spaced-spec : {M : Type 1} → statement M
 put-spaced-spec =
-    tie.close (tie.spec slice-write-out add-put-decimal put-decimal-requires same-length returns)
+    tie.close (tie.spec slice-write-out add-put-decimal put-decimal-requires long returns)

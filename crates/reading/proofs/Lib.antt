@@ -1,0 +1,4 @@
+pub mod ScanLaws
+pub mod LineSteps
+pub mod SpelledNumbers
+pub mod SpelledLines

@@ -1,0 +1,47 @@
+-- The word, the numbers, the ending; each of them may stop the line.
+use borrow.Author.Needs.{needs}
+use mathlib.Core.Path.{sym, _∙_}
+use denote.Ref.{now}
+use Rattle.reading.proofs.LineSteps.{line-no-word, line-broken, line-ended}
+use Rattle.reading.proofs.read_line.Statement.{statement}
+use Rattle.reading.proofs.read_line.Tie as tie
+
+returns : tie.Need-returns
+returns c = line-no-word _ _ _ _ (sym (c .before .before .before .word-at .ensures) ∙ c .before .p .given .1)
+
+returns-2 : tie.Need-returns-2
+returns-2 c =
+    let n = c .before .before .before .before .before in
+    let p = n .before .before .before in
+    let w = p .before .before in
+    let a = w .before .before .before .before .args in
+    line-broken (now (a .s)) (now (a .word)) (a .width) (a .at) (sym (w .word-at .ensures) ∙ p .p2 .given .1) (n .read-numbers .ensures)
+    (c .before .q .given .1)
+
+returns-3 : tie.Need-returns-3
+returns-3 c =
+    let q = c .before .before .before in
+    let n = q .before .before .before .before in
+    let p = n .before .before .before in
+    let w = p .before .before in
+    let a = w .before .before .before .before .args in
+    line-ended (now (a .s)) (now (a .word)) (a .width) (a .at) (sym (w .word-at .ensures) ∙ p .p2 .given .1) (n .read-numbers .ensures)
+    (q .q2 .given .1) (c .word-at2 .ensures)
+
+pub read-line-spec : {M : Type 1} → statement M
+read-line-spec =
+    tie.close
+    (tie.spec
+    (λ c κs. search needs)
+    (λ c. search needs)
+    (λ c. search needs)
+    (λ c κs. search needs)
+    (λ c. search needs)
+    (λ c. search needs)
+    (λ c. search needs)
+    (λ c κs. search needs)
+    returns
+    (λ c. search needs)
+    returns-2
+    (λ c. search needs)
+    returns-3)

@@ -1,0 +1,7 @@
+pub mod GroupSteps
+pub mod GroupLines
+pub mod GroupRuns
+pub mod GroupParts
+pub mod FirstBadLine
+pub mod PrintedLaws
+pub mod CountLaws

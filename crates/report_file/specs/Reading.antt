@@ -1,0 +1,51 @@
+-- Reading a file from its start, group by group: what the code does. That it gives document 01's first bad line is proofs/FirstBadLine.
+use Prim.Native.Nat.{ℕ, zero, suc}
+use mathlib.Core.Bool.{cond}
+use mathlib.Core.List.{List, [], _∷_, _++_}
+use lib.ListN.{length, getD}
+use lib.Dec.{ltb, eqb}
+use Rattle.reading.specs.Scanning.{onStep, lineAt}
+use Rattle.report.specs.HarbourFile.{Group, groups, File, tablesFrom}
+
+-- the lines of a group that were read: their words, the position after them and the number of the line that stands there, from 1
+pub record Part : Type 0 where
+  pub words : List ℕ
+  pub at : ℕ
+  pub line : ℕ
+
+abbrev pub partOf : List ℕ → ℕ → ℕ → Part
+partOf words at line = record { words = words; at = at; line = line }
+
+abbrev pub withLine : List ℕ → Part → Part
+withLine ns p = partOf (ns ++ p .words) (p .at) (p .line)
+
+-- at most k lines of the word and `width` numbers, from `at` on, where line number n stands
+unfoldable pub linesFrom : List ℕ → List ℕ → ℕ → ℕ → ℕ → ℕ → Part
+linesFrom s word width zero at n = partOf [] at n
+linesFrom s word width (suc k) at n =
+    let l = lineAt s word width at in
+    onStep (l .step) (λ p. withLine (l .numbers) (linesFrom s word width k p (suc n))) (λ p. partOf [] at n)
+
+-- the parts of some groups; each group starts where the one before it ends
+unfoldable pub partsFrom : List ℕ → List Group → ℕ → ℕ → List Part
+partsFrom s [] at n = []
+partsFrom s (g ∷ gs) at n =
+    let p = linesFrom s (40 ∷ g .word) (g .shape .width) (g .shape .most) at n in
+    p ∷ partsFrom s gs (p .at) (p .line)
+
+-- the parts of the groups of a file
+unfoldable pub fileParts : List ℕ → List Part
+fileParts s = partsFrom s groups 0 1
+
+abbrev pub partAt : List Part → ℕ → Part
+partAt ps g = getD ps g (partOf [] 0 0)
+
+-- what the parts of a text say: without a head line 1 is bad; else the line that no group takes in its turn, if there is one
+abbrev pub fileFrom : List ℕ → List Part → File
+fileFrom s ps =
+    cond (eqb (length (partAt ps 0 .words)) 0) (File.unread 1)
+    (cond (eqb (partAt ps 5 .at) (length s)) (File.holds (tablesFrom (λ g. partAt ps g .words))) (File.unread (partAt ps 5 .line)))
+
+-- a file over 65,536 bytes is not read: 0
+unfoldable pub readFile : List ℕ → File
+readFile s = cond (ltb 65536 (length s)) (File.unread 0) (fileFrom s (fileParts s))

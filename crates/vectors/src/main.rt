@@ -1,0 +1,40 @@
+// Runs the stored cases: for each argument, which names a harbour file, the name and then the print of that file. The file `stdout` beside src/
+// has what the reference gives for them (reference/src/bin/make_vectors.rs writes all three).
+use libc::STDOUT_FILENO;
+use report_file::PrintRoom;
+
+// One byte more than a harbour file may have.
+const READ_ROOM: usize = 65537;
+
+// The print of the open file.
+fn show_print(fd: i32) {
+    let mut text = [0u8; READ_ROOM];
+    let length = io::read_full(fd, &mut text);
+    let mut out: PrintRoom = [0; 201653];
+    let printed = report_file::print_file(&text[..length], &mut out);
+    io::write_all(STDOUT_FILENO, &out[..printed]);
+}
+
+// Case i: a line with the name, then the print. A file that cannot be opened gives a line that no print has, so that the comparison fails.
+fn show_case(i: usize) {
+    let mut name = io::buffer();
+    let length = os::arg(i, &mut name);
+    io::write_all(STDOUT_FILENO, &name[..length]);
+    io::write_all(STDOUT_FILENO, b"\n");
+    let fd = os::open_read(&name[..length]);
+    if fd < 0 {
+        io::write_all(STDOUT_FILENO, b"(missing)\n");
+        return;
+    }
+    show_print(fd);
+    libc::close(fd);
+}
+
+fn main() {
+    let count = os::arg_count();
+    let mut i = 1;
+    while i < count {
+        show_case(i);
+        i += 1;
+    }
+}

@@ -1,0 +1,79 @@
+//! The stored cases of the program `vectors` (`../crates/vectors`): harbour
+//! files with names that say what they are, and what is printed for them.
+//!
+//! `bin/make_vectors.rs` writes them, and `tests/stored.rs` holds what is
+//! stored to them. They are the same on every machine.
+
+mod berths;
+mod reports;
+mod texts;
+
+use std::fs;
+use std::io;
+use std::path::Path;
+
+use crate::file::print_file;
+pub use reports::REFUSALS;
+
+/// The seed of all generated cases.
+pub const SEED: u64 = 5_048_055;
+
+/// A harbour file, right or wrong, and its name.
+#[derive(Clone, Debug, PartialEq, Eq)]
+pub struct Vector {
+    pub name: String,
+    pub text: Vec<u8>,
+}
+
+impl Vector {
+    fn new(name: &str, text: impl Into<Vec<u8>>) -> Vector {
+        Vector {
+            name: name.to_string(),
+            text: text.into(),
+        }
+    }
+}
+
+/// All cases, their names numbered: document 01's, texts that are read or
+/// unread, generated reports, and the given examples.
+pub fn all(examples: &[Vector]) -> Vec<Vector> {
+    let mut cases = berths::cases();
+    cases.extend(texts::cases());
+    cases.extend(reports::cases());
+    cases.extend(examples.iter().cloned());
+    for (number, case) in cases.iter_mut().enumerate() {
+        case.name = format!("{:03}-{}.harbour", number + 1, case.name);
+    }
+    cases
+}
+
+/// The harbour files of the repository's folder `examples`, by name.
+pub fn examples(root: &Path) -> io::Result<Vec<Vector>> {
+    let mut examples = Vec::new();
+    for file in fs::read_dir(root.join("examples"))? {
+        let path = file?.path();
+        let name = path.file_name().and_then(|name| name.to_str());
+        if let Some(name) = name.and_then(|name| name.strip_suffix(".harbour")) {
+            examples.push(Vector::new(name, fs::read(&path)?));
+        }
+    }
+    examples.sort_unstable_by(|one, other| one.name.cmp(&other.name));
+    Ok(examples)
+}
+
+/// The arguments that the program is given: one name to a line.
+pub fn arguments(cases: &[Vector]) -> Vec<u8> {
+    let names = cases.iter().map(|case| format!("{}\n", case.name));
+    names.collect::<String>().into_bytes()
+}
+
+/// What the program writes: for each case a line with its name, and its print.
+pub fn output(cases: &[Vector]) -> Vec<u8> {
+    let mut output = Vec::new();
+    for case in cases {
+        output.extend_from_slice(case.name.as_bytes());
+        output.push(b'\n');
+        output.extend(print_file(&case.text));
+    }
+    output
+}

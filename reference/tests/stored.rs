@@ -1,0 +1,72 @@
+//! What is stored elsewhere in the repository as the reference's output is its
+//! output.
+
+use std::collections::BTreeSet;
+use std::fs;
+use std::path::{Path, PathBuf};
+
+use reference::file::print_file;
+use reference::small::H1;
+use reference::vectors::{self, Vector, REFUSALS};
+
+fn root() -> PathBuf {
+    Path::new(env!("CARGO_MANIFEST_DIR")).join("..")
+}
+
+fn stored(path: &str) -> Vec<u8> {
+    fs::read(root().join(path)).unwrap_or_else(|error| panic!("{path}: {error}"))
+}
+
+fn examples() -> Vec<Vector> {
+    vectors::examples(&root()).expect("there is a folder examples")
+}
+
+/// `make_vectors` writes them; it is to be run again when this fails.
+#[test]
+fn the_vectors_are_what_the_command_makes() {
+    let cases = vectors::all(&examples());
+    assert_eq!(stored("crates/vectors/args"), vectors::arguments(&cases));
+    assert!(stored("crates/vectors/stdout") == vectors::output(&cases));
+    for case in &cases {
+        let path = format!("crates/vectors/data/{}", case.name);
+        assert!(stored(&path) == case.text, "{path}");
+    }
+    let files = fs::read_dir(root().join("crates/vectors/data")).unwrap();
+    assert_eq!(files.count(), cases.len());
+}
+
+#[test]
+fn the_vectors_have_names_of_their_own_and_every_outcome() {
+    let cases = vectors::all(&examples());
+    let without_number = |case: &Vector| case.name[4..].to_string();
+    let names: BTreeSet<String> = cases.iter().map(without_number).collect();
+    assert_eq!(names.len(), cases.len());
+    let prints: Vec<Vec<u8>> = cases.iter().map(|case| print_file(&case.text)).collect();
+    let times = |start: &str| {
+        let starts = prints.iter().filter(|p| p.starts_with(start.as_bytes()));
+        starts.count()
+    };
+    for number in REFUSALS {
+        assert!(times(&format!("(refused {number} ")) >= 3, "{number}");
+    }
+    assert!(times("(accepted)") >= 100);
+    assert!(times("(unread 0)") >= 5);
+    assert!(times("(unread ") >= 100);
+    assert!(prints.iter().any(|print| print.len() == 201_653));
+}
+
+#[test]
+fn the_examples_print_what_stands_beside_them() {
+    let examples = examples();
+    assert!(examples.len() >= 6);
+    for Vector { name, text } in &examples {
+        let print = stored(&format!("examples/{name}.print"));
+        assert_eq!(print, print_file(text), "{name}");
+    }
+}
+
+#[test]
+fn the_program_is_run_on_h1() {
+    assert_eq!(stored("crates/columns/stdin"), H1.as_bytes());
+    assert_eq!(stored("crates/columns/stdout"), print_file(H1.as_bytes()));
+}
