@@ -1,14 +1,13 @@
 //! The tables that are compared, and how a difference is told.
 
-use std::fmt::Write;
+use std::fmt::{Debug, Write};
 use std::process::ExitCode;
 
 use reference::generate::{self, Family};
 use reference::random::Random;
-use reference::{Refusal, Tables};
+use reference::Tables;
 
 use crate::damage::damage;
-use crate::Answer;
 
 /// The arguments of a comparing program.
 pub fn seed_and_count() -> Option<[u64; 2]> {
@@ -44,8 +43,8 @@ pub fn differ(
     file: &str,
     number: u64,
     tables: &Tables,
-    wanted: Result<(), Refusal>,
-    ours: Answer,
+    wanted: impl Debug,
+    ours: impl Debug,
 ) -> ExitCode {
     let mut text = String::new();
     let _ = writeln!(

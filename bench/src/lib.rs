@@ -119,3 +119,48 @@ pub fn check(tables: &Tables, rows: &mut [u64]) -> Answer {
     };
     answered(answer, words)
 }
+
+/// How many forms tables 1 to 4 have, or the refusal; or a number and words that
+/// no contract allows.
+pub type Configured = Result<Result<[usize; 4], Refusal>, (u64, [u64; 4])>;
+
+/// Configuring, by the C function, into tables 1 to 4.
+#[inline]
+pub fn configure(tables: &Tables, configuration: u64, lent: [&mut [u16]; 4]) -> Configured {
+    let [o1, o2, o3, o4] = lent;
+    let mut words = UNTOUCHED;
+    // The slices are lent for the call, and the lengths are theirs.
+    let answer = unsafe {
+        gelvomas::ffi::gelvomas_configure(
+            tables.features,
+            tables.attributes,
+            tables.model,
+            tables.expressions.as_ptr(),
+            tables.expressions.len(),
+            tables.entries.as_ptr(),
+            tables.entries.len(),
+            tables.relations.as_ptr(),
+            tables.relations.len(),
+            tables.comparisons.as_ptr(),
+            tables.comparisons.len(),
+            tables.queries.as_ptr(),
+            tables.queries.len(),
+            configuration,
+            o1.as_mut_ptr(),
+            o1.len(),
+            o2.as_mut_ptr(),
+            o2.len(),
+            o3.as_mut_ptr(),
+            o3.len(),
+            o4.as_mut_ptr(),
+            o4.len(),
+            &mut words,
+        )
+    };
+    let [number, place, item, configuration] = words;
+    match answer {
+        0 => Ok(Ok(words.map(|count| count as usize))),
+        1 => Ok(Err(Refusal::new(number, place, item, configuration))),
+        _ => Err((answer, words)),
+    }
+}

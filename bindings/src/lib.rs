@@ -1,5 +1,5 @@
-//! The proved column checker of harbour reports, as a safe function. See
-//! README.md, and ../include/gelvomas.h for C.
+//! The proved column checker of harbour reports, and configuring, as safe
+//! functions. See README.md, and ../include/gelvomas.h for C.
 
 /// Length of the column rows: 64 rows of 16 words.
 pub const ROWS: usize = 1024;
@@ -36,7 +36,44 @@ pub struct Refusal {
     pub configuration: u64,
 }
 
-/// The C function, as ../include/gelvomas.h has it.
+impl From<[u64; 4]> for Refusal {
+    fn from([number, place, item, configuration]: [u64; 4]) -> Refusal {
+        Refusal {
+            number,
+            place,
+            item,
+            configuration,
+        }
+    }
+}
+
+/// Tables 1 to 4 lent for writing. Each must have as many words as its source.
+#[derive(Debug, PartialEq, Eq)]
+pub struct Lent<'a> {
+    /// Table 1.
+    pub entries: &'a mut [u16],
+    /// Table 2.
+    pub relations: &'a mut [u16],
+    /// Table 3.
+    pub comparisons: &'a mut [u16],
+    /// Table 4.
+    pub queries: &'a mut [u16],
+}
+
+/// How many forms were written, by table; see [`Tables`] for the words of a form.
+#[derive(Clone, Copy, Debug, PartialEq, Eq, Hash)]
+pub struct Counts {
+    /// Table 1.
+    pub entries: u64,
+    /// Table 2.
+    pub relations: u64,
+    /// Table 3.
+    pub comparisons: u64,
+    /// Table 4.
+    pub queries: u64,
+}
+
+/// The C functions, as ../include/gelvomas.h has them.
 pub mod ffi {
     extern "C" {
         pub fn gelvomas_check(
@@ -56,6 +93,32 @@ pub mod ffi {
             rows: *mut u64,
             rows_length: usize,
             refusal: *mut [u64; 4],
+        ) -> u64;
+
+        pub fn gelvomas_configure(
+            features: u64,
+            attributes: u64,
+            model: u64,
+            t0: *const u16,
+            t0_length: usize,
+            t1: *const u16,
+            t1_length: usize,
+            t2: *const u16,
+            t2_length: usize,
+            t3: *const u16,
+            t3_length: usize,
+            t4: *const u16,
+            t4_length: usize,
+            configuration: u64,
+            o1: *mut u16,
+            o1_length: usize,
+            o2: *mut u16,
+            o2_length: usize,
+            o3: *mut u16,
+            o3_length: usize,
+            o4: *mut u16,
+            o4_length: usize,
+            answer: *mut [u64; 4],
         ) -> u64;
     }
 }
@@ -88,14 +151,57 @@ pub fn check(tables: &Tables, rows: &mut [u64]) -> Result<(), Refusal> {
             &mut refusal,
         )
     };
-    let [number, place, item, configuration] = refusal;
     match answer {
         0 => Ok(()),
-        _ => Err(Refusal {
-            number,
-            place,
-            item,
+        _ => Err(refusal.into()),
+    }
+}
+
+/// Writes the tables that the report of these tables becomes at a configuration.
+/// Each table is written from its first word on, and the words after it are not
+/// changed; the head and table 0, which are not written, are 0 features, as many
+/// attributes, model 0 and the one expression true (1 0 0). Refused, no word of
+/// `lent` is changed. A configuration that is not permitted, and a table lent with
+/// fewer words than its source has, are refused.
+pub fn configure(tables: &Tables, configuration: u64, lent: Lent) -> Result<Counts, Refusal> {
+    let mut words = [0; 4];
+    // The slices are lent for the call, and the lengths are theirs; the function
+    // asks nothing else.
+    let answer = unsafe {
+        ffi::gelvomas_configure(
+            tables.features,
+            tables.attributes,
+            tables.model,
+            tables.expressions.as_ptr(),
+            tables.expressions.len(),
+            tables.entries.as_ptr(),
+            tables.entries.len(),
+            tables.relations.as_ptr(),
+            tables.relations.len(),
+            tables.comparisons.as_ptr(),
+            tables.comparisons.len(),
+            tables.queries.as_ptr(),
+            tables.queries.len(),
             configuration,
+            lent.entries.as_mut_ptr(),
+            lent.entries.len(),
+            lent.relations.as_mut_ptr(),
+            lent.relations.len(),
+            lent.comparisons.as_mut_ptr(),
+            lent.comparisons.len(),
+            lent.queries.as_mut_ptr(),
+            lent.queries.len(),
+            &mut words,
+        )
+    };
+    let [entries, relations, comparisons, queries] = words;
+    match answer {
+        0 => Ok(Counts {
+            entries,
+            relations,
+            comparisons,
+            queries,
         }),
+        _ => Err(words.into()),
     }
 }

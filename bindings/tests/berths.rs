@@ -1,30 +1,13 @@
 //! H1 to H10 of document 01, "Berths to try", but for H3, which is as H2, and
-//! H4, which is configured; and the words lent.
+//! H4, which is configured (configuring.rs); and the words lent.
 
+mod common;
+
+use common::{refused, H1};
 use gelvomas::{check, Refusal, Tables, ROWS};
-
-const H1: Tables = Tables {
-    features: 2,
-    attributes: 3,
-    model: 0,
-    expressions: &[1, 0, 0, 2, 0, 0, 2, 1, 0],
-    entries: &[0, 0, 1, 0, 2, 2, 0, 0, 2, 2],
-    relations: &[0, 3],
-    comparisons: &[],
-    queries: &[1, 0, 0, 0, 3, 2, 0, 0],
-};
 
 /// What the words are before a call.
 const STALE: u64 = 0xABCD_EF01_2345_6789;
-
-fn refused(number: u64, place: u64, item: u64, configuration: u64) -> Refusal {
-    Refusal {
-        number,
-        place,
-        item,
-        configuration,
-    }
-}
 
 /// Refused so, with every word as it was.
 fn expect_refused(tables: &Tables, wanted: Refusal) {

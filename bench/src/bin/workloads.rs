@@ -1,6 +1,7 @@
 //! The time of the whole check at full size, ours and the reference's plain one,
 //! configuration by configuration, in one run and in a thread with a stack of
-//! 1 MiB; on three workloads also the reference's of all configurations at once.
+//! 1 MiB; on three workloads also the reference's of all configurations at once;
+//! and the time of configuring.
 
 use std::collections::BTreeMap;
 use std::hint::black_box;
@@ -124,7 +125,51 @@ fn run() -> ExitCode {
             time / times[0]
         );
     }
+
+    println!("(e) configuring at {MIDDLE}, ours and the reference's in turn:");
+    for (name, tables) in &workloads[..2] {
+        let Some([ours, theirs]) = configuring(tables) else {
+            println!("{name}: not written, or the words differ");
+            return ExitCode::FAILURE;
+        };
+        println!(
+            "{name:<26} {ours:>8.1} {theirs:>10.1} {:>7.3}",
+            ours / theirs
+        );
+    }
     ExitCode::SUCCESS
+}
+
+/// The configuration of (e): every other feature is on.
+const MIDDLE: u64 = 0b10_1010_1010;
+
+/// Medians in µs of configuring, ours and the reference's, into tables as long as
+/// their sources. None where the answers or the words differ, or it is refused.
+fn configuring(tables: &Tables) -> Option<[f64; 2]> {
+    let lent = [1, 2, 3, 4].map(|table| vec![7; tables.words(table).len()]);
+    let mut words = [lent.clone(), lent];
+    let mut times = [const { Vec::new() }; 2];
+    for _ in 0..TIMES {
+        let [mine, theirs] = words
+            .each_mut()
+            .map(|of| of.each_mut().map(Vec::as_mut_slice));
+        let tables = black_box(tables);
+        let start = Instant::now();
+        let ours = black_box(bench::configure(tables, MIDDLE, black_box(mine)));
+        times[0].push(start.elapsed().as_nanos() as f64 / 1000.0);
+        let start = Instant::now();
+        let wanted = black_box(reference::configure(tables, MIDDLE, black_box(theirs)));
+        times[1].push(start.elapsed().as_nanos() as f64 / 1000.0);
+        if wanted.is_err() || ours != Ok(wanted) || words[0] != words[1] {
+            return None;
+        }
+    }
+    Some(times.map(median))
+}
+
+fn median(mut times: Vec<f64>) -> f64 {
+    times.sort_unstable_by(f64::total_cmp);
+    times[times.len() / 2]
 }
 
 fn words(answer: Result<(), Refusal>) -> String {
@@ -170,10 +215,7 @@ fn in_turn<const N: usize>(count: usize, tables: [&Tables; N], checks: [Check; N
             times.push(start.elapsed().as_nanos() as f64 / 1000.0);
         }
     }
-    times.each_mut().map(|of| {
-        of.sort_unstable_by(f64::total_cmp);
-        of[of.len() / 2]
-    })
+    times.map(median)
 }
 
 /// 32 relations, each listing the same 16 attributes under 200 nots of feature

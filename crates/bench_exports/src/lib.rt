@@ -1,7 +1,7 @@
 // Parts of the checker as C functions, for tests and benchmarks alone.
 use conditions::fill_rows;
 use forms::check_forms;
-use gelvomas::RefusalWords;
+use gelvomas::AnswerWords;
 use report::Verdict;
 use table_checks::check_expressions;
 ghost use mathlib.Core.Path.{_≡_};
@@ -49,7 +49,7 @@ pub extern "C" fn gelvomas_bench_check_forms(
     t2: &[u16],
     t3: &[u16],
     t4: &[u16],
-    answer: &mut RefusalWords,
+    answer: &mut AnswerWords,
 ) -> u64
     ensures { λ r. ⌜ r ≡ answerNumber
         (formCheck (tablesOf features attributes model (now (t0 .entry)) (now (t1 .entry)) (now (t2 .entry)) (now (t3 .entry)) (now (t4 .entry)))) ⌝ }

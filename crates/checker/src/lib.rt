@@ -1,9 +1,13 @@
-// The entry point `check`.
+// The entry points: `check`, and in configuring.rt `configure`.
+mod configuring;
+
 use conditions::check_permitted;
 use conditions::check_schema;
 use conditions::fill_rows;
+pub use configuring::configure;
 use forms::check_forms;
 use forms::relations_end;
+use report::Refusal;
 use report::Verdict;
 use sets::Row;
 use table_checks::refuse;
@@ -14,6 +18,12 @@ ghost use lib.ListN.{length};
 ghost use Rattle.report.specs.Tables.{tablesOf};
 ghost use Rattle.report.specs.Checks.{Call, answer, rowsAfter};
 ghost use Rattle.checker.specs.Steps.{MeaningReads, Meant};
+
+// What configuring answers: how many forms tables 1 to 4 have, or the refusal.
+pub enum Configured {
+    Written(usize, usize, usize, usize),
+    Refused(Refusal),
+}
 
 // The larger of two numbers.
 fn larger(x: usize, y: usize) -> usize

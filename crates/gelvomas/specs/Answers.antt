@@ -1,8 +1,20 @@
 -- How an answer becomes numbers for C.
 use Prim.Native.Nat.{ℕ}
 use mathlib.Core.List.{List, [], _∷_}
+use lib.ListN.{length}
+use Rattle.report.specs.Tables.{Tables}
+use Rattle.report.specs.Configuring.{configured}
+use Rattle.report.specs.Checks.{Call, answer}
 use Rattle.report.specs.declared.Refusal.{Refusal}
 use Rattle.report.specs.declared.Verdict.{Verdict}
+use Rattle.checker.specs.Calls.{configuredAnswer}
+use Rattle.checker.specs.declared.Configured.{Configured}
+
+-- number, place, item and configuration
+abbrev pub refusalWords : Refusal → List ℕ
+refusalWords r = r .number ∷ r .place ∷ r .item ∷ r .configuration ∷ []
+
+-- ---- checking
 
 -- the number that is returned
 abbrev pub answerNumber : Verdict → ℕ
@@ -12,4 +24,21 @@ answerNumber (Verdict.Refused r) = 1
 -- the four lent words afterwards: those of a refusal, or unchanged
 abbrev pub answerWords : Verdict → List ℕ → List ℕ
 answerWords Verdict.Accepted lent = lent
-answerWords (Verdict.Refused r) lent = r .number ∷ r .place ∷ r .item ∷ r .configuration ∷ []
+answerWords (Verdict.Refused r) lent = refusalWords r
+
+-- ---- configuring
+
+-- what configuring T at c answers, with these tables 1 to 4 lent for writing
+abbrev pub configureAnswer : Tables → ℕ → List ℕ → List ℕ → List ℕ → List ℕ → Configured
+configureAnswer T c o1 o2 o3 o4 =
+    configuredAnswer (answer T (Call.configure c (length o1) (length o2) (length o3) (length o4))) (configured T c)
+
+-- the number that is returned
+abbrev pub configuredNumber : Configured → ℕ
+configuredNumber (Configured.Written entries relations comparisons queries) = 0
+configuredNumber (Configured.Refused r) = 1
+
+-- the four lent words afterwards: how many forms tables 1 to 4 have, or those of a refusal
+abbrev pub configuredWords : Configured → List ℕ
+configuredWords (Configured.Written entries relations comparisons queries) = entries ∷ relations ∷ comparisons ∷ queries ∷ []
+configuredWords (Configured.Refused r) = refusalWords r

@@ -1,17 +1,16 @@
 -- What the column rows show at one configuration, found from the highest attribute down; and the lines that follow from it.
-use Prim.Native.Nat.{ℕ, zero, suc, _+_, _-_, _*_, _/_, _%_, _^_, _≤_, _<_}
+use Prim.Native.Nat.{ℕ, suc, _+_, _-_, _*_, _/_, _%_, _^_, _≤_, _<_}
 use mathlib.Core.Path.{_≡_, refl, sym, ap, ap₂, _∙_}
 use mathlib.Core.Bool.{Bool, true, false, cond}
 use mathlib.Core.List.{List, [], _++_}
 use native.Mathlib.Nat.{mod-lt}
 use native.Mathlib.Omega.{arith}
-use lib.Dec.{eqb}
 use lib.ListN.{getD}
 use lib.Pow.{pow-mono}
 use Rattle.sets.specs.Lists.{concat}
 use Rattle.sets.specs.Bits.{bit, digit, bitsOf}
 use Rattle.sets.specs.Rows.{rowBit, rowIn}
-use Rattle.sets.proofs.BitLaws.{bitsOf-lt, bitsOf-same}
+use Rattle.sets.proofs.BitLaws.{digit-eqb, bitsOf-lt, bitsOf-same}
 use Rattle.sets.proofs.ListLaws.{table-at}
 use Rattle.report.specs.ColumnRows.{shown}
 use Rattle.report.specs.Text.{bytes, line}
@@ -23,12 +22,6 @@ use Rattle.printing.specs.Lines.{configurationLine, configurationText, a
 pub record Showing (rows : List ℕ) (c bits a : ℕ) : Type 0 where
   pub most : a ≤ 64
   pub has : bits ≡ bitsOf (64 - a) (λ j. rowBit (rowIn 16 rows (a + j)) c)
-
--- a digit is 1 or 0
-digit-eqb : (x : ℕ) → x < 2 → digit (eqb x 1) ≡ x
-digit-eqb zero h = refl
-digit-eqb (suc zero) h = refl
-digit-eqb (suc (suc x)) h = omega arith
 
 module _ (rows : List ℕ) (c : ℕ) where
   -- the bit of row a for c, as it is read

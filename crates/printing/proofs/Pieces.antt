@@ -1,40 +1,14 @@
--- Texts written byte by byte, and the pieces that decimals are written in.
+-- The pieces that decimals are written in.
 use Prim.Native.Nat.{ℕ, _+_, _/_, _%_, _≤_, _<_}
-use mathlib.Core.Path.{_≡_, refl, ap, _∙_}
+use mathlib.Core.Path.{ap}
 use mathlib.Core.List.{List, [], _∷_, _++_}
-use native.Mathlib.Numerals.{add-one}
 use native.Mathlib.Nat.{div-add-mod'}
 use native.Mathlib.Omega.{arith}
-use lib.ListN.{length, set, take, getD, length-set}
-use lib.Seq.{take-suc, take-all}
+use lib.ListN.{length, set}
 use Rattle.sets.specs.Writing.{Room, Written}
 use Rattle.sets.proofs.WritingLaws.{and-then, room-next, one-written}
 use Rattle.report.specs.Text.{decimal}
 use Rattle.report.proofs.TextLaws.{decimal-small, decimal-step}
-
--- ---- a text byte by byte: its first i bytes stand from `at` on
-
-pub record Copied (text first out : List ℕ) (at i : ℕ) : Type 0 where
-  pub within : i ≤ length text
-  pub written : Written (take i text) first at out (at + i)
-  pub long : length out ≡ length first
-
-module _ (text first : List ℕ) (at : ℕ) where
-  pub copied-none : Copied text first first at 0
-  copied-none = record { within = omega arith; written = record { place = refl; stored = refl }; long = refl }
-
-  pub copied-more : (out : List ℕ) (i : ℕ) → Copied text first out at i → i < length text
-      → Copied text first (set out (at + i) (getD text i 0)) at (i + 1)
-  copied-more out i r h =
-      let e : at + i + 1 ≡ at + (i + 1) = omega arith in
-      record {
-        within = omega arith;
-        written = rw (add-one i, take-suc text i 0 h) (rw (← add-one i, ← e) (and-then (r .written) (one-written out (at + i) (getD text i 0))));
-        long = length-set out (at + i) (getD text i 0) ∙ r .long;
-      }
-
-  pub copied-all : (out : List ℕ) (i : ℕ) → Copied text first out at i → length text ≤ i → Written text first at out (at + i)
-  copied-all out i r h = rw (take-all i text h) at (r .written)
 
 -- ---- decimals
 

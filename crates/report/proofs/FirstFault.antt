@@ -153,7 +153,7 @@ module _ (T : Tables) (narrow : (c q : ℕ) → q < queryCount T → faults T c 
 
 -- ---- the answers of both calls
 
-first-room : (T : Tables) (r1 r2 r3 r4 : ℕ)
+pub first-room : (T : Tables) (r1 r2 r3 r4 : ℕ)
     → roomCheck T (0 ∷ r1 ∷ r2 ∷ r3 ∷ r4 ∷ [])
     ≡ orElse (refuseIf (ltb r1 (length (T .entries))) (refusal 21 1 0 0))
     (orElse (refuseIf (ltb r2 (length (T .relations))) (refusal 21 2 0 0))

@@ -29,7 +29,7 @@ eqb-digit : (b : Bool) → eqb (digit b) 1 ≡ b
 eqb-digit true = refl
 eqb-digit false = refl
 
-digit-eqb : (x : ℕ) → x < 2 → digit (eqb x 1) ≡ x
+pub digit-eqb : (x : ℕ) → x < 2 → digit (eqb x 1) ≡ x
 digit-eqb zero h = refl
 digit-eqb (suc zero) h = refl
 digit-eqb (suc (suc x)) h = omega arith

@@ -5,8 +5,8 @@ use mathlib.Core.Bool.{Bool, true, false, cond}
 use mathlib.Core.List.{List, [], _∷_, _++_}
 use native.Mathlib.Numerals.{add-one}
 use native.Mathlib.Omega.{arith}
-use lib.ListN.{length, set, drop, length-append}
-use lib.Seq.{sets, length-sets, sets-eq}
+use lib.ListN.{length, set, getD, take, drop, length-append, length-set}
+use lib.Seq.{sets, length-sets, sets-eq, take-suc, take-all}
 use Rattle.sets.specs.Lists.{concat}
 use Rattle.sets.specs.Writing.{Room, Written}
 use Rattle.sets.proofs.ListLaws.{concat-grows}
@@ -105,3 +105,28 @@ module _ {f : ℕ → List ℕ} {n : ℕ} {first : List ℕ} {at : ℕ} where
 
     pub writing-all : n ≤ k → Written (concat n f) first at out p
     writing-all h = let e : k ≡ n = omega (arith, w .within) in rw (← e) (w .written)
+
+-- ---- a loop that copies a text, one number a turn
+
+-- its first i numbers stand from `at` on
+pub record Copied (text first : List ℕ) (at : ℕ) (out : List ℕ) (i : ℕ) : Type 0 where
+  pub within : i ≤ length text
+  pub written : Written (take i text) first at out (at + i)
+  pub long : length out ≡ length first
+
+module _ {text first : List ℕ} {at : ℕ} where
+  pub copied-none : Copied text first at first 0
+  copied-none = record { within = omega arith; written = record { place = refl; stored = refl }; long = refl }
+
+  module _ {out : List ℕ} {i : ℕ} (r : Copied text first at out i) where
+    pub copied-more : i < length text → Copied text first at (set out (at + i) (getD text i 0)) (i + 1)
+    copied-more h =
+        let e : at + i + 1 ≡ at + (i + 1) = omega arith in
+        record {
+          within = omega arith;
+          written = rw (add-one i, take-suc text i 0 h) (rw (← add-one i, ← e) (and-then (r .written) (one-written out (at + i) (getD text i 0))));
+          long = length-set out (at + i) (getD text i 0) ∙ r .long;
+        }
+
+    pub copied-all : length text ≤ i → Written text first at out (at + i)
+    copied-all h = rw (take-all i text h) at (r .written)

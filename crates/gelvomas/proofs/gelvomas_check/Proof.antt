@@ -10,7 +10,7 @@ returns c =
     let called = k .before .before .before .before in
     let s = called .before .before .before .before .before .before .before .before in
     let a = answered (s .args .refusal .now) (sym (k .v .given .1) ∙ called .check .ensures .0) in
-    (a .0, (a .1, called .check .ensures .1))
+    (a .0, (c .refusal-words .ensures ∙ a .1, called .check .ensures .1))
 
 returns-2 : tie.Need-returns-2
 returns-2 c =
@@ -25,6 +25,7 @@ gelvomas-check-spec =
     (tie.spec
     (λ c κs. search needs)
     (λ c. search needs)
+    (λ c κs. search needs)
     (λ c. search needs)
     returns
     (λ c. search needs)

@@ -1,46 +1,16 @@
 -- After i turns the first i bytes stand in their places.
 use Prim.Native.Nat.{_-_}
 use lib.ListN.{length}
-use Rattle.printing.proofs.Pieces.{Copied, copied-none, copied-more, copied-all}
 use borrow.Author.Needs.{needs}
+use Rattle.sets.proofs.WritingLaws.{Copied, copied-none, copied-more, copied-all}
 use Rattle.printing.proofs.put_bytes.Statement.{statement}
 use Rattle.printing.proofs.put_bytes.Tie as tie
 
 abbrev Inv-loop : tie.InvT-loop
-Inv-loop out₀ at text i₀ out i = Copied text out₀ out at i
+Inv-loop out₀ at text i₀ out i = Copied text out₀ at out i
 
 abbrev μ-loop : tie.MeasureT-loop
 μ-loop out₀ at text i₀ out i = length text - i
-
-loop-holds : tie.Need-loop-holds Inv-loop μ-loop
-loop-holds c = copied-none _ _ _
-
-shared-slice-read-out : tie.Need-shared-slice-read-out Inv-loop μ-loop
-shared-slice-read-out c = search needs
-
-add-out : tie.Need-add-out Inv-loop μ-loop
-add-out c = search needs
-
-slice-write-out : tie.Need-slice-write-out Inv-loop μ-loop
-slice-write-out c = search needs
-
-add-i : tie.Need-add-i Inv-loop μ-loop
-add-i c = search needs
-
-loop-less : tie.Need-loop-less Inv-loop μ-loop
-loop-less c = search needs
-
-loop-again : tie.Need-loop-again Inv-loop μ-loop
-loop-again c = copied-more _ _ _ _ _ (c .before .before .loop .inv) (c .before .loop-test .taken)
-
-add-result : tie.Need-add-result Inv-loop μ-loop
-add-result c = search needs
-
-same-length : tie.Need-same-length Inv-loop μ-loop
-same-length c = c .before .loop .inv .long
-
-returns : tie.Need-returns Inv-loop μ-loop
-returns c = copied-all _ _ _ _ _ (c .before .loop .inv) (c .loop-test .left)
 
 pub put-bytes-spec : {M : Type 1} → statement M
 put-bytes-spec =
@@ -48,13 +18,13 @@ put-bytes-spec =
     (tie.spec
     Inv-loop
     μ-loop
-    loop-holds
-    shared-slice-read-out
-    add-out
-    slice-write-out
-    add-i
-    loop-less
-    loop-again
-    add-result
-    same-length
-    returns)
+    (λ c. copied-none)
+    (λ c. search needs)
+    (λ c. search needs)
+    (λ c. search needs)
+    (λ c. search needs)
+    (λ c. search needs)
+    (λ c. copied-more (c .before .before .loop .inv) (c .before .loop-test .taken))
+    (λ c. search needs)
+    (λ c. c .before .loop .inv .long)
+    (λ c. copied-all (c .before .loop .inv) (c .loop-test .left)))

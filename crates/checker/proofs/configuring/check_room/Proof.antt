@@ -1,0 +1,29 @@
+use borrow.Author.Needs.{needs}
+use Rattle.checker.proofs.ConfigureLaws.{room-answers}
+use Rattle.checker.proofs.configuring.check_room.Statement.{statement}
+use Rattle.checker.proofs.configuring.check_room.Tie as tie
+
+returns : tie.Need-returns
+returns c T R =
+    let y = c .before in
+    let x = y .before in
+    let d = x .before in
+    let third = d .before in
+    let b = third .before in
+    let a = b .before in
+    let r = a .before .before .before .before .before .args in
+    room-answers R (r .r1) (r .r2) (r .r3) (r .r4) (a .refuse-if .ensures) (b .refuse-if2 .ensures) (third .refuse-if3 .ensures)
+    (d .refuse-if4 .ensures) (x .or-else .ensures) (y .or-else2 .ensures) (c .or-else3 .ensures)
+
+pub check-room-spec : {M : Type 1} → statement M
+check-room-spec =
+    tie.close
+    (tie.spec
+    (λ c κs. search needs)
+    (λ c κs. search needs)
+    (λ c κs. search needs)
+    (λ c κs. search needs)
+    (λ c κs. search needs)
+    (λ c κs. search needs)
+    (λ c κs. search needs)
+    returns)

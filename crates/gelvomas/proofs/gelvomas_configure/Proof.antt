@@ -1,0 +1,50 @@
+use borrow.Author.Needs.{needs}
+use mathlib.Core.Path.{_∙_}
+use Rattle.report.specs.Tables.{Tables, tablesOf}
+use Rattle.gelvomas.proofs.Laws.{configure-answered}
+use Rattle.gelvomas.proofs.gelvomas_configure.Statement.{statement}
+use Rattle.gelvomas.proofs.gelvomas_configure.Tie as tie
+
+-- from where the report is configured, back to the start
+abbrev start : tie.After-configure → tie.Start
+start k = k .before .before .before .before .before .before .before .before .before .before .before .before .before .before
+
+abbrev tables : tie.After-configure → Tables
+tables k =
+    let a = start k .args in
+    tablesOf (a .features) (a .attributes) (a .model) (a .t0 .now) (a .t1 .now) (a .t2 .now) (a .t3 .now) (a .t4 .now)
+
+returns : tie.Need-returns
+returns c =
+    let m = c .before .before in
+    let k = m .before .before .before .before .before .before .before .before .before .before in
+    let a = start k .args in
+    configure-answered (tables k) (a .c) (a .o1 .now) (a .o2 .now) (a .o3 .now) (a .o4 .now) (rw (m .made .given .1) at (k .configure .ensures))
+
+returns-2 : tie.Need-returns-2
+returns-2 c =
+    let m = c .before .before in
+    let k = m .before .before .before .before .before .before .before .before .before .before in
+    let a = start k .args in
+    let left = rw (m .made2 .given .1) at (k .configure .ensures) in
+    let e = configure-answered (tables k) (a .c) (a .o1 .now) (a .o2 .now) (a .o3 .now) (a .o4 .now) left in
+    (e .0, (c .refusal-words .ensures ∙ e .1 .0, e .1 .1))
+
+pub gelvomas-configure-spec : {M : Type 1} → statement M
+gelvomas-configure-spec =
+    tie.close
+    (tie.spec
+    (λ c κs. search needs)
+    (λ c. search needs)
+    (λ c. search needs)
+    (λ c κs. search needs)
+    (λ c. search needs)
+    (λ c. search needs)
+    (λ c. search needs)
+    (λ c. search needs)
+    returns
+    (λ c. search needs)
+    (λ c. search needs)
+    (λ c. search needs)
+    (λ c. search needs)
+    returns-2)

@@ -1,0 +1,128 @@
+use native.Mathlib.Omega.{arith}
+use borrow.Author.Needs.{needs}
+use Rattle.sets.proofs.WritingLaws.{none-written}
+use Rattle.kept_forms.proofs.QueryLaws.{relation-reads, project-reads, some-relation, some-project, same-second}
+use Rattle.kept_forms.proofs.write_query.Statement.{statement}
+use Rattle.kept_forms.proofs.write_query.Tie as tie
+
+put-query-requires : tie.Need-put-query-requires
+put-query-requires c κs =
+    rw (c .before .enum-told2 .given .1) at (c .before .before .before .before .before .before .before .before .before .pre .room)
+
+relation-word-requires : tie.Need-relation-word-requires
+relation-word-requires c κs =
+    let k = c .before .before in
+    some-relation (k .before .before .before .before .before .before .before .before .pre) (k .x .given .1)
+
+put-query-requires-2 : tie.Need-put-query-requires-2
+put-query-requires-2 c κs =
+    let k = c .before .before .before in
+    record { fits = (rw (k .x .given .1) at (k .before .before .before .before .before .before .before .before .pre .room)) .fits }
+
+mul-put-over : tie.Need-mul-put-over
+mul-put-over c =
+    let k = c .before .before in
+    let A = k .before .before .before .before .before .before .before .before .pre in
+    let l = rw (k .x2 .given .1) at (A .stands .stands .lower) in
+    omega arith
+
+shared-slice-read-put-over : tie.Need-shared-slice-read-put-over
+shared-slice-read-put-over c =
+    let k = c .before .before .before in
+    let A = k .before .before .before .before .before .before .before .before .pre in
+    let l = rw (k .x2 .given .1) at (A .stands .stands .lower) in
+    omega arith
+
+put-over-requires : tie.Need-put-over-requires
+put-over-requires c κs =
+    let k = c .before .before .before in
+    let A = k .before .before .before .before .before .before .before .before .pre in
+    let l = rw (k .x2 .given .1) at (A .stands .stands .lower) in
+    record { second = omega arith; room = rw (k .x2 .given .1) at (A .room) }
+
+length-word-requires : tie.Need-length-word-requires
+length-word-requires c κs =
+    let k = c .before in
+    some-project (k .before .before .before .before .before .before .before .before .pre) (k .x3 .given .1)
+
+put-over-requires-2 : tie.Need-put-over-requires-2
+put-over-requires-2 c κs =
+    let k = c .before .before .before in
+    let A = k .before .before .before .before .before .before .before .before .pre in
+    let l = rw (k .x3 .given .1) at (A .stands .stands .lower) in
+    record { second = omega arith; room = record { fits = (rw (k .x3 .given .1) at (A .room)) .fits } }
+
+put-pair-requires : tie.Need-put-pair-requires
+put-pair-requires c κs =
+    let k = c .before .before in
+    let A = k .before .before .before .before .before .before .before .before .pre in
+    let l = rw (k .x4 .given .1) at (A .stands .stands .lower) in
+    record { first = omega arith; second = omega arith; room = rw (k .x4 .given .1) at (A .room) }
+
+put-pair-requires-2 : tie.Need-put-pair-requires-2
+put-pair-requires-2 c κs =
+    let k = c .before .before in
+    let A = k .before .before .before .before .before .before .before .before .pre in
+    let l = rw (k .x5 .given .1) at (A .stands .stands .lower) in
+    record { first = omega arith; second = omega arith; room = rw (k .x5 .given .1) at (A .room) }
+
+put-pair-requires-3 : tie.Need-put-pair-requires-3
+put-pair-requires-3 c κs =
+    let k = c .before .before in
+    let A = k .before .before .before .before .before .before .before .before .pre in
+    let l = rw (k .x6 .given .1) at (A .stands .stands .lower) in
+    record { first = omega arith; second = omega arith; room = rw (k .x6 .given .1) at (A .room) }
+
+returns-3 : tie.Need-returns-3
+returns-3 c = λ T q A.
+    let put = c .before .before in
+    let r = put .before in
+    rw (r .before .before .before .x .given .1) (same-second (r .relation-word .ensures T (relation-reads A)) (put .put-query2 .ensures))
+
+returns-5 : tie.Need-returns-5
+returns-5 c = λ T q A.
+    let put = c .before .before in
+    let n = put .before .before in
+    let e = n .before .before .x3 .given .1 in
+    rw e (same-second (n .length-word .ensures T (project-reads A e)) (put .put-over2 .ensures))
+
+pub write-query-spec : {M : Type 1} → statement M
+write-query-spec =
+    tie.close
+    (tie.spec
+    (λ c. search needs)
+    (λ c. search needs)
+    put-query-requires
+    (λ c. search needs)
+    relation-word-requires
+    put-query-requires-2
+    (λ c. search needs)
+    mul-put-over
+    shared-slice-read-put-over
+    put-over-requires
+    (λ c. search needs)
+    length-word-requires
+    put-over-requires-2
+    (λ c. search needs)
+    (λ c. search needs)
+    put-pair-requires
+    (λ c. search needs)
+    put-pair-requires-2
+    (λ c. search needs)
+    put-pair-requires-3
+    (λ c. λ T q A. rw (c .enum-told .given .1) (none-written _ _))
+    (λ c. search needs)
+    (λ c. λ T q A. rw (c .before .before .before .before .enum-told2 .given .1) (c .before .before .put-query .ensures))
+    (λ c. search needs)
+    returns-3
+    (λ c. search needs)
+    (λ c. λ T q A. rw (c .before .before .before .before .before .before .x2 .given .1) (c .before .before .put-over .ensures))
+    (λ c. search needs)
+    returns-5
+    (λ c. λ T q A. rw (c .enum-told3 .given .1) (none-written _ _))
+    (λ c. search needs)
+    (λ c. λ T q A. rw (c .before .before .before .before .before .x4 .given .1) (c .before .before .put-pair .ensures))
+    (λ c. search needs)
+    (λ c. λ T q A. rw (c .before .before .before .before .before .x5 .given .1) (c .before .before .put-pair2 .ensures))
+    (λ c. search needs)
+    (λ c. λ T q A. rw (c .before .before .before .before .before .x6 .given .1) (c .before .before .put-pair3 .ensures)))

@@ -1,0 +1,367 @@
+// What configuring keeps of comparisons and queries at one configuration, with their new numbers, written into lent tables.
+use decoders::comparison_at;
+use decoders::project_length;
+use decoders::query_at;
+use kept_lists::kept_length;
+use kept_lists::new_relation;
+use kept_lists::row_has;
+use report::Comparison;
+use report::Query;
+ghost use mathlib.Core.Path.{_≡_};
+ghost use mathlib.Core.Bool.{true, _&&_, cond, not};
+ghost use mathlib.Core.List.{[], _∷_};
+ghost use Prim.Native.Nat.{ℕ};
+ghost use lib.ListN.{getD};
+ghost use Rattle.sets.specs.Lists.{table};
+ghost use Rattle.sets.specs.Rows.{rowBit, rowIn};
+ghost use Rattle.sets.specs.Writing.{Room, Written};
+ghost use Rattle.report.specs.Tables.{Tables, comparisonCount, queryCount};
+ghost use Rattle.report.specs.Configuring.{comparisonTargetOf, queryTargetOf, isComparisonChoice, isQueryChoice};
+ghost use Rattle.report.specs.Configuring.{newRelation, keptLength, newComparison, newQuery, written};
+ghost use Rattle.kept_lists.specs.Keeping.{ListReads, ListReadable, PresentReads, PresentReadable};
+ghost use Rattle.kept_forms.specs.Numbering.{comparisonForms, ComparisonReads, ComparisonNumberable, QueryReads, QueryNumberable};
+ghost use Rattle.kept_forms.specs.Numbering.{ComparisonFormReads, ComparisonFormWritable};
+ghost use Rattle.kept_forms.specs.Numbering.{queryForms, FormReads, FormWritable};
+ghost use Rattle.kept_forms.specs.FormWords.{AtomWritable, BothWritable, ComparisonWritable};
+ghost use Rattle.kept_forms.specs.FormWords.{OverWritable, PairWritable, queryWords, FormAt, SomeForm};
+ghost use Rattle.kept_forms.specs.FormWords.{TakenRead, ComparisonAt, SomeComparison, QueryAt, SomeQuery, comparisonWords};
+
+// Where expression e holds at c number b of the list, elsewhere number d.
+fn number_taken(conditions: &[u64], c: usize, numbers: &[u16], e: usize, b: usize, d: usize) -> u16
+    requires { ⌜ TakenRead (now conditions) c (now numbers) e b d ⌝ }
+    ensures { λ r. ⌜ r ≡ getD (now (numbers .entry)) (cond (rowBit (rowIn 16 (now (conditions .entry)) e) c) b d) 0 ⌝ }
+{
+    if row_has(conditions, e, c) {
+        return numbers[b];
+    }
+    numbers[d]
+}
+
+// The new number of what comparison x leads to at c, where `kept` comparisons below it are kept and `numbers` has those of lower ones.
+fn comparison_number(
+    x: Comparison,
+    conditions: &[u64],
+    c: usize,
+    numbers: &[u16],
+    kept: usize,
+) -> u16
+    requires { ⌜ SomeComparison (now conditions) c (now numbers) kept x ⌝ }
+    ensures { λ r.
+        ⌜ ((T : Tables) (f : ℕ) → ComparisonAt T f (now (conditions .entry)) c x
+        → r ≡ comparisonTargetOf T c (λ k. getD (now (numbers .entry)) k 0) kept x) ⌝ }
+{
+    let own = kept as u16;
+    if let Comparison::Choice(e, b, d) = x {
+        let comparison = number_taken(conditions, c, numbers, e, b, d);
+        return comparison;
+    }
+    own
+}
+
+// How many comparisons are kept of one: of a choice none.
+fn comparison_kept(x: Comparison) -> usize
+    ensures { λ r. ⌜ ((T : Tables) (c : ℕ) → r ≡ cond (not (isComparisonChoice T c x)) 1 0) ⌝ }
+{
+    if let Comparison::Choice(_, _, _) = x {
+        0
+    } else {
+        1
+    }
+}
+
+// The new number of what each comparison leads to at c, into `numbers`: a choice has that of the alternative it takes.
+pub fn number_comparisons(t3: &[u16], conditions: &[u64], c: usize, numbers: &mut [u16])
+    requires { ⌜ ComparisonNumberable (now conditions) (now t3) c (now numbers) ⌝ }
+    ensures { λ _.
+        ⌜ ((T : Tables) → ComparisonReads T (now (conditions .entry)) (now (t3 .entry)) c
+        → now (numbers .exit) ≡ written (table (comparisonCount T) (newComparison T c)) (now (numbers .entry))) ⌝ }
+{
+    let count = t3.len() / 5;
+    let mut kept = 0;
+    let mut f = 0;
+    while f < count {
+        let x = comparison_at(t3, f);
+        let n = comparison_number(x, conditions, c, &*numbers, kept);
+        numbers[f] = n;
+        kept += comparison_kept(x);
+        f += 1;
+    }
+}
+
+// The new number of what query form x leads to at c, where `kept` forms below it are kept and `numbers` has those of lower ones.
+fn query_number(x: Query, conditions: &[u64], c: usize, numbers: &[u16], kept: usize) -> u16
+    requires { ⌜ SomeQuery (now conditions) c (now numbers) kept x ⌝ }
+    ensures { λ r.
+        ⌜ ((T : Tables) (q : ℕ) → QueryAt T q (now (conditions .entry)) c x
+        → r ≡ queryTargetOf T c (λ k. getD (now (numbers .entry)) k 0) kept x) ⌝ }
+{
+    let own = kept as u16;
+    if let Query::Choice(e, b, d) = x {
+        let query = number_taken(conditions, c, numbers, e, b, d);
+        return query;
+    }
+    own
+}
+
+// How many query forms are kept of one: of a choice, or of one that c does not reach, none.
+fn query_kept(x: Query, reached: bool) -> usize
+    ensures { λ r. ⌜ ((T : Tables) (c : ℕ) → r ≡ cond (reached && not (isQueryChoice T c x)) 1 0) ⌝ }
+{
+    if let Query::Choice(_, _, _) = x {
+        return 0;
+    }
+    if reached { 1 } else { 0 }
+}
+
+// The new number of what each query form leads to at c, into `numbers`: a choice has that of the alternative it takes.
+pub fn number_queries(t4: &[u16], conditions: &[u64], reach: &[u64], c: usize, numbers: &mut [u16])
+    requires { ⌜ QueryNumberable (now conditions) (now reach) (now t4) c (now numbers) ⌝ }
+    ensures { λ _.
+        ⌜ ((T : Tables) → QueryReads T (now (conditions .entry)) (now (reach .entry)) (now (t4 .entry)) c
+        → now (numbers .exit) ≡ written (table (queryCount T) (newQuery T c)) (now (numbers .entry))) ⌝ }
+{
+    let count = t4.len() / 4;
+    let mut kept = 0;
+    let mut q = 0;
+    while q < count {
+        let x = query_at(t4, q);
+        let n = query_number(x, conditions, c, &*numbers, kept);
+        numbers[q] = n;
+        kept += query_kept(x, row_has(reach, q, c));
+        q += 1;
+    }
+}
+
+// Writes words.
+fn put_words(out: &mut [u16], at: usize, words: &[u16]) -> usize
+    requires { ⌜ Room (now words) (now out) at ⌝ }
+    ensures { λ r. ⌜ Written (now (words .entry)) (now (out .entry)) at (now (out .exit)) r ⌝ }
+{
+    let mut i = 0;
+    while i < words.len() {
+        out[at + i] = words[i];
+        i += 1;
+    }
+    at + i
+}
+
+// Writes a comparison of the kind, with its operator and two more words.
+fn put_comparison(out: &mut [u16], at: usize, kind: u16, o: u16, a: u16, b: u16) -> usize
+    requires { ⌜ Room (kind ∷ o ∷ a ∷ b ∷ 0 ∷ []) (now out) at ⌝ }
+    ensures { λ r. ⌜ Written (kind ∷ o ∷ a ∷ b ∷ 0 ∷ []) (now (out .entry)) at (now (out .exit)) r ⌝ }
+{
+    put_words(out, at, &[kind, o, a, b, 0])
+}
+
+// Writes a comparison of an attribute with a constant or an attribute.
+fn put_atom(out: &mut [u16], at: usize, kind: u16, o: usize, a: usize, b: usize) -> usize
+    requires { ⌜ AtomWritable kind o a b (now out) at ⌝ }
+    ensures { λ r. ⌜ Written (kind ∷ o ∷ a ∷ b ∷ 0 ∷ []) (now (out .entry)) at (now (out .exit)) r ⌝ }
+{
+    put_comparison(out, at, kind, o as u16, a as u16, b as u16)
+}
+
+// Writes a comparison of two lower ones, with their new numbers.
+fn put_both(out: &mut [u16], at: usize, kind: u16, numbers: &[u16], a: usize, b: usize) -> usize
+    requires { ⌜ BothWritable (now numbers) kind a b (now out) at ⌝ }
+    ensures { λ r.
+        ⌜ Written (kind ∷ 0 ∷ getD (now (numbers .entry)) a 0 ∷ getD (now (numbers .entry)) b 0 ∷ 0 ∷ []) (now (out .entry)) at
+        (now (out .exit)) r ⌝ }
+{
+    put_comparison(out, at, kind, 0, numbers[a], numbers[b])
+}
+
+// Writes a comparison that is no choice, with the new numbers of its operands.
+fn write_comparison(x: Comparison, numbers: &[u16], out: &mut [u16], at: usize) -> usize
+    requires { ⌜ ComparisonWritable (now numbers) x (now out) at ⌝ }
+    ensures { λ r. ⌜ Written (comparisonWords (now (numbers .entry)) x) (now (out .entry)) at (now (out .exit)) r ⌝ }
+{
+    match x {
+        Comparison::Malformed => at,
+        Comparison::Never => put_comparison(out, at, 0, 0, 0, 0),
+        Comparison::Always => put_comparison(out, at, 1, 0, 0, 0),
+        Comparison::Constant(o, a, b) => put_atom(out, at, 2, o, a, b),
+        Comparison::Attribute(o, a, b) => put_atom(out, at, 3, o, a, b),
+        Comparison::Not(a) => put_comparison(out, at, 4, 0, numbers[a], 0),
+        Comparison::And(a, b) => put_both(out, at, 5, numbers, a, b),
+        Comparison::Or(a, b) => put_both(out, at, 6, numbers, a, b),
+        Comparison::Choice(_, _, _) => at,
+    }
+}
+
+// Writes every comparison that is no choice; `numbers` has the new numbers.
+pub fn write_comparisons(t3: &[u16], numbers: &[u16], out: &mut [u16]) -> usize
+    requires { ⌜ ComparisonFormWritable (now t3) (now numbers) (now out) ⌝ }
+    ensures { λ r.
+        ⌜ ((T : Tables) (c : ℕ) → ComparisonFormReads T c (now (t3 .entry)) (now (numbers .entry))
+        → Written (comparisonForms T c) (now (out .entry)) 0 (now (out .exit)) r) ⌝ }
+{
+    let count = t3.len() / 5;
+    let mut p = 0;
+    let mut f = 0;
+    while f < count {
+        let x = comparison_at(t3, f);
+        p = write_comparison(x, numbers, &mut *out, p);
+        f += 1;
+    }
+    p
+}
+
+// The new number of relation a, as a word.
+fn relation_word(t2: &[u16], conditions: &[u64], c: usize, a: usize) -> u16
+    requires { ⌜ PresentReadable (now conditions) (now t2) c a ⌝ }
+    ensures { λ r. ⌜ ((T : Tables) → PresentReads T (now (conditions .entry)) (now (t2 .entry)) c → r ≡ newRelation T c a) ⌝ }
+{
+    new_relation(t2, conditions, c, a) as u16
+}
+
+// How many of the `count` entries from `start` on hold at c, as a word.
+fn length_word(t1: &[u16], conditions: &[u64], c: usize, start: usize, count: usize) -> u16
+    requires { ⌜ ListReadable (now conditions) (now t1) c start count ⌝ }
+    ensures { λ r. ⌜ ((T : Tables) → ListReads T (now (conditions .entry)) (now (t1 .entry)) c start count → r ≡ keptLength T c start count) ⌝ }
+{
+    kept_length(t1, conditions, c, start, count) as u16
+}
+
+// Writes a query form of the kind, with two words.
+fn put_query(out: &mut [u16], at: usize, kind: u16, a: u16, b: u16) -> usize
+    requires { ⌜ Room (kind ∷ a ∷ b ∷ 0 ∷ []) (now out) at ⌝ }
+    ensures { λ r. ⌜ Written (kind ∷ a ∷ b ∷ 0 ∷ []) (now (out .entry)) at (now (out .exit)) r ⌝ }
+{
+    put_words(out, at, &[kind, a, b, 0])
+}
+
+// Writes a query form over a lower one, with its new number.
+fn put_over(out: &mut [u16], at: usize, kind: u16, a: u16, queries: &[u16], b: usize) -> usize
+    requires { ⌜ OverWritable (now queries) kind a b (now out) at ⌝ }
+    ensures { λ r. ⌜ Written (kind ∷ a ∷ getD (now (queries .entry)) b 0 ∷ 0 ∷ []) (now (out .entry)) at (now (out .exit)) r ⌝ }
+{
+    put_query(out, at, kind, a, queries[b])
+}
+
+// Writes a query form over two lower ones, with their new numbers.
+fn put_pair(out: &mut [u16], at: usize, kind: u16, queries: &[u16], a: usize, b: usize) -> usize
+    requires { ⌜ PairWritable (now queries) kind a b (now out) at ⌝ }
+    ensures { λ r.
+        ⌜ Written (kind ∷ getD (now (queries .entry)) a 0 ∷ getD (now (queries .entry)) b 0 ∷ 0 ∷ []) (now (out .entry)) at
+        (now (out .exit)) r ⌝ }
+{
+    put_over(out, at, kind, queries[a], queries, b)
+}
+
+// Writes a query form that is no choice, with the new numbers of what it refers to; a project's list starts at `start`.
+fn write_query(
+    x: Query,
+    t1: &[u16],
+    t2: &[u16],
+    conditions: &[u64],
+    c: usize,
+    start: usize,
+    comparisons: &[u16],
+    queries: &[u16],
+    out: &mut [u16],
+    at: usize,
+) -> usize
+    requires { ⌜ SomeForm true (now conditions) (now t1) (now t2) c start (now comparisons) (now queries) x (now out) at ⌝ }
+    ensures { λ r.
+        ⌜ ((T : Tables) (q : ℕ) → FormAt T q (now (conditions .entry)) (now (t1 .entry)) (now (t2 .entry)) c start x
+        → Written (queryWords T c start (now (comparisons .entry)) (now (queries .entry)) x) (now (out .entry)) at (now (out .exit)) r) ⌝ }
+{
+    match x {
+        Query::Malformed => at,
+        Query::Empty => put_query(out, at, 0, 0, 0),
+        Query::Relation(a) => put_query(out, at, 1, relation_word(t2, conditions, c, a), 0),
+        Query::Select(a, b) => put_over(out, at, 2, comparisons[a], queries, b),
+        Query::Project(n, b) => {
+            let kept = length_word(t1, conditions, c, start, n);
+            put_over(out, at, 3, kept, queries, b)
+        }
+        Query::Choice(_, _, _) => at,
+        Query::Product(a, b) => put_pair(out, at, 5, queries, a, b),
+        Query::Union(a, b) => put_pair(out, at, 6, queries, a, b),
+        Query::Intersection(a, b) => put_pair(out, at, 7, queries, a, b),
+    }
+}
+
+// Writes the same, if c reaches it.
+fn write_reached(
+    reached: bool,
+    x: Query,
+    t1: &[u16],
+    t2: &[u16],
+    conditions: &[u64],
+    c: usize,
+    start: usize,
+    comparisons: &[u16],
+    queries: &[u16],
+    out: &mut [u16],
+    at: usize,
+) -> usize
+    requires { ⌜ SomeForm reached (now conditions) (now t1) (now t2) c start (now comparisons) (now queries) x (now out) at ⌝ }
+    ensures { λ r.
+        ⌜ ((T : Tables) (q : ℕ) → FormAt T q (now (conditions .entry)) (now (t1 .entry)) (now (t2 .entry)) c start x
+        → Written (cond reached (queryWords T c start (now (comparisons .entry)) (now (queries .entry)) x) []) (now (out .entry)) at
+        (now (out .exit)) r) ⌝ }
+{
+    if reached {
+        return write_query(
+            x,
+            t1,
+            t2,
+            conditions,
+            c,
+            start,
+            comparisons,
+            queries,
+            out,
+            at,
+        );
+    }
+    at
+}
+
+// Writes the query forms that are no choice and that c reaches; the lists of project forms lie from `first` on.
+pub fn write_queries(
+    t1: &[u16],
+    t2: &[u16],
+    t4: &[u16],
+    conditions: &[u64],
+    reach: &[u64],
+    c: usize,
+    first: usize,
+    comparisons: &[u16],
+    queries: &[u16],
+    out: &mut [u16],
+) -> usize
+    requires { ⌜ FormWritable (now conditions) (now reach) (now t1) (now t2) (now t4) first c (now comparisons) (now queries) (now out) ⌝ }
+    ensures { λ r.
+        ⌜ ((T : Tables)
+        → FormReads T (now (conditions .entry)) (now (reach .entry)) (now (t1 .entry)) (now (t2 .entry)) (now (t4 .entry)) first c
+        (now (comparisons .entry)) (now (queries .entry))
+        → Written (queryForms T c) (now (out .entry)) 0 (now (out .exit)) r) ⌝ }
+{
+    let count = t4.len() / 4;
+    let mut start = first;
+    let mut p = 0;
+    let mut q = 0;
+    while q < count {
+        let x = query_at(t4, q);
+        let reached = row_has(reach, q, c);
+        p = write_reached(
+            reached,
+            x,
+            t1,
+            t2,
+            conditions,
+            c,
+            start,
+            comparisons,
+            queries,
+            &mut *out,
+            p,
+        );
+        start += project_length(x);
+        q += 1;
+    }
+    p
+}

@@ -1,0 +1,4 @@
+pub mod KeepingLaws
+pub mod ProjectLaws
+pub mod RelationLaws
+pub mod StepLaws

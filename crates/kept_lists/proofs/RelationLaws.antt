@@ -1,0 +1,145 @@
+-- Laws of the loops over the relations: the lists of those that are present, and their forms.
+use Prim.Native.Nat.{ℕ, _+_, _/_, _<_, _≤_}
+use mathlib.Core.Path.{_≡_, refl, sym, ap, ap₂, _∙_}
+use mathlib.Core.Bool.{Bool}
+use mathlib.Core.List.{List}
+use native.Mathlib.Numerals.{add-one}
+use native.Mathlib.Omega.{arith}
+use lib.ListN.{length}
+use Rattle.sets.specs.Lists.{concat}
+use Rattle.sets.specs.Writing.{Written}
+use Rattle.sets.proofs.SearchLaws.{count-le}
+use Rattle.sets.proofs.WritingLaws.{same-room, same-written}
+use Rattle.decoders.specs.Words.{IsWord}
+use Rattle.report.specs.Tables.{Tables, relationLength, relationStart}
+use Rattle.report.specs.Typing.{present}
+use Rattle.report.specs.Configuring.{entryKept, keptLength}
+use Rattle.report.proofs.FormedFacts.{relation-list}
+use Rattle.kept_lists.specs.Keeping.{relationLists, relationForms, ListReads, ListReadable, PresentReads, PresentReadable}
+use Rattle.kept_lists.specs.Keeping.{RelationReads, RelationWritable}
+use Rattle.kept_lists.specs.Steps.{pairIf, listIf, relationListAt, relationFormAt, PairWritable, ListIfWritable}
+use Rattle.kept_lists.proofs.KeepingLaws.{list-short}
+use Rattle.kept_lists.proofs.StepLaws.{Keeping, keeping-none, keeping-room, keeping-more, keeping-all}
+
+-- ---- what is read of one relation
+
+module _ {T : Tables} {conditions t1 t2 : List ℕ} {c : ℕ} (R : RelationReads T conditions t1 t2 c) where
+  pub reads-present : PresentReads T conditions t2 c
+  reads-present = record { reads = R .reads; relations = R .relations }
+
+  -- all the lists, and all the forms
+  all-lists : relationLists T c ≡ concat (length t2 / 2) (relationListAt T c)
+  unfolding relationLists
+  all-lists = ap (λ (t : List ℕ). concat (length t / 2) (relationListAt T c)) (sym (R .relations))
+
+  all-forms : relationForms T c ≡ concat (length t2 / 2) (relationFormAt T c)
+  unfolding relationForms
+  all-forms = ap (λ (t : List ℕ). concat (length t / 2) (relationFormAt T c)) (sym (R .relations))
+
+  module _ {r start : ℕ} (s : start ≡ relationStart t2 r) (h : r < length t2 / 2) {n : ℕ} (e : n ≡ relationLength t2 r) where
+    starts-at : start ≡ relationStart (T .relations) r
+    starts-at = s ∙ ap (λ (t : List ℕ). relationStart t r) (R .relations)
+
+    is-long : n ≡ relationLength (T .relations) r
+    is-long = e ∙ ap (λ (t : List ℕ). relationLength t r) (R .relations)
+
+    reads-list : ListReads T conditions t1 c start n
+    reads-list = record {
+      reads = R .reads;
+      entries = R .entries;
+      lies = rw (starts-at, is-long) (relation-list (R .reads .filled .formed) r (rw (R .relations) at h) .inside);
+    }
+
+    -- what relation r writes is what was found of it
+    module _ {b : Bool} (p : b ≡ present T c r) where
+      list-text : relationListAt T c r ≡ listIf b T c start n
+      list-text =
+          sym
+          (ap (λ (t : Bool). listIf t T c start n) p ∙ ap₂ (λ (i k : ℕ). listIf (present T c r) T c i k) starts-at is-long)
+
+      form-text : {k : ℕ} → k ≡ keptLength T c start n → relationFormAt T c r ≡ pairIf b 0 k
+      form-text q = sym (ap₂ (λ (t : Bool) (k : ℕ). pairIf t 0 k) p (q ∙ ap₂ (keptLength T c) starts-at is-long))
+
+-- ---- the loops
+
+-- what f makes of the relations below r is written, and the list of r starts at `start`
+pub record Relating (f : Tables → ℕ → ℕ → List ℕ) (conditions t1 t2 : List ℕ) (c : ℕ) (first out : List ℕ) (r start p : ℕ) : Type 0 where
+  pub kept : Keeping (λ T. RelationReads T conditions t1 t2 c) (λ T. f T c) (length t2 / 2) first 0 out r p
+  pub starts : start ≡ relationStart t2 r
+
+pub relating-none : {f : Tables → ℕ → ℕ → List ℕ} {conditions t1 t2 : List ℕ} {c : ℕ} {first : List ℕ}
+    → Relating f conditions t1 t2 c first first 0 0 0
+relating-none = record { kept = keeping-none; starts = refl }
+
+-- relation r can be asked for
+pub relating-present : {f : Tables → ℕ → List ℕ} {conditions t1 t2 : List ℕ} {c : ℕ} {first : List ℕ} {r : ℕ}
+    → RelationWritable f conditions t1 t2 c first 0 → r < length t2 / 2 → PresentReadable conditions t2 c (r + 1)
+relating-present A h = record { tables = A .tables; reads = reads-present (A .reads); few = let l = rw (A .reads .relations) at h in omega arith }
+
+module _ {f : Tables → ℕ → ℕ → List ℕ} {conditions t1 t2 : List ℕ} {c : ℕ} {first out : List ℕ} {r start p : ℕ}
+    (S : Relating f conditions t1 t2 c first out r start p) (h : r < length t2 / 2) {n : ℕ} (e : IsWord (relationLength t2 r) n) where
+  pub relating-small : {g : Tables → ℕ → List ℕ} → RelationWritable g conditions t1 t2 c first 0 → start + n ≤ 512
+  relating-small A = list-short (reads-list (A .reads) (S .starts) h (e .same))
+
+  pub relating-list : {g : Tables → ℕ → List ℕ} → RelationWritable g conditions t1 t2 c first 0 → ListReadable conditions t1 c start n
+  relating-list A = record { tables = A .tables; reads = reads-list (A .reads) (S .starts) h (e .same) }
+
+  relating-more : {o : List ℕ} {q : ℕ} → ((T : Tables) → RelationReads T conditions t1 t2 c → Written (f T c r) out p o q)
+      → Relating f conditions t1 t2 c first o (r + 1) (start + n) q
+  relating-more w = record {
+    kept = keeping-more (S .kept) h w;
+    starts = ap₂ _+_ (S .starts) (e .same) ∙ ap (relationStart t2) (sym (add-one r));
+  }
+
+module _ {conditions t1 t2 : List ℕ} {c : ℕ} {first out : List ℕ} {r start p : ℕ} (h : r < length t2 / 2) {n : ℕ}
+    (e : IsWord (relationLength t2 r) n) {b : Bool} (q : (T : Tables) → PresentReads T conditions t2 c → b ≡ present T c r) where
+  -- the lists
+  module _ (S : Relating relationListAt conditions t1 t2 c first out r start p) where
+    pub lists-room : RelationWritable relationLists conditions t1 t2 c first 0 → ListIfWritable b conditions t1 c start n out p
+    lists-room A =
+        let R = A .reads in
+        record {
+          tables = A .tables;
+          reads = reads-list R (S .starts) h (e .same);
+          room =
+              same-room (list-text R (S .starts) h (e .same) (q (A .tables) (reads-present R)))
+              (keeping-room (S .kept) R (same-room (all-lists R) (A .room)) h);
+        }
+
+    pub lists-more : {o : List ℕ} {k : ℕ}
+        → ((T : Tables) → ListReads T conditions t1 c start n → Written (listIf b T c start n) out p o k)
+        → Relating relationListAt conditions t1 t2 c first o (r + 1) (start + n) k
+    lists-more w =
+        relating-more S h e
+        (λ T R. same-written (list-text R (S .starts) h (e .same) (q T (reads-present R))) (w T (reads-list R (S .starts) h (e .same))))
+
+  -- the forms
+  module _ (S : Relating relationFormAt conditions t1 t2 c first out r start p) {m : ℕ}
+      (l : (T : Tables) → ListReads T conditions t1 c start n → m ≡ keptLength T c start n) where
+    text : {T : Tables} → RelationReads T conditions t1 t2 c → relationFormAt T c r ≡ pairIf b 0 m
+    text {T} R = form-text R (S .starts) h (e .same) (q T (reads-present R)) (l T (reads-list R (S .starts) h (e .same)))
+
+    pub forms-room : RelationWritable relationForms conditions t1 t2 c first 0 → PairWritable b 0 m out p
+    forms-room A =
+        let R = A .reads in
+        record {
+          first = omega arith;
+          second =
+              let k = l (A .tables) (reads-list R (S .starts) h (e .same)) in
+              let i = count-le (entryKept (A .tables) c start) n in
+              let j = e .small in
+              omega arith;
+          room = same-room (text R) (keeping-room (S .kept) R (same-room (all-forms R) (A .room)) h);
+        }
+
+    pub forms-more : {o : List ℕ} {k : ℕ} → Written (pairIf b 0 m) out p o k
+        → Relating relationFormAt conditions t1 t2 c first o (r + 1) (start + n) k
+    forms-more w = relating-more S h e (λ T R. same-written (text R) w)
+
+module _ {conditions t1 t2 : List ℕ} {c : ℕ} {first out : List ℕ} {r start p : ℕ} (h : length t2 / 2 ≤ r) (T : Tables)
+    (R : RelationReads T conditions t1 t2 c) where
+  pub lists-all : Relating relationListAt conditions t1 t2 c first out r start p → Written (relationLists T c) first 0 out p
+  lists-all S = same-written (all-lists R) (keeping-all (S .kept) h T R)
+
+  pub forms-all : Relating relationFormAt conditions t1 t2 c first out r start p → Written (relationForms T c) first 0 out p
+  forms-all S = same-written (all-forms R) (keeping-all (S .kept) h T R)

@@ -1,0 +1,66 @@
+use Prim.Native.Nat.{_/_, _-_}
+use native.Mathlib.Omega.{arith}
+use borrow.Author.Needs.{needs}
+use lib.ListN.{length}
+use Rattle.kept_lists.proofs.StepLaws.{keeping-length}
+use Rattle.kept_lists.proofs.ProjectLaws.{Projecting, projecting-none, projecting-rowed, projecting-small}
+use Rattle.kept_lists.proofs.ProjectLaws.{projecting-room, projecting-more, projecting-all}
+use Rattle.kept_lists.proofs.write_project_lists.Statement.{statement}
+use Rattle.kept_lists.proofs.write_project_lists.Tie as tie
+
+abbrev Inv-loop : tie.InvT-loop
+Inv-loop t1 t4 conditions reach c first out₀ at count start₀ p₀ q₀ out start p q = Projecting conditions reach t1 t4 first c out₀ at out q start p
+
+abbrev μ-loop : tie.MeasureT-loop
+μ-loop t1 t4 conditions reach c first out₀ at count start₀ p₀ q₀ out start p q = length t4 / 4 - q
+
+row-has-requires : tie.Need-row-has-requires Inv-loop μ-loop
+row-has-requires c κs =
+    let i = c .before .before in
+    projecting-rowed (i .before .before .before .before .before .before .before .pre) (i .loop-test .taken)
+
+write-list-if-requires : tie.Need-write-list-if-requires Inv-loop μ-loop
+write-list-if-requires c κs =
+    let b = c .before in
+    let n = b .before in
+    let x = n .before in
+    let i = x .before in
+    projecting-room (i .before .loop .inv) (i .loop-test .taken) (x .query-at .ensures) (n .project-length .ensures) (b .row-has .ensures)
+    (i .before .before .before .before .before .before .before .pre)
+
+add-start : tie.Need-add-start Inv-loop μ-loop
+add-start c =
+    let n = c .before .before .before .before .before in
+    let x = n .before in
+    let i = x .before in
+    let l = projecting-small (i .before .loop .inv) (i .loop-test .taken) (x .query-at .ensures) (n .project-length .ensures)
+    (i .before .before .before .before .before .before .before .pre) in
+    omega arith
+
+loop-again : tie.Need-loop-again Inv-loop μ-loop
+loop-again c =
+    let w = c .before .before in
+    let b = w .before .before in
+    let n = b .before in
+    let x = n .before in
+    let i = x .before in
+    projecting-more (i .before .loop .inv) (i .loop-test .taken) (x .query-at .ensures) (n .project-length .ensures) (b .row-has .ensures)
+    (w .write-list-if .ensures)
+
+pub write-project-lists-spec : {M : Type 1} → statement M
+write-project-lists-spec =
+    tie.close
+    (tie.spec
+    Inv-loop
+    μ-loop
+    (λ c. projecting-none)
+    (λ c κs. search needs)
+    (λ c κs. search needs)
+    row-has-requires
+    write-list-if-requires
+    add-start
+    (λ c. search needs)
+    (λ c. search needs)
+    loop-again
+    (λ c. keeping-length (c .before .loop .inv .kept) (c .before .before .before .before .before .before .before .pre .reads))
+    (λ c. projecting-all (c .before .loop .inv) (c .loop-test .left)))

@@ -1,0 +1,46 @@
+-- What one step of a loop writes: a block where it is kept, and nothing elsewhere.
+use Prim.Native.Nat.{ℕ, _<_}
+use mathlib.Core.Bool.{Bool, cond}
+use mathlib.Core.List.{List, [], _∷_}
+use Rattle.sets.specs.Writing.{Room}
+use Rattle.report.specs.Tables.{Tables, entryAttribute, entryExpression, query}
+use Rattle.report.specs.Typing.{at, present}
+use Rattle.report.specs.Configuring.{queryKept, keptList, relationList, projectListOf, relationForm}
+use Rattle.kept_lists.specs.Keeping.{ListReads}
+
+-- two words; a list of table 1
+abbrev pub pairIf : Bool → ℕ → ℕ → List ℕ
+pairIf keep x y = cond keep (x ∷ y ∷ []) []
+
+abbrev pub listIf : Bool → Tables → ℕ → ℕ → ℕ → List ℕ
+listIf keep T c start count = cond keep (keptList T c start count) []
+
+module _ (T : Tables) (c : ℕ) where
+  -- entry k of table 1
+  abbrev pub entryAt : ℕ → List ℕ
+  entryAt k = pairIf (at T c (entryExpression (T .entries) k)) (entryAttribute (T .entries) k) 0
+
+  -- relation r: its list, and its form
+  abbrev pub relationListAt : ℕ → List ℕ
+  relationListAt r = cond (present T c r) (relationList T c r) []
+
+  abbrev pub relationFormAt : ℕ → List ℕ
+  relationFormAt r = cond (present T c r) (relationForm T c r) []
+
+  -- the list of query form q
+  abbrev pub projectListAt : ℕ → List ℕ
+  projectListAt q = cond (queryKept T c q) (projectListOf T c q (query (T .queries) q)) []
+
+-- ---- what the functions that write one block ask for
+
+-- two words of a table, and room for them if they are kept
+pub record PairWritable (keep : Bool) (x y : ℕ) (out : List ℕ) (at : ℕ) : Type 0 where
+  pub first : x < 65536
+  pub second : y < 65536
+  pub room : Room (pairIf keep x y) out at
+
+-- a list of table 1, and room for its kept entries if it is kept
+pub record ListIfWritable (keep : Bool) (conditions t1 : List ℕ) (c start count : ℕ) (out : List ℕ) (at : ℕ) : Type 0 where
+  pub tables : Tables
+  pub reads : ListReads tables conditions t1 c start count
+  pub room : Room (listIf keep tables c start count) out at

@@ -1,0 +1,235 @@
+// What configuring keeps of lists and relations at one configuration, written into lent tables. Each writer returns the position after what it wrote.
+use decoders::entry_attribute;
+use decoders::entry_expression;
+use decoders::project_length;
+use decoders::query_at;
+use decoders::relation_expression;
+use decoders::relation_length;
+use sets::Row;
+ghost use mathlib.Core.Path.{_≡_};
+ghost use mathlib.Core.Bool.{cond};
+ghost use Prim.Native.Nat.{_+_, _*_, _<_, _≤_};
+ghost use lib.ListN.{length};
+ghost use Rattle.sets.specs.Rows.{rowBit, rowIn};
+ghost use Rattle.sets.specs.Writing.{Written};
+ghost use Rattle.report.specs.Tables.{Tables, entryExpression};
+ghost use Rattle.report.specs.Typing.{at, present};
+ghost use Rattle.report.specs.Configuring.{keptLength, keptList, newRelation};
+ghost use Rattle.kept_lists.specs.Keeping.{relationLists, projectLists, relationForms};
+ghost use Rattle.kept_lists.specs.Keeping.{ListReads, ListReadable, ListWritable, PresentReads, PresentReadable};
+ghost use Rattle.kept_lists.specs.Keeping.{RelationReads, RelationWritable, ProjectReads, ProjectWritable};
+ghost use Rattle.kept_lists.specs.Steps.{pairIf, listIf, PairWritable, ListIfWritable};
+
+// Configuration c is in row x of the rows: expression x holds there, or form x is reached.
+pub fn row_has(rows: &[u64], x: usize, c: usize) -> bool
+    requires { ⌜ (x * 16 + 16 ≤ length (now rows)) × (c < 1024) ⌝ }
+    ensures { λ r. ⌜ r ≡ rowBit (rowIn 16 (now (rows .entry)) x) c ⌝ }
+{
+    Row::load(rows, x).has(c)
+}
+
+// One more than n, if the test is true.
+fn more_if(n: usize, test: bool) -> usize
+    requires { ⌜ n < 65536 ⌝ }
+    ensures { λ r. ⌜ r ≡ n + cond test 1 0 ⌝ }
+{
+    if test {
+        return n + 1;
+    }
+    n
+}
+
+// Entry k holds at c.
+fn entry_holds(t1: &[u16], conditions: &[u64], c: usize, k: usize) -> bool
+    requires { ⌜ ListReadable (now conditions) (now t1) c k 1 ⌝ }
+    ensures { λ b.
+        ⌜ ((T : Tables) → ListReads T (now (conditions .entry)) (now (t1 .entry)) c k 1 → b ≡ at T c (entryExpression (T .entries) k)) ⌝ }
+{
+    row_has(conditions, entry_expression(t1, k), c)
+}
+
+// How many of the `count` entries from `start` on hold at c.
+pub fn kept_length(t1: &[u16], conditions: &[u64], c: usize, start: usize, count: usize) -> usize
+    requires { ⌜ ListReadable (now conditions) (now t1) c start count ⌝ }
+    ensures { λ r. ⌜ ((T : Tables) → ListReads T (now (conditions .entry)) (now (t1 .entry)) c start count → r ≡ keptLength T c start count) ⌝ }
+{
+    let mut kept = 0;
+    let mut i = 0;
+    while i < count {
+        let holds = entry_holds(t1, conditions, c, start + i);
+        kept = more_if(kept, holds);
+        i += 1;
+    }
+    kept
+}
+
+// Writes x and y, if they are kept.
+fn write_pair(keep: bool, x: usize, y: usize, out: &mut [u16], at: usize) -> usize
+    requires { ⌜ PairWritable keep x y (now out) at ⌝ }
+    ensures { λ r. ⌜ Written (pairIf keep x y) (now (out .entry)) at (now (out .exit)) r ⌝ }
+{
+    if keep {
+        out[at] = x as u16;
+        out[at + 1] = y as u16;
+        return at + 2;
+    }
+    at
+}
+
+// Writes the `count` entries from `start` on that hold at c, their expression made 0.
+pub fn write_list(
+    t1: &[u16],
+    conditions: &[u64],
+    c: usize,
+    start: usize,
+    count: usize,
+    out: &mut [u16],
+    at: usize,
+) -> usize
+    requires { ⌜ ListWritable (now conditions) (now t1) c start count (now out) at ⌝ }
+    ensures { λ r.
+        ⌜ ((T : Tables) → ListReads T (now (conditions .entry)) (now (t1 .entry)) c start count
+        → Written (keptList T c start count) (now (out .entry)) at (now (out .exit)) r) ⌝ }
+{
+    let mut p = at;
+    let mut i = 0;
+    while i < count {
+        let k = start + i;
+        let a = entry_attribute(t1, k);
+        let holds = entry_holds(t1, conditions, c, k);
+        p = write_pair(holds, a, 0, &mut *out, p);
+        i += 1;
+    }
+    p
+}
+
+// Writes that list, if it is kept.
+fn write_list_if(
+    keep: bool,
+    t1: &[u16],
+    conditions: &[u64],
+    c: usize,
+    start: usize,
+    count: usize,
+    out: &mut [u16],
+    at: usize,
+) -> usize
+    requires { ⌜ ListIfWritable keep (now conditions) (now t1) c start count (now out) at ⌝ }
+    ensures { λ r.
+        ⌜ ((T : Tables) → ListReads T (now (conditions .entry)) (now (t1 .entry)) c start count
+        → Written (listIf keep T c start count) (now (out .entry)) at (now (out .exit)) r) ⌝ }
+{
+    if keep {
+        return write_list(t1, conditions, c, start, count, out, at);
+    }
+    at
+}
+
+// Relation r is present at c.
+fn is_present(t2: &[u16], conditions: &[u64], c: usize, r: usize) -> bool
+    requires { ⌜ PresentReadable (now conditions) (now t2) c (r + 1) ⌝ }
+    ensures { λ b. ⌜ ((T : Tables) → PresentReads T (now (conditions .entry)) (now (t2 .entry)) c → b ≡ present T c r) ⌝ }
+{
+    row_has(conditions, relation_expression(t2, r), c)
+}
+
+// The new number of relation r: how many below it are present at c.
+pub fn new_relation(t2: &[u16], conditions: &[u64], c: usize, r: usize) -> usize
+    requires { ⌜ PresentReadable (now conditions) (now t2) c r ⌝ }
+    ensures { λ k. ⌜ ((T : Tables) → PresentReads T (now (conditions .entry)) (now (t2 .entry)) c → k ≡ newRelation T c r) ⌝ }
+{
+    let mut kept = 0;
+    let mut i = 0;
+    while i < r {
+        let present = is_present(t2, conditions, c, i);
+        kept = more_if(kept, present);
+        i += 1;
+    }
+    kept
+}
+
+// Writes the lists of the relations that are present at c.
+pub fn write_relation_lists(
+    t1: &[u16],
+    t2: &[u16],
+    conditions: &[u64],
+    c: usize,
+    out: &mut [u16],
+) -> usize
+    requires { ⌜ RelationWritable relationLists (now conditions) (now t1) (now t2) c (now out) 0 ⌝ }
+    ensures { λ r.
+        ⌜ ((T : Tables) → RelationReads T (now (conditions .entry)) (now (t1 .entry)) (now (t2 .entry)) c
+        → Written (relationLists T c) (now (out .entry)) 0 (now (out .exit)) r) ⌝ }
+{
+    let count = t2.len() / 2;
+    let mut start = 0;
+    let mut p = 0;
+    let mut r = 0;
+    while r < count {
+        let n = relation_length(t2, r);
+        let present = is_present(t2, conditions, c, r);
+        p = write_list_if(present, t1, conditions, c, start, n, &mut *out, p);
+        start += n;
+        r += 1;
+    }
+    p
+}
+
+// Writes the relations that are present at c: expression 0, and how many of its entries are kept.
+pub fn write_relation_forms(
+    t1: &[u16],
+    t2: &[u16],
+    conditions: &[u64],
+    c: usize,
+    out: &mut [u16],
+) -> usize
+    requires { ⌜ RelationWritable relationForms (now conditions) (now t1) (now t2) c (now out) 0 ⌝ }
+    ensures { λ r.
+        ⌜ ((T : Tables) → RelationReads T (now (conditions .entry)) (now (t1 .entry)) (now (t2 .entry)) c
+        → Written (relationForms T c) (now (out .entry)) 0 (now (out .exit)) r) ⌝ }
+{
+    let count = t2.len() / 2;
+    let mut start = 0;
+    let mut p = 0;
+    let mut r = 0;
+    while r < count {
+        let n = relation_length(t2, r);
+        let present = is_present(t2, conditions, c, r);
+        let kept = kept_length(t1, conditions, c, start, n);
+        p = write_pair(present, 0, kept, &mut *out, p);
+        start += n;
+        r += 1;
+    }
+    p
+}
+
+// Writes the lists of the project forms that c reaches, which lie from `first` on. Another form has no entries, so its list is written as none.
+pub fn write_project_lists(
+    t1: &[u16],
+    t4: &[u16],
+    conditions: &[u64],
+    reach: &[u64],
+    c: usize,
+    first: usize,
+    out: &mut [u16],
+    at: usize,
+) -> usize
+    requires { ⌜ ProjectWritable (now conditions) (now reach) (now t1) (now t4) first c (now out) at ⌝ }
+    ensures { λ r.
+        ⌜ ((T : Tables) → ProjectReads T (now (conditions .entry)) (now (reach .entry)) (now (t1 .entry)) (now (t4 .entry)) first c
+        → Written (projectLists T c) (now (out .entry)) at (now (out .exit)) r) ⌝ }
+{
+    let count = t4.len() / 4;
+    let mut start = first;
+    let mut p = at;
+    let mut q = 0;
+    while q < count {
+        let x = query_at(t4, q);
+        let n = project_length(x);
+        let reached = row_has(reach, q, c);
+        p = write_list_if(reached, t1, conditions, c, start, n, &mut *out, p);
+        start += n;
+        q += 1;
+    }
+    p
+}
