@@ -13,7 +13,6 @@ use Rattle.sets.specs.Lists.{table}
 use Rattle.sets.specs.Rows.{rowBit, rowIn}
 use Rattle.sets.proofs.SearchLaws.{count-le}
 use Rattle.sets.proofs.ListLaws.{table-length, table-at, table-more}
-use Rattle.sets.proofs.RowLaws.{rowBit-rowOf}
 use Rattle.report.specs.Tables.{Tables, comparison, query, expressionCount, comparisonCount, queryCount}
 use Rattle.report.specs.Typing.{at, taken, reached}
 use Rattle.report.specs.Configuring.{comparisonTargetOf, comparisonTarget, queryTargetOf, isComparisonChoice, isQueryChoice}
@@ -29,7 +28,7 @@ use Rattle.report.proofs.StepLaws.{taken-below, comparison-target-in}
 use Rattle.report.proofs.PassingOn.{View, choice, plain, view, plain-target}
 use Rattle.report.proofs.LeadLaws.{target-plain, target-choice}
 use Rattle.kept_lists.specs.Keeping.{AtReads}
-use Rattle.kept_lists.proofs.KeepingLaws.{narrow, rowed, holds-at}
+use Rattle.kept_lists.proofs.KeepingLaws.{narrow, rowed, holds-at, reach-row, reach-has}
 use Rattle.kept_forms.specs.Numbering.{Numbered, ComparisonReads, ComparisonNumberable, QueryReads, QueryNumberable}
 use Rattle.kept_forms.specs.FormWords.{TakenRead, ComparisonAt, SomeComparison, QueryAt, SomeQuery}
 
@@ -241,11 +240,10 @@ module _ {T : Tables} {conditions reach t4 : List ℕ} {c : ℕ} (R : QueryReads
 
   -- form q has a row, which has c where c reaches it
   pub reach-rowed : (q * 16 + 16 ≤ length reach) × (c < 1024)
-  reach-rowed = (let m = R .reaching .room in let l = query-in in omega arith, narrow (R .reads))
+  reach-rowed = reach-row (R .reads) (R .reaching) query-in
 
   pub reached-at : rowBit (rowIn 16 reach q) c ≡ reached T c q
-  reached-at =
-      ap (λ (l : List ℕ). rowBit l c) (R .reaching .each q query-in) ∙ rowBit-rowOf 16 (λ d. reached T d q) c (narrow (R .reads))
+  reached-at = reach-has (R .reads) (R .reaching) query-in
 
   module _ {x : Query} (e : x ≡ query t4 q) where
     pub query-is : x ≡ query (T .queries) q

@@ -9,12 +9,13 @@ use native.Mathlib.Omega.{arith}
 use borrow.Author.Tests.{lt-ltb}
 use lib.ListN.{length}
 use lib.Pow.{pow-mono}
-use Rattle.sets.specs.Rows.{rowBit, rowIn}
+use Rattle.sets.specs.Rows.{rowBit, rowOf, rowIn}
 use Rattle.sets.specs.Search.{countBelow}
-use Rattle.sets.proofs.RowLaws.{bit-within}
-use Rattle.report.specs.Tables.{Tables, entryExpression, relationExpression, expressionCount, entryCount, relationCount}
-use Rattle.report.specs.Typing.{at, present}
+use Rattle.sets.proofs.RowLaws.{rowBit-rowOf, bit-within}
+use Rattle.report.specs.Tables.{Tables, entryExpression, relationExpression, expressionCount, entryCount, relationCount, queryCount}
+use Rattle.report.specs.Typing.{at, present, reached}
 use Rattle.report.proofs.FormedFacts.{entry-expression, relation-expression}
+use Rattle.attribute_rows.specs.AttributeRows.{RowsAre}
 use Rattle.kept_lists.specs.Keeping.{AtReads, ListReads, ListReadable, PresentReads, PresentReadable}
 
 -- ---- what holds at c
@@ -30,6 +31,14 @@ module _ {T : Tables} {conditions : List ℕ} {c : ℕ} (R : AtReads T condition
 
     pub holds-at : rowBit (rowIn 16 conditions e) c ≡ at T c e
     holds-at = ap (λ (l : List ℕ). rowBit l c) (R .filled .each e h) ∙ bit-within (T .features) (λ d. at T d e) 16 c (R .inside) narrow
+
+  -- a query form has a reach row, and the row has c where c reaches the form
+  module _ {reach : List ℕ} (W : RowsAre (queryCount T) (λ q. rowOf 16 (λ d. reached T d q)) reach) {q : ℕ} (h : q < queryCount T) where
+    pub reach-row : (q * 16 + 16 ≤ length reach) × (c < 1024)
+    reach-row = (let m = W .room in omega arith, narrow)
+
+    pub reach-has : rowBit (rowIn 16 reach q) c ≡ reached T c q
+    reach-has = ap (λ (l : List ℕ). rowBit l c) (W .each q h) ∙ rowBit-rowOf 16 (λ d. reached T d q) c narrow
 
 -- ---- one entry, one relation
 

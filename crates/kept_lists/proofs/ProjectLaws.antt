@@ -9,7 +9,6 @@ use lib.ListN.{length}
 use Rattle.sets.specs.Lists.{concat}
 use Rattle.sets.specs.Rows.{rowBit, rowIn}
 use Rattle.sets.specs.Writing.{Written}
-use Rattle.sets.proofs.RowLaws.{rowBit-rowOf}
 use Rattle.sets.proofs.WritingLaws.{same-room, same-written}
 use Rattle.report.specs.Tables.{Tables, query, queryCount, projectLength, projectedBefore, projectStart}
 use Rattle.report.specs.Typing.{reached}
@@ -18,7 +17,7 @@ use Rattle.report.specs.declared.Query.{Query}
 use Rattle.report.proofs.FormedFacts.{project-within}
 use Rattle.kept_lists.specs.Keeping.{projectLists, ListReads, ProjectReads, ProjectWritable}
 use Rattle.kept_lists.specs.Steps.{listIf, projectListAt, ListIfWritable}
-use Rattle.kept_lists.proofs.KeepingLaws.{narrow, list-short}
+use Rattle.kept_lists.proofs.KeepingLaws.{reach-row, reach-has, list-short}
 use Rattle.kept_lists.proofs.StepLaws.{Keeping, keeping-none, keeping-room, keeping-more, keeping-all}
 
 -- A form that is no project lists no entries, so a reached form writes the list of its entries whatever its kind
@@ -47,14 +46,6 @@ module _ {T : Tables} {conditions reach t1 t4 : List ℕ} {first c : ℕ} (R : P
     in-table : q < queryCount T
     in-table = rw (R .queries) at h
 
-    -- the form has a row, which has c where c reaches it
-    reach-rowed : (q * 16 + 16 ≤ length reach) × (c < 1024)
-    reach-rowed = (let m = R .reaching .room in let k = in-table in omega arith, narrow (R .reads))
-
-    reached-at : {b : Bool} → b ≡ rowBit (rowIn 16 reach q) c → b ≡ reached T c q
-    reached-at p =
-        p ∙ ap (λ (l : List ℕ). rowBit l c) (R .reaching .each q in-table) ∙ rowBit-rowOf 16 (λ d. reached T d q) c (narrow (R .reads))
-
     module _ {start : ℕ} (s : start ≡ first + projectedBefore t4 q) {n : ℕ} (e : n ≡ projectLength (query t4 q)) where
       starts-at : start ≡ projectStart T q
       starts-at = s ∙ ap₂ (λ (i : ℕ) (t : List ℕ). i + projectedBefore t q) (R .begins) (R .queries)
@@ -79,7 +70,8 @@ module _ {T : Tables} {conditions reach t1 t4 : List ℕ} {first c : ℕ} (R : P
       list-text {b} p =
           listed-as T c q (reached T c q) (query (T .queries) q)
           ∙ sym
-          (ap (λ (t : Bool). listIf t T c start n) (reached-at p) ∙ ap₂ (λ (i k : ℕ). listIf (reached T c q) T c i k) starts-at is-long)
+          (ap (λ (t : Bool). listIf t T c start n) (p ∙ reach-has (R .reads) (R .reaching) in-table)
+          ∙ ap₂ (λ (i k : ℕ). listIf (reached T c q) T c i k) starts-at is-long)
 
 -- ---- the loop
 
@@ -94,7 +86,7 @@ projecting-none = record { kept = keeping-none; starts = omega arith }
 
 module _ {conditions reach t1 t4 : List ℕ} {first c : ℕ} {lent : List ℕ} {at : ℕ} {q : ℕ} where
   pub projecting-rowed : ProjectWritable conditions reach t1 t4 first c lent at → q < length t4 / 4 → (q * 16 + 16 ≤ length reach) × (c < 1024)
-  projecting-rowed A h = reach-rowed (A .reads) h
+  projecting-rowed A h = reach-row (A .reads .reads) (A .reads .reaching) (in-table (A .reads) h)
 
   module _ {out : List ℕ} {start p : ℕ} (S : Projecting conditions reach t1 t4 first c lent at out q start p) where
     module _ (h : q < length t4 / 4) {x : Query} (f : x ≡ query t4 q) {n : ℕ} (e : n ≡ projectLength x) where
