@@ -4,13 +4,15 @@ use mathlib.Core.Path.{_≡_, refl, ap, _∙_}
 use mathlib.Core.Bool.{Bool, true, false, cond}
 use native.Mathlib.Nat.{lt-of-lt-of-le}
 use native.Mathlib.Omega.{arith}
-use lib.Bits.{bitAnd, bitOr, and-lt, or-lt, xor-lt}
+use borrow.Author.Tests.{eq-eqb}
+use lib.Bits.{and-lt, or-lt, xor-lt}
 use lib.Pow.{pow-pos, pow-lt, pow-mono}
 use Rattle.sets.specs.Bits.{difference}
 use Rattle.sets.proofs.BitLaws.{difference-lt, subset-and, xor-same}
 use Rattle.report.specs.Tables.{Tables, entryExpression, comparison, query}
 use Rattle.report.specs.Tables.{expressionCount, entryCount, comparisonCount, queryCount}
-use Rattle.report.specs.Typing.{at, taken, listed, present, relationSet, projectSet, namesOf, names, setRule, setOf, faultsOf, faults}
+use Rattle.report.specs.Typing.{at, listed, present, relationSet, projectSet, namesOf, names, setRule, setOf, faultsOf, faults}
+use Rattle.report.specs.Rules.{Rule}
 use Rattle.report.specs.declared.Comparison.{Comparison}
 use Rattle.report.specs.declared.Query.{Query}
 use Rattle.report.proofs.ValueLaws.{strong}
@@ -22,37 +24,26 @@ use Rattle.report.proofs.StepLaws.{taken-below, names-in, set-in}
 -- ---- the sets of forms that keep their rule
 
 module _ (T : Tables) (c : ℕ) where
-  -- what the rule says of query form q, and its set
-  abbrev pub Keeps : ℕ → Query → Type 0
-  Keeps q Query.Malformed = ⊥
-  Keeps q Query.Empty = setOf T c q ≡ 0
-  Keeps q (Query.Relation a) = (present T c a ≡ true) × (setOf T c q ≡ relationSet T c a)
-  Keeps q (Query.Select a b) = (difference (names T c a) (setOf T c b) ≡ 0) × (setOf T c q ≡ setOf T c b)
-  Keeps q (Query.Project a b) = (difference (projectSet T c q a) (setOf T c b) ≡ 0) × (setOf T c q ≡ projectSet T c q a)
-  Keeps q (Query.Choice a b d) = setOf T c q ≡ setOf T c (taken T c a b d)
-  Keeps q (Query.Product a b) = (bitAnd (setOf T c a) (setOf T c b) ≡ 0) × (setOf T c q ≡ bitOr (setOf T c a) (setOf T c b))
-  Keeps q (Query.Union a b) = (setOf T c a ≡ setOf T c b) × (setOf T c q ≡ setOf T c a) × (setOf T c q ≡ setOf T c b)
-  Keeps q (Query.Intersection a b) = (setOf T c a ≡ setOf T c b) × (setOf T c q ≡ setOf T c a) × (setOf T c q ≡ setOf T c b)
-
   is-present : (t : Bool) (a : ℕ) → cond t 0 (2 ^ a) ≡ 0 → t ≡ true
   is-present true a e = refl
   is-present false a e = absurd (let p = pow-pos a in omega arith)
 
-  keeps : (q : ℕ) (x : Query) → QueryLower T q x → setOf T c q ≡ setRule T c (setOf T c) q x → faultsOf T c q x ≡ 0 → Keeps q x
+  keeps : (q : ℕ) (x : Query) → QueryLower T q x → setOf T c q ≡ setRule T c (setOf T c) q x → faultsOf T c q x ≡ 0 → Rule T c (setOf T c) q x
   keeps q Query.Malformed l s e = l
   keeps q Query.Empty l s e = s
   keeps q (Query.Relation a) l s e =
       let p = is-present (present T c a) a e in
       (p, s ∙ ap (λ (t : Bool). cond t (relationSet T c a) 0) p)
-  keeps q (Query.Select a b) l s e = (e, s)
-  keeps q (Query.Project a b) l s e = (e, s ∙ subset-and (projectSet T c q a) (setOf T c b) e)
+  keeps q (Query.Select a b) l s e = (eq-eqb (difference (names T c a) (setOf T c b)) 0 e, s)
+  keeps q (Query.Project a b) l s e =
+      (eq-eqb (difference (projectSet T c q a) (setOf T c b)) 0 e, s ∙ subset-and (projectSet T c q a) (setOf T c b) e)
   keeps q (Query.Choice a b d) l s e = s
   keeps q (Query.Product a b) l s e = (e, s)
-  keeps q (Query.Union a b) l s e = let same = xor-same (setOf T c a) (setOf T c b) e in (same, s, s ∙ same)
-  keeps q (Query.Intersection a b) l s e = let same = xor-same (setOf T c a) (setOf T c b) e in (same, s, s ∙ same)
+  keeps q (Query.Union a b) l s e = (xor-same (setOf T c a) (setOf T c b) e, s)
+  keeps q (Query.Intersection a b) l s e = (xor-same (setOf T c a) (setOf T c b) e, s)
 
 -- a form of accepted tables that has no fault at c keeps its rule there, and has the set that the rule gives it
-pub kept-sets : {T : Tables} → Formed T → (c q : ℕ) → q < queryCount T → faults T c q ≡ 0 → Keeps T c q (query (T .queries) q)
+pub kept-sets : {T : Tables} → Formed T → (c q : ℕ) → q < queryCount T → faults T c q ≡ 0 → Rule T c (setOf T c) q (query (T .queries) q)
 unfolding faults
 kept-sets {T} F c q h e = keeps T c q (query (T .queries) q) (query-at F q h) (set-in F c q h) e
 

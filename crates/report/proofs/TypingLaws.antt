@@ -22,6 +22,7 @@ use Rattle.report.specs.Expressions.{configurations, permitted}
 use Rattle.report.specs.Typing.{reached, present, setOf, faultsOf, faults, fails}
 use Rattle.report.specs.ColumnRows.{hasColumn, columnRows, shown}
 use Rattle.report.specs.PlainAlgebra.{passes}
+use Rattle.report.specs.Rules.{Rule}
 use Rattle.report.specs.ConfiguredReport.{configuredReport, configuredSchema}
 use Rattle.report.specs.Verdicts.{refusal, refuseAt}
 use Rattle.report.specs.Checks.{ruleNumber, typingAt, typingCheck, isTypingFault}
@@ -31,7 +32,7 @@ use Rattle.report.specs.declared.Verdict.{Verdict}
 use Rattle.report.proofs.VerdictLaws.{accepted-not-refused, at-accepted, first-accepted, accepted-first, refused-first, first-refused}
 use Rattle.report.proofs.Formed.{Formed}
 use Rattle.report.proofs.FormedFacts.{report-in}
-use Rattle.report.proofs.SetLaws.{Keeps, kept-sets, set-narrow, narrow-word, faults-narrow}
+use Rattle.report.proofs.SetLaws.{kept-sets, set-narrow, narrow-word, faults-narrow}
 use Rattle.report.proofs.LeadLaws.{formAt}
 use Rattle.report.proofs.ReachLaws.{reached-in}
 use Rattle.report.proofs.TreeLaws.{reached-permitted, fails-where, keeps-where, report-passes}
@@ -77,7 +78,7 @@ module _ {T : Tables} (F : Formed T) where
   )
 
   -- then every form keeps its rule wherever it is reached, and has the set that document 01 gives it
-  pub typing-keeps : typingCheck T ≡ Verdict.Accepted → (c q : ℕ) → reached T c q ≡ true → Keeps T c q (formAt T q)
+  pub typing-keeps : typingCheck T ≡ Verdict.Accepted → (c q : ℕ) → reached T c q ≡ true → Rule T c (setOf T c) q (formAt T q)
   typing-keeps e c q r =
       let p = reached-permitted T c q r in
       let h = reached-in F c p q r in
