@@ -1,15 +1,13 @@
-/* The column checker, and configuring, as C functions. Link
+/* The column checker, and configuring, for C (C99 or later) and C++. Link
    target/staticlib/libgelvomas.a, which `rt staticlib gelvomas` writes (x86-64
-   Linux). The functions are proved: they read and write only what is said here,
-   allocate nothing, keep nothing, end on any input, and may be called from
-   several threads at once. gelvomas_check takes at most 400 KiB of stack and
-   gelvomas_configure at most 450 KiB, which is measured and not proved.
+   Linux).
 
-   A table is a pointer to its words and then the number of its words, which may
-   be any number: a length or a word that the checker does not take is refused.
-   A pointer is never NULL, also where the length is 0, and lies as its type
-   asks. What a function writes to, at a pointer without `const`, overlaps no other
-   argument. */
+   gelvomas_check and gelvomas_configure are proved: they read and write only what
+   is said here, allocate nothing, keep nothing, end on any input, and may be
+   called from several threads at once. gelvomas_check takes at most 400 KiB of
+   stack and gelvomas_configure at most 450 KiB, which is measured and not proved.
+   gelvomas_check_tables and gelvomas_configure_tables, at the end, call them with
+   the tables in a struct; they are short, and not proved. */
 
 #ifndef GELVOMAS_H
 #define GELVOMAS_H
@@ -21,30 +19,160 @@
 extern "C" {
 #endif
 
-/* The length of `rows`: 64 rows of 16 words. */
+#define GELVOMAS_VERSION_MAJOR 1
+#define GELVOMAS_VERSION_MINOR 0
+#define GELVOMAS_VERSION_PATCH 0
+#define GELVOMAS_VERSION "1.0.0"
+
+/* The most there may be of each. There is at least one expression and one query;
+   of the others there may be none. */
+#define GELVOMAS_MAX_FEATURES 10
+#define GELVOMAS_MAX_ATTRIBUTES 64
+#define GELVOMAS_MAX_EXPRESSIONS 256
+#define GELVOMAS_MAX_ENTRIES 512
+#define GELVOMAS_MAX_RELATIONS 32
+#define GELVOMAS_MAX_COMPARISONS 256
+#define GELVOMAS_MAX_QUERIES 256
+
+/* The words of one form of each table. Words that a kind does not use are 0. */
+#define GELVOMAS_EXPRESSION_WORDS 3 /* kind, a, b */
+#define GELVOMAS_ENTRY_WORDS 2      /* attribute, expression */
+#define GELVOMAS_RELATION_WORDS 2   /* expression, number of entries */
+#define GELVOMAS_COMPARISON_WORDS 5 /* kind, operator, a, b, c */
+#define GELVOMAS_QUERY_WORDS 4      /* kind, a, b, c */
+
+/* The words of the column rows, 64 rows of 16 words, and of one row. */
 #define GELVOMAS_ROWS 1024
+#define GELVOMAS_ROW_WORDS 16
+
+/* Kinds of expressions. */
+enum gelvomas_expression {
+    GELVOMAS_EXPRESSION_FALSE = 0,
+    GELVOMAS_EXPRESSION_TRUE = 1,
+    GELVOMAS_EXPRESSION_FEATURE = 2, /* feature a */
+    GELVOMAS_EXPRESSION_NOT = 3,     /* not expression a */
+    GELVOMAS_EXPRESSION_AND = 4,     /* expressions a and b */
+    GELVOMAS_EXPRESSION_OR = 5       /* expression a or b */
+};
+
+/* Kinds of comparisons. */
+enum gelvomas_comparison {
+    GELVOMAS_COMPARISON_NEVER = 0,
+    GELVOMAS_COMPARISON_ALWAYS = 1,
+    GELVOMAS_COMPARISON_CONSTANT = 2,  /* attribute a with constant b */
+    GELVOMAS_COMPARISON_ATTRIBUTE = 3, /* attribute a with attribute b */
+    GELVOMAS_COMPARISON_NOT = 4,       /* not comparison a */
+    GELVOMAS_COMPARISON_AND = 5,       /* comparisons a and b */
+    GELVOMAS_COMPARISON_OR = 6,        /* comparison a or b */
+    GELVOMAS_COMPARISON_CHOICE = 7     /* b where expression a holds, c elsewhere */
+};
+
+/* Operators of comparisons with a constant or an attribute; of others it is 0. */
+enum gelvomas_operator {
+    GELVOMAS_OPERATOR_LESS = 0,
+    GELVOMAS_OPERATOR_LESS_OR_EQUAL = 1,
+    GELVOMAS_OPERATOR_EQUAL = 2,
+    GELVOMAS_OPERATOR_NOT_EQUAL = 3,
+    GELVOMAS_OPERATOR_GREATER = 4,
+    GELVOMAS_OPERATOR_GREATER_OR_EQUAL = 5
+};
+
+/* Kinds of queries. */
+enum gelvomas_query {
+    GELVOMAS_QUERY_EMPTY = 0,
+    GELVOMAS_QUERY_RELATION = 1,    /* relation a */
+    GELVOMAS_QUERY_SELECT = 2,      /* by comparison a, of query b */
+    GELVOMAS_QUERY_PROJECT = 3,     /* to a entries, of query b */
+    GELVOMAS_QUERY_CHOICE = 4,      /* b where expression a holds, c elsewhere */
+    GELVOMAS_QUERY_PRODUCT = 5,     /* of queries a and b */
+    GELVOMAS_QUERY_UNION = 6,       /* of queries a and b */
+    GELVOMAS_QUERY_INTERSECTION = 7 /* of queries a and b */
+};
+
+/* The number of a refusal. In brackets: what its place, its item and its
+   configuration are; one that is not named is 0. */
+enum gelvomas_refusal_number {
+    /* over 10 features, or over 64 attributes (0 for features, 1 for attributes) */
+    GELVOMAS_REFUSED_LIMIT = 1,
+    /* a table's words make no whole forms, or too few or too many (table, 0 to 4) */
+    GELVOMAS_REFUSED_LENGTH = 2,
+    /* unknown kind, unused word not 0, feature not below `features`, operand not
+       lower (expression) */
+    GELVOMAS_REFUSED_EXPRESSION = 3,
+    /* `model` is no expression of table 0 (0) */
+    GELVOMAS_REFUSED_MODEL = 4,
+    /* attribute not below `attributes`, expression not in table 0 (entry) */
+    GELVOMAS_REFUSED_ENTRY = 5,
+    /* expression not in table 0, list past table 1, attribute twice (relation) */
+    GELVOMAS_REFUSED_RELATION = 6,
+    /* unknown kind, unused word not 0, operand not lower, operator over 5, attribute
+       not below `attributes`, expression not in table 0 (comparison) */
+    GELVOMAS_REFUSED_COMPARISON = 7,
+    /* unknown kind, unused word not 0, operand not lower or already taken; relation,
+       comparison or expression not in its table; list past table 1, attribute
+       twice (query) */
+    GELVOMAS_REFUSED_QUERY = 8,
+    /* no operand of any query, and not the last (query) */
+    GELVOMAS_REFUSED_QUERY_LEFT = 9,
+    /* entries left after the last list (first entry left) */
+    GELVOMAS_REFUSED_ENTRY_LEFT = 10,
+    /* `rows` has not 1,024 words; gelvomas_check alone (0) */
+    GELVOMAS_REFUSED_ROWS = 11,
+    /* the model permits no configuration (0) */
+    GELVOMAS_REFUSED_NONE_PERMITTED = 12,
+    /* present at no permitted configuration (relation) */
+    GELVOMAS_REFUSED_RELATION_NOWHERE = 13,
+    /* relation and entry hold together at no permitted configuration (relation;
+       attribute) */
+    GELVOMAS_REFUSED_ENTRY_NOWHERE = 14,
+    /* relation absent (query; relation; configuration) */
+    GELVOMAS_REFUSED_RELATION_ABSENT = 15,
+    /* compared attribute missing (query; attribute; configuration) */
+    GELVOMAS_REFUSED_COMPARED_MISSING = 16,
+    /* projected attribute missing (query; attribute; configuration) */
+    GELVOMAS_REFUSED_PROJECTED_MISSING = 17,
+    /* both operands of a product have it (query; attribute; configuration) */
+    GELVOMAS_REFUSED_PRODUCT_SHARES = 18,
+    /* one operand alone of a union or intersection has it (query; attribute;
+       configuration) */
+    GELVOMAS_REFUSED_UNEQUAL = 19,
+    /* not below 2^features, or not permitted; gelvomas_configure alone (0; 0;
+       configuration as given) */
+    GELVOMAS_REFUSED_CONFIGURATION = 20,
+    /* a table lent for writing is shorter than its source; gelvomas_configure alone
+       (table, 1 to 4) */
+    GELVOMAS_REFUSED_ROOM = 21
+};
+
+/* The two functions that are proved. A table is a pointer to its words and then
+   the number of its words, which may be any number: a length or a word that the
+   checker does not take is refused. A pointer is never NULL, also where the length
+   is 0, and lies as its type asks. What a function writes to, at a pointer without
+   `const`, overlaps no other argument. */
 
 /* Checks the tables of a report. Returns 0 (accepted) or 1 (refused). */
 uint64_t gelvomas_check(
-    uint64_t features,   /* number of features, at most 10 */
-    uint64_t attributes, /* number of attributes (columns), at most 64 */
-    uint64_t model,      /* the feature model: a form of table 0, from 0 */
-    const uint16_t *t0,  /* table 0, expressions: 3 words a form (kind, a, b) */
-    size_t t0_length,    /* its number of words */
-    const uint16_t *t1,  /* table 1, entries: 2 words (attribute, expression) */
-    size_t t1_length,    /* its number of words */
-    const uint16_t *t2,  /* table 2, relations: 2 words (expression, number of entries) */
-    size_t t2_length,    /* its number of words */
-    const uint16_t *t3,  /* table 3, comparisons: 5 words (kind, operator, a, b, c) */
-    size_t t3_length,    /* its number of words */
-    const uint16_t *t4,  /* table 4, queries: 4 words (kind, a, b, c) */
-    size_t t4_length,    /* its number of words */
-    uint64_t *rows,      /* accepted: all words are written, and are then the column rows.
-                            Attribute a is in the report at configuration c where bit c % 64
-                            of rows[16 * a + c / 64] is 1. Refused: no word is changed. */
-    size_t rows_length,  /* the number of words at `rows`; any but GELVOMAS_ROWS is refused */
-    uint64_t refusal[4]  /* refused: number, place, item and configuration of the refusal.
-                            Accepted: no word is changed. */
+    uint64_t features,           /* number of features, at most 10 */
+    uint64_t attributes,         /* number of attributes (columns), at most 64 */
+    uint64_t model,              /* the feature model: an expression's number, from 0 */
+    const uint16_t *expressions, /* table 0, 3 words a form: kind, a, b */
+    size_t expressions_length,   /* its number of words */
+    const uint16_t *entries,     /* table 1, 2 words a form: attribute, expression */
+    size_t entries_length,       /* its number of words */
+    const uint16_t *relations,   /* table 2, 2 words a form: expression, number of entries */
+    size_t relations_length,     /* its number of words */
+    const uint16_t *comparisons, /* table 3, 5 words a form: kind, operator, a, b, c */
+    size_t comparisons_length,   /* its number of words */
+    const uint16_t *queries,     /* table 4, 4 words a form: kind, a, b, c */
+    size_t queries_length,       /* its number of words */
+    uint64_t *rows,              /* accepted: all words are written, and are then the column
+                                    rows. Attribute a is in the report at configuration c
+                                    where bit c % 64 of rows[16 * a + c / 64] is 1.
+                                    Refused: no word is changed. */
+    size_t rows_length,          /* the number of words at `rows`; any but GELVOMAS_ROWS is
+                                    refused */
+    uint64_t refusal[4]          /* refused: number, place, item and configuration of the
+                                    refusal. Accepted: no word is changed. */
 );
 
 /* Configures the report of these tables at one configuration. Returns 0 (written)
@@ -55,33 +183,162 @@ uint64_t gelvomas_check(
    expression true (1 0 0). gelvomas_check accepts these tables, and their columns
    at configuration 0 are those of the given report at the configuration. */
 uint64_t gelvomas_configure(
-    uint64_t features,      /* number of features, at most 10 */
-    uint64_t attributes,    /* number of attributes (columns), at most 64 */
-    uint64_t model,         /* the feature model: a form of table 0, from 0 */
-    const uint16_t *t0,     /* table 0, as for gelvomas_check */
-    size_t t0_length,       /* its number of words */
-    const uint16_t *t1,     /* table 1 */
-    size_t t1_length,       /* its number of words */
-    const uint16_t *t2,     /* table 2 */
-    size_t t2_length,       /* its number of words */
-    const uint16_t *t3,     /* table 3 */
-    size_t t3_length,       /* its number of words */
-    const uint16_t *t4,     /* table 4 */
-    size_t t4_length,       /* its number of words */
-    uint64_t configuration, /* bit i says whether feature i is on; one that is not permitted,
-                               or that is 2^features or more, is refused */
-    uint16_t *o1,           /* written: the new table 1 (2 words a form), from the first word on.
-                               The words after it are not changed. Refused: no word is changed. */
-    size_t o1_length,       /* the number of words at `o1`; fewer than t1_length are refused */
-    uint16_t *o2,           /* the same for table 2 (2 words a form) */
-    size_t o2_length,       /* the number of words at `o2`; fewer than t2_length are refused */
-    uint16_t *o3,           /* the same for table 3 (5 words a form) */
-    size_t o3_length,       /* the number of words at `o3`; fewer than t3_length are refused */
-    uint16_t *o4,           /* the same for table 4 (4 words a form) */
-    size_t o4_length,       /* the number of words at `o4`; fewer than t4_length are refused */
-    uint64_t answer[4]      /* written: the number of forms in the new tables 1, 2, 3 and 4.
-                               Refused: number, place, item and configuration of the refusal. */
+    uint64_t features,             /* the report, as for gelvomas_check */
+    uint64_t attributes,
+    uint64_t model,
+    const uint16_t *expressions,
+    size_t expressions_length,
+    const uint16_t *entries,
+    size_t entries_length,
+    const uint16_t *relations,
+    size_t relations_length,
+    const uint16_t *comparisons,
+    size_t comparisons_length,
+    const uint16_t *queries,
+    size_t queries_length,
+    uint64_t configuration,        /* bit i says whether feature i is on; one that is not
+                                      permitted, or that is 2^features or more, is refused */
+    uint16_t *new_entries,         /* written: the new table 1, from the first word on. The
+                                      words after it are not changed. Refused: no word is
+                                      changed. */
+    size_t new_entries_length,     /* the number of words there; fewer than entries_length are
+                                      refused */
+    uint16_t *new_relations,       /* the same for table 2 */
+    size_t new_relations_length,   /* at least relations_length */
+    uint16_t *new_comparisons,     /* the same for table 3 */
+    size_t new_comparisons_length, /* at least comparisons_length */
+    uint16_t *new_queries,         /* the same for table 4 */
+    size_t new_queries_length,     /* at least queries_length */
+    uint64_t answer[4]             /* written: the number of forms in the new tables 1, 2, 3
+                                      and 4. Refused: number, place, item and configuration of
+                                      the refusal. */
 );
+
+/* The same two with structs. Here the pointer of a table may be NULL where its
+   length is 0, so a struct that is set to 0 holds tables without words. */
+
+/* A report: its head, and tables 0 to 4 with their numbers of words. */
+struct gelvomas_tables {
+    uint64_t features;
+    uint64_t attributes;
+    uint64_t model;
+    const uint16_t *expressions;
+    size_t expressions_length;
+    const uint16_t *entries;
+    size_t entries_length;
+    const uint16_t *relations;
+    size_t relations_length;
+    const uint16_t *comparisons;
+    size_t comparisons_length;
+    const uint16_t *queries;
+    size_t queries_length;
+};
+
+/* Tables 1 to 4 lent for writing, with their numbers of words. */
+struct gelvomas_lent {
+    uint16_t *entries;
+    size_t entries_length;
+    uint16_t *relations;
+    size_t relations_length;
+    uint16_t *comparisons;
+    size_t comparisons_length;
+    uint16_t *queries;
+    size_t queries_length;
+};
+
+/* Why a report is refused; enum gelvomas_refusal_number says what each field is. */
+struct gelvomas_refusal {
+    uint64_t number;
+    uint64_t place;
+    uint64_t item;
+    uint64_t configuration;
+};
+
+/* How many forms (not words) were written to tables 1 to 4. */
+struct gelvomas_counts {
+    uint64_t entries;
+    uint64_t relations;
+    uint64_t comparisons;
+    uint64_t queries;
+};
+
+/* What the two functions are given for a table without words, in the place of a
+   pointer that may be NULL. It is neither read nor written. */
+static inline const uint16_t *gelvomas_words(const uint16_t *table, size_t length)
+{
+    static const uint16_t none = 0;
+    return length == 0 ? &none : table;
+}
+
+static inline uint16_t *gelvomas_lent_words(uint16_t *table, size_t length)
+{
+    static uint16_t none = 0;
+    return length == 0 ? &none : table;
+}
+
+static inline void gelvomas_set_refusal(struct gelvomas_refusal *refusal, const uint64_t words[4])
+{
+    refusal->number = words[0];
+    refusal->place = words[1];
+    refusal->item = words[2];
+    refusal->configuration = words[3];
+}
+
+/* gelvomas_check. Returns 0 (accepted): `rows` is written, `refusal` is not. Or 1
+   (refused): `refusal` is written, `rows` is not. */
+static inline int gelvomas_check_tables(
+    const struct gelvomas_tables *tables,
+    uint64_t rows[GELVOMAS_ROWS],
+    struct gelvomas_refusal *refusal)
+{
+    uint64_t words[4] = {0, 0, 0, 0};
+    if (gelvomas_check(
+            tables->features, tables->attributes, tables->model,
+            gelvomas_words(tables->expressions, tables->expressions_length), tables->expressions_length,
+            gelvomas_words(tables->entries, tables->entries_length), tables->entries_length,
+            gelvomas_words(tables->relations, tables->relations_length), tables->relations_length,
+            gelvomas_words(tables->comparisons, tables->comparisons_length), tables->comparisons_length,
+            gelvomas_words(tables->queries, tables->queries_length), tables->queries_length,
+            rows, GELVOMAS_ROWS, words) == 0) {
+        return 0;
+    }
+    gelvomas_set_refusal(refusal, words);
+    return 1;
+}
+
+/* gelvomas_configure. Returns 0 (written): the tables of `lent` and `counts` are
+   written, `refusal` is not. Or 1 (refused): `refusal` is written, the others are
+   not. */
+static inline int gelvomas_configure_tables(
+    const struct gelvomas_tables *tables,
+    uint64_t configuration,
+    const struct gelvomas_lent *lent,
+    struct gelvomas_counts *counts,
+    struct gelvomas_refusal *refusal)
+{
+    uint64_t words[4] = {0, 0, 0, 0};
+    if (gelvomas_configure(
+            tables->features, tables->attributes, tables->model,
+            gelvomas_words(tables->expressions, tables->expressions_length), tables->expressions_length,
+            gelvomas_words(tables->entries, tables->entries_length), tables->entries_length,
+            gelvomas_words(tables->relations, tables->relations_length), tables->relations_length,
+            gelvomas_words(tables->comparisons, tables->comparisons_length), tables->comparisons_length,
+            gelvomas_words(tables->queries, tables->queries_length), tables->queries_length,
+            configuration,
+            gelvomas_lent_words(lent->entries, lent->entries_length), lent->entries_length,
+            gelvomas_lent_words(lent->relations, lent->relations_length), lent->relations_length,
+            gelvomas_lent_words(lent->comparisons, lent->comparisons_length), lent->comparisons_length,
+            gelvomas_lent_words(lent->queries, lent->queries_length), lent->queries_length,
+            words) == 0) {
+        counts->entries = words[0];
+        counts->relations = words[1];
+        counts->comparisons = words[2];
+        counts->queries = words[3];
+        return 0;
+    }
+    gelvomas_set_refusal(refusal, words);
+    return 1;
+}
 
 #ifdef __cplusplus
 }

@@ -15,8 +15,8 @@ pub fn seed_and_count() -> Option<[u64; 2]> {
     numbers.collect::<Option<Vec<u64>>>()?.try_into().ok()
 }
 
-/// A case of one of the generator's families, in so many of five with raw damage.
-pub fn case(seed: u64, number: u64, damaged_of_5: usize) -> (&'static str, Tables) {
+/// A case of one of the generator's families, one in five with raw damage.
+pub fn case(seed: u64, number: u64) -> (&'static str, Tables) {
     // Seeds far apart, so that runs with neighbouring seeds share no case.
     let seed = seed.wrapping_mul(1_000_003).wrapping_add(number);
     let mut random = Random::new(!seed);
@@ -31,7 +31,7 @@ pub fn case(seed: u64, number: u64, damaged_of_5: usize) -> (&'static str, Table
         (Family::Full, ["full", "full, damaged"]),
     ]);
     let mut tables = generate::of_family(family, seed);
-    let damaged = random.chance(damaged_of_5, 5);
+    let damaged = random.chance(1, 5);
     if damaged {
         damage(&mut random, &mut tables);
     }

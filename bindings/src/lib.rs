@@ -1,8 +1,35 @@
 //! The proved column checker of harbour reports, and configuring, as safe
 //! functions. See README.md, and ../include/gelvomas.h for C.
 
-/// Length of the column rows: 64 rows of 16 words.
+#![no_std]
+
+mod kinds;
+mod refusal;
+
+pub use kinds::{comparison, expression, operator, query};
+pub use refusal::Refusal;
+
+/// The most there may be of each. There is at least one expression and one query;
+/// of the others there may be none.
+pub const MAX_FEATURES: u64 = 10;
+pub const MAX_ATTRIBUTES: u64 = 64;
+pub const MAX_EXPRESSIONS: usize = 256;
+pub const MAX_ENTRIES: usize = 512;
+pub const MAX_RELATIONS: usize = 32;
+pub const MAX_COMPARISONS: usize = 256;
+pub const MAX_QUERIES: usize = 256;
+
+/// The words of one form of each table; see [`Tables`].
+pub const EXPRESSION_WORDS: usize = 3;
+pub const ENTRY_WORDS: usize = 2;
+pub const RELATION_WORDS: usize = 2;
+pub const COMPARISON_WORDS: usize = 5;
+pub const QUERY_WORDS: usize = 4;
+
+/// The words of the column rows, 64 rows of 16 words.
 pub const ROWS: usize = 1024;
+/// The words of one row.
+pub const ROW_WORDS: usize = 16;
 
 /// The head and the words of tables 0 to 4. The words may be anything: what the
 /// checker does not take is refused.
@@ -26,28 +53,8 @@ pub struct Tables<'a> {
     pub queries: &'a [u16],
 }
 
-/// Why a report is refused: the number of the check, and what it names. What
-/// the check does not name is 0.
-#[derive(Clone, Copy, Debug, PartialEq, Eq, Hash, PartialOrd, Ord)]
-pub struct Refusal {
-    pub number: u64,
-    pub place: u64,
-    pub item: u64,
-    pub configuration: u64,
-}
-
-impl From<[u64; 4]> for Refusal {
-    fn from([number, place, item, configuration]: [u64; 4]) -> Refusal {
-        Refusal {
-            number,
-            place,
-            item,
-            configuration,
-        }
-    }
-}
-
-/// Tables 1 to 4 lent for writing. Each must have as many words as its source.
+/// Tables 1 to 4 lent for writing. Each must have at least as many words as its
+/// source.
 #[derive(Debug, PartialEq, Eq)]
 pub struct Lent<'a> {
     /// Table 1.
@@ -73,23 +80,24 @@ pub struct Counts {
     pub queries: u64,
 }
 
-/// The C functions, as ../include/gelvomas.h has them.
+/// The C functions, as ../include/gelvomas.h has them. Only here can rows of another
+/// length than [`ROWS`] be lent, which are refused.
 pub mod ffi {
     extern "C" {
         pub fn gelvomas_check(
             features: u64,
             attributes: u64,
             model: u64,
-            t0: *const u16,
-            t0_length: usize,
-            t1: *const u16,
-            t1_length: usize,
-            t2: *const u16,
-            t2_length: usize,
-            t3: *const u16,
-            t3_length: usize,
-            t4: *const u16,
-            t4_length: usize,
+            expressions: *const u16,
+            expressions_length: usize,
+            entries: *const u16,
+            entries_length: usize,
+            relations: *const u16,
+            relations_length: usize,
+            comparisons: *const u16,
+            comparisons_length: usize,
+            queries: *const u16,
+            queries_length: usize,
             rows: *mut u64,
             rows_length: usize,
             refusal: *mut [u64; 4],
@@ -99,25 +107,25 @@ pub mod ffi {
             features: u64,
             attributes: u64,
             model: u64,
-            t0: *const u16,
-            t0_length: usize,
-            t1: *const u16,
-            t1_length: usize,
-            t2: *const u16,
-            t2_length: usize,
-            t3: *const u16,
-            t3_length: usize,
-            t4: *const u16,
-            t4_length: usize,
+            expressions: *const u16,
+            expressions_length: usize,
+            entries: *const u16,
+            entries_length: usize,
+            relations: *const u16,
+            relations_length: usize,
+            comparisons: *const u16,
+            comparisons_length: usize,
+            queries: *const u16,
+            queries_length: usize,
             configuration: u64,
-            o1: *mut u16,
-            o1_length: usize,
-            o2: *mut u16,
-            o2_length: usize,
-            o3: *mut u16,
-            o3_length: usize,
-            o4: *mut u16,
-            o4_length: usize,
+            new_entries: *mut u16,
+            new_entries_length: usize,
+            new_relations: *mut u16,
+            new_relations_length: usize,
+            new_comparisons: *mut u16,
+            new_comparisons_length: usize,
+            new_queries: *mut u16,
+            new_queries_length: usize,
             answer: *mut [u64; 4],
         ) -> u64;
     }
@@ -125,9 +133,8 @@ pub mod ffi {
 
 /// Checks the report of these tables. Accepted, `rows` holds its column rows:
 /// attribute a is in the report at configuration c where bit c % 64 of word
-/// 16 * a + c / 64 is 1. Refused, no word of `rows` is changed. Rows of another
-/// length than [`ROWS`] are refused.
-pub fn check(tables: &Tables, rows: &mut [u64]) -> Result<(), Refusal> {
+/// 16 * a + c / 64 is 1. Refused, no word of `rows` is changed.
+pub fn check(tables: &Tables, rows: &mut [u64; ROWS]) -> Result<(), Refusal> {
     let mut refusal = [0; 4];
     // The slices are lent for the call, and the lengths are theirs; the function
     // asks nothing else.

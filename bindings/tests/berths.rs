@@ -1,10 +1,10 @@
-//! H1 to H10 of document 01, "Berths to try", but for H3, which is as H2, and
+//! H1 to H10 of docs/FORMAT.md, "Worked examples", except H3 (as H2) and
 //! H4, which is configured (configuring.rs); and the words lent.
 
 mod common;
 
 use common::{refused, H1};
-use gelvomas::{check, Refusal, Tables, ROWS};
+use gelvomas::{check, ffi, Refusal, Tables, ROWS};
 
 /// What the words are before a call.
 const STALE: u64 = 0xABCD_EF01_2345_6789;
@@ -24,6 +24,35 @@ fn expect_rows(tables: &Tables, wanted: &[(usize, u64)]) {
         let at = wanted.iter().find(|(place, _)| *place == index);
         assert_eq!(word, at.map_or(0, |&(_, word)| word), "word {index}");
     }
+}
+
+/// By the C function, which takes rows of any length: refused so, with every word
+/// as it was.
+fn expect_rows_refused(tables: &Tables, length: usize, wanted: Refusal) {
+    let mut rows = vec![STALE; length];
+    let mut refusal = [0; 4];
+    let answer = unsafe {
+        ffi::gelvomas_check(
+            tables.features,
+            tables.attributes,
+            tables.model,
+            tables.expressions.as_ptr(),
+            tables.expressions.len(),
+            tables.entries.as_ptr(),
+            tables.entries.len(),
+            tables.relations.as_ptr(),
+            tables.relations.len(),
+            tables.comparisons.as_ptr(),
+            tables.comparisons.len(),
+            tables.queries.as_ptr(),
+            tables.queries.len(),
+            rows.as_mut_ptr(),
+            rows.len(),
+            &mut refusal,
+        )
+    };
+    assert_eq!((answer, Refusal::from(refusal)), (1, wanted));
+    assert!(rows.iter().all(|&word| word == STALE));
 }
 
 /// H1 without its last two entries, and with these queries.
@@ -99,18 +128,13 @@ fn h10_a_choice_leads_to_empty() {
 #[test]
 fn rows_of_another_length_are_refused() {
     for length in [0, 1, 16, 1023, 1025, 2048, 70_000] {
-        let mut rows = vec![STALE; length];
-        assert_eq!(check(&H1, &mut rows), Err(refused(11, 0, 0, 0)));
-        assert!(rows.iter().all(|&word| word == STALE));
+        expect_rows_refused(&H1, length, refused(11, 0, 0, 0));
     }
 }
 
 #[test]
 fn the_form_is_checked_before_the_rows() {
-    let mut rows = [STALE; 3];
-    let none = check(&Tables::default(), &mut rows);
-    assert_eq!(none, Err(refused(2, 0, 0, 0)));
-    assert_eq!(rows, [STALE; 3]);
+    expect_rows_refused(&Tables::default(), 3, refused(2, 0, 0, 0));
 }
 
 #[test]

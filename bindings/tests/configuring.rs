@@ -1,4 +1,4 @@
-//! H4 of document 01, "Berths to try", checks 20 and 21, the words lent, and what
+//! H4 of docs/FORMAT.md, "Worked examples", checks 20 and 21, the words lent, and what
 //! was written given back to the checker.
 
 mod common;

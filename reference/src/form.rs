@@ -1,6 +1,6 @@
 //! Checks 1 to 10: are the tables sound in form?
 //!
-//! Each function is one row of document 01's table of refusals.
+//! Each function is one row of the table of refusals (docs/FORMAT.md).
 
 use std::ops::Range;
 

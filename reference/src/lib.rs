@@ -1,6 +1,6 @@
-//! An independent implementation of document 01's column checker.
+//! An independent implementation of the column checker of docs/FORMAT.md.
 //!
-//! It is a yardstick: it was written from document 01 alone, in the plainest
+//! It is a yardstick: it was written from the specification, in the plainest
 //! way (every permitted configuration is tried one after another), and the
 //! proved product is compared with it. See README.md.
 
@@ -10,11 +10,9 @@ pub mod expression;
 pub mod file;
 pub mod form;
 pub mod generate;
-pub mod parallel;
 pub mod plain;
 pub mod random;
 pub mod refusal;
-pub mod rows;
 pub mod schema;
 pub mod small;
 pub mod tables;

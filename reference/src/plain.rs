@@ -1,5 +1,5 @@
 //! The plain rules of relational algebra, on the configured report as a tree
-//! under the configured schema (document 01, "Typing rules" and "Configuring").
+//! under the configured schema (docs/FORMAT.md, "Plain rules", "Configuring").
 //!
 //! Used by tests only, to try demand 3. On purpose it shares nothing with
 //! `typing` but the values of the expressions: trees instead of passes, sorted

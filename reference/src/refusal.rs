@@ -1,6 +1,6 @@
 //! The answer of a call that cannot accept what it was given.
 
-/// Document 01: "A refusal returns number, place, item, configuration".
+/// A refusal returns number, place, item and configuration.
 /// Fields that the table of refusals does not name are 0.
 #[derive(Clone, Copy, Debug, PartialEq, Eq, Hash, PartialOrd, Ord)]
 pub struct Refusal {

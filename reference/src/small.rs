@@ -25,7 +25,7 @@ pub enum Case {
     Text(Vec<u8>),
 }
 
-/// H1 of document 01.
+/// H1 of docs/FORMAT.md, "Worked examples".
 pub const H1: &str = "(head 2 3 0)
 (expression 1 0 0)
 (expression 2 0 0)

@@ -1,4 +1,4 @@
-//! The head and the five tables of document 01, "Tables".
+//! The head and the five tables of docs/FORMAT.md, "Tables".
 
 /// Number of words of one form, by table.
 pub const WIDTHS: [usize; 5] = [3, 2, 2, 5, 4];

@@ -1,4 +1,4 @@
-//! H1 to H10 of document 01, "Berths to try".
+//! H1 to H10 of docs/FORMAT.md, "Worked examples".
 
 mod common;
 

@@ -1,4 +1,4 @@
-//! The four "wrong ships" of document 01: the right answer on a case that the
+//! Four wrong programs: the right answer on a case that the
 //! wrong program gets wrong. And some more traps of the same sort.
 
 mod common;

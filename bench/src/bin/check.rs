@@ -21,7 +21,7 @@ fn main() -> ExitCode {
     let mut kinds: BTreeMap<&str, u64> = BTreeMap::new();
     let mut other_lengths = 0;
     for number in 0..count {
-        let (kind, tables) = case(seed, number, 1);
+        let (kind, tables) = case(seed, number);
         let mut random = Random::new(seed ^ number.wrapping_mul(0x9E37_79B9));
         let length = length_of_rows(&mut random);
         // What the words are before both calls: anything.

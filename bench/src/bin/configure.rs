@@ -95,7 +95,7 @@ fn any_tables(random: &mut Random, seed: u64, number: u64) -> (&'static str, Tab
     if random.chance(7, 10) {
         return ("accepted", generate::accepted(random.word()));
     }
-    case(seed, number, 1)
+    case(seed, number)
 }
 
 fn met(tally: &mut Tally, name: &'static str) {

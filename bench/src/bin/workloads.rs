@@ -1,7 +1,7 @@
-//! The time of the whole check at full size, ours and the reference's plain one,
+//! The time of the whole check at full size, ours and the reference's, which goes
 //! configuration by configuration, in one run and in a thread with a stack of
-//! 1 MiB; on three workloads also the reference's of all configurations at once;
-//! and the time of configuring.
+//! 1 MiB; on three workloads also that of all configurations at once
+//! (`bench::parallel`); and the time of configuring.
 
 use std::collections::BTreeMap;
 use std::hint::black_box;
@@ -9,10 +9,11 @@ use std::process::ExitCode;
 use std::thread;
 use std::time::Instant;
 
+use bench::parallel;
 use reference::check::ROWS;
 use reference::generate;
 use reference::random::Random;
-use reference::{expression, parallel, Refusal, Tables};
+use reference::{expression, Refusal, Tables};
 
 const STACK: usize = 1 << 20;
 
@@ -58,7 +59,7 @@ fn run() -> ExitCode {
         let [ours, theirs, parallel] = in_turn(
             TIMES,
             [tables; 3],
-            [Check::Ours, Check::Plain, Check::Parallel],
+            [Check::Ours, Check::Reference, Check::Parallel],
         );
         met &= ours / theirs <= GOAL;
         println!(
@@ -80,7 +81,7 @@ fn run() -> ExitCode {
             println!("a generated case: the answers or the rows differ");
             return ExitCode::FAILURE;
         }
-        let [ours, theirs] = in_turn(FEWER, [&tables; 2], [Check::Ours, Check::Plain]);
+        let [ours, theirs] = in_turn(FEWER, [&tables; 2], [Check::Ours, Check::Reference]);
         let permitted = expression::permitted(&tables).len();
         groups.entry(permitted).or_default().push(ours / theirs);
     }
@@ -190,12 +191,11 @@ fn same_answer(tables: &Tables) -> Option<Result<(), Refusal>> {
     same.then_some(wanted)
 }
 
-/// Whose check is measured: ours, the reference's plain one, or the reference's
-/// of all configurations at once.
+/// Whose check is measured: ours, the reference's, or `bench::parallel`'s.
 #[derive(Clone, Copy)]
 enum Check {
     Ours,
-    Plain,
+    Reference,
     Parallel,
 }
 
@@ -209,7 +209,7 @@ fn in_turn<const N: usize>(count: usize, tables: [&Tables; N], checks: [Check; N
             let start = Instant::now();
             match checks[number] {
                 Check::Ours => drop(black_box(bench::check(tables, black_box(&mut rows)))),
-                Check::Plain => drop(black_box(reference::check(tables, black_box(&mut rows)))),
+                Check::Reference => drop(black_box(reference::check(tables, black_box(&mut rows)))),
                 Check::Parallel => drop(black_box(parallel::check(tables, black_box(&mut rows)))),
             }
             times.push(start.elapsed().as_nanos() as f64 / 1000.0);

@@ -2,22 +2,20 @@
 use Prim.Native.Nat.{ℕ, _+_, _^_, _≤_}
 use mathlib.Core.Path.{_≡_, refl, sym, ap, ap₂, _∙_}
 use mathlib.Core.Bool.{Bool, true, false, cond, not, _&&_, _||_, and-true, and-false}
-use mathlib.Core.List.{List, _++_}
-use native.Mathlib.Omega.{arith}
+use mathlib.Core.List.{List}
 use lib.Dec.{ltb}
 use lib.Bits.{bitAnd, bitOr}
-use lib.ListN.{length, length-append}
+use lib.ListN.{length}
 use Rattle.sets.specs.Lists.{concat}
 use Rattle.sets.specs.Bits.{bit}
-use Rattle.sets.specs.Rows.{rowOf, rowIn, rowJoin, rowIntersect, within}
-use Rattle.sets.proofs.ListLaws.{concat-length}
+use Rattle.sets.specs.Rows.{rowOf, rowJoin, rowIntersect, within, RowsAre}
 use Rattle.sets.proofs.BitLaws.{bit-none, bit-and, bit-or}
-use Rattle.sets.proofs.RowLaws.{rowOf-same, rowOf-row, join-within, intersect-within, minus-within, rowIn-concat}
+use Rattle.sets.proofs.RowLaws.{rowOf-same, rowOf-row, join-within, intersect-within, minus-within, rows-are}
 use Rattle.report.specs.Tables.{Tables, entryCount, relationCount, comparisonCount, queryCount, relationStart}
 use Rattle.report.specs.Typing.{present, relationSet, names, setOf}
 use Rattle.report.specs.Configuring.{written}
-use Rattle.attribute_rows.specs.AttributeRows.{hasRow, relationRow, namedRow, setRow, RowsAre}
-use Rattle.attribute_rows.specs.AttributeRows.{Reads, ListReads, RelationReads, NamedReads, SetReads}
+use Rattle.attribute_rows.specs.AttributeRows.{hasRow, relationRow, namedRow, setRow}
+use Rattle.attribute_rows.specs.AttributeRows.{AttributeReads, ListRowReads, RelationRowReads, NamedReads, SetReads}
 use Rattle.attribute_rows.specs.RowRules.{choiceRow}
 
 -- ---- rows of the configurations of n features
@@ -109,35 +107,29 @@ module _ (T : Tables) (a : ℕ) where
 
 -- ---- rows that were written are those of the forms
 
-module _ (count : ℕ) (f : ℕ → List ℕ) (wide : (k : ℕ) → length (f k) ≡ 16) where
-  pub rows-are : (rest : List ℕ) {rows : List ℕ} → rows ≡ concat count f ++ rest → RowsAre count f rows
-  rows-are rest e = record {
-    room = let l = ap length e ∙ length-append (concat count f) rest in let s = concat-length f 16 count (λ k h. wide k) in omega arith;
-    each = λ k h. ap (λ (s : List ℕ). rowIn 16 s k) e ∙ rowIn-concat 16 count f rest (λ i l. wide i) k h;
-  }
-
 module _ (T : Tables) (a : ℕ) (lent : List ℕ) {rows : List ℕ} where
-  pub relations-are : rows ≡ written (concat (relationCount T) (relationRow T a)) lent → RowsAre (relationCount T) (relationRow T a) rows
-  relations-are = rows-are (relationCount T) (relationRow T a) (relation-wide T a) _
+  pub relations-are : rows ≡ written (concat (relationCount T) (relationRow T a)) lent → RowsAre 16 (relationCount T) (relationRow T a) rows
+  relations-are = rows-are 16 (relationCount T) (relationRow T a) (λ r l. relation-wide T a r) _
 
-  pub named-are : rows ≡ written (concat (comparisonCount T) (namedRow T a)) lent → RowsAre (comparisonCount T) (namedRow T a) rows
-  named-are = rows-are (comparisonCount T) (namedRow T a) (named-wide T a) _
+  pub named-are : rows ≡ written (concat (comparisonCount T) (namedRow T a)) lent → RowsAre 16 (comparisonCount T) (namedRow T a) rows
+  named-are = rows-are 16 (comparisonCount T) (namedRow T a) (λ f l. named-wide T a f) _
 
-  pub sets-are : rows ≡ written (concat (queryCount T) (setRow T a)) lent → RowsAre (queryCount T) (setRow T a) rows
-  sets-are = rows-are (queryCount T) (setRow T a) (set-wide T a) _
+  pub sets-are : rows ≡ written (concat (queryCount T) (setRow T a)) lent → RowsAre 16 (queryCount T) (setRow T a) rows
+  sets-are = rows-are 16 (queryCount T) (setRow T a) (λ q l. set-wide T a q) _
 
 -- ---- what each function reads, of tables that can be read whole
 
-module _ {T : Tables} {conditions t1 t2 t3 t4 : List ℕ} (R : Reads T conditions t1 t2 t3 t4) where
-  pub reads-list : {start count : ℕ} → start + count ≤ entryCount T → ListReads T conditions t1 start count
-  reads-list h = record { filled = R .filled; entries = R .entries; inside = h }
+module _ {T : Tables} {conditions entries relations comparisons queries : List ℕ}
+    (R : AttributeReads T conditions entries relations comparisons queries) where
+  pub reads-list : {start count : ℕ} → start + count ≤ entryCount T → ListRowReads T conditions entries start count
+  reads-list h = record { filled = R .filled; entriesAre = R .entriesAre; inside = h }
 
-  pub reads-relations : RelationReads T conditions t1 t2
-  reads-relations = record { filled = R .filled; entries = R .entries; relations = R .relations }
+  pub reads-relations : RelationRowReads T conditions entries relations
+  reads-relations = record { filled = R .filled; entriesAre = R .entriesAre; relationsAre = R .relationsAre }
 
-  pub reads-named : {full : List ℕ} → full ≡ rowOf 16 (within (T .features) (λ c. true)) → NamedReads T conditions t3 full
-  reads-named e = record { filled = R .filled; comparisons = R .comparisons; whole = e }
+  pub reads-named : {full : List ℕ} → full ≡ rowOf 16 (within (T .features) (λ c. true)) → NamedReads T conditions comparisons full
+  reads-named e = record { filled = R .filled; comparisonsAre = R .comparisonsAre; whole = e }
 
-  pub reads-sets : {relations : List ℕ} {first a : ℕ} → RowsAre (relationCount T) (relationRow T a) relations
-      → first ≡ relationStart (T .relations) (relationCount T) → SetReads T conditions t1 t4 relations first a
-  reads-sets S e = record { filled = R .filled; entries = R .entries; queries = R .queries; related = S; begins = e }
+  pub reads-sets : {relationRows : List ℕ} {first a : ℕ} → RowsAre 16 (relationCount T) (relationRow T a) relationRows
+      → first ≡ relationStart (T .relations) (relationCount T) → SetReads T conditions entries queries relationRows first a
+  reads-sets S e = record { filled = R .filled; entriesAre = R .entriesAre; queriesAre = R .queriesAre; related = S; begins = e }

@@ -5,34 +5,33 @@ use mathlib.Core.List.{List, _++_}
 use native.Mathlib.Omega.{arith}
 use lib.ListN.{length, drop}
 use Rattle.sets.specs.Lists.{concat}
-use Rattle.sets.specs.Rows.{withRow}
+use Rattle.sets.specs.Rows.{withRow, RowsAre}
 use Rattle.sets.proofs.ListLaws.{concat-length}
-use Rattle.sets.proofs.RowLaws.{withRow-more}
+use Rattle.sets.proofs.RowLaws.{rows-are, withRow-more}
 use Rattle.report.specs.Tables.{Tables}
 use Rattle.report.specs.Configuring.{written}
-use Rattle.attribute_rows.specs.AttributeRows.{RowsAre}
-use Rattle.attribute_rows.proofs.AttributeLaws.{rows-are}
 
 -- of `count` rows of attribute a those below k stand over `lent`: for tables that the loop can read, the rows `row` of these
-pub record Filling (Reads : Tables → Type 0) (row : Tables → ℕ → ℕ → List ℕ) (a count : ℕ) (lent rows : List ℕ) (k : ℕ) : Type 0 where
+pub record RowsFilling (Reads : Tables → Type 0) (row : Tables → ℕ → ℕ → List ℕ) (a count : ℕ) (lent rows : List ℕ) (k : ℕ) : Type 0 where
   pub most : k ≤ count
   pub size : length rows ≡ length lent
   pub filled : (T : Tables) → Reads T → rows ≡ concat k (row T a) ++ drop (k * 16) lent
 
 pub filling-none : {Reads : Tables → Type 0} {row : Tables → ℕ → ℕ → List ℕ} {a count : ℕ} {lent : List ℕ}
-    → Filling Reads row a count lent lent 0
+    → RowsFilling Reads row a count lent lent 0
 filling-none = record { most = omega arith; size = refl; filled = λ T R. refl }
 
 module _ {Reads : Tables → Type 0} {row : Tables → ℕ → ℕ → List ℕ} (wide : (T : Tables) (a k : ℕ) → length (row T a k) ≡ 16)
-    {a count : ℕ} {lent rows : List ℕ} {k : ℕ} (S : Filling Reads row a count lent rows k) where
-  pub filling-more : k < count → {new after : List ℕ} → ((T : Tables) → Reads T → RowsAre k (row T a) rows → new ≡ row T a k)
-      → length after ≡ length rows → after ≡ withRow 16 rows k new → Filling Reads row a count lent after (k + 1)
+    {a count : ℕ} {lent rows : List ℕ} {k : ℕ} (S : RowsFilling Reads row a count lent rows k) where
+  pub filling-more : k < count → {new after : List ℕ} → ((T : Tables) → Reads T → RowsAre 16 k (row T a) rows → new ≡ row T a k)
+      → length after ≡ length rows → after ≡ withRow 16 rows k new → RowsFilling Reads row a count lent after (k + 1)
   filling-more h next same stored = record {
     most = omega arith;
     size = same ∙ S .size;
     filled =
         λ T R. stored
-        ∙ ap₂ (λ (l r : List ℕ). withRow 16 l k r) (S .filled T R) (next T R (rows-are k (row T a) (wide T a) (drop (k * 16) lent) (S .filled T R)))
+        ∙ ap₂ (λ (l r : List ℕ). withRow 16 l k r) (S .filled T R)
+        (next T R (rows-are 16 k (row T a) (λ i l. wide T a i) (drop (k * 16) lent) (S .filled T R)))
         ∙ withRow-more 16 (row T a) k lent (λ i l. wide T a i);
   }
 

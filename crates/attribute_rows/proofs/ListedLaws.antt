@@ -19,20 +19,20 @@ use Rattle.report.specs.Tables.{relationCount, relationExpression, relationLeng
 use Rattle.report.specs.Typing.{at, listed, relationSet}
 use Rattle.report.specs.Configuring.{written}
 use Rattle.report.proofs.FormedFacts.{entry-expression, relation-expression, relation-list}
-use Rattle.attribute_rows.specs.AttributeRows.{hasRow, listRow, relationRow, ListReads, ListReadable, RelationReads, RelationReadable}
+use Rattle.attribute_rows.specs.AttributeRows.{hasRow, listRow, relationRow, ListRowReads, ListRowReadable, RelationRowReads, RelationRowReadable}
 use Rattle.attribute_rows.specs.RowRules.{entryRow, EntryRead, RelationAt, SomeRelation}
 use Rattle.attribute_rows.proofs.AttributeLaws.{row-same, relation-wide, has-none, has-where}
-use Rattle.attribute_rows.proofs.FillLaws.{Filling, filling-none, filling-more, filling-all}
+use Rattle.attribute_rows.proofs.FillLaws.{RowsFilling, filling-none, filling-more, filling-all}
 
 -- ---- one entry: what the code found of it (E says which entry of which table)
 
-module _ {conditions t1 : List ℕ} {k : ℕ} (E : EntryRead conditions t1 k) (row : List ℕ) {a t : ℕ} (p : t ≡ entryAttribute t1 k) where
-  pub entry-named : a ≡ t → {x : ℕ} {own all : List ℕ} → x ≡ entryExpression t1 k → own ≡ rowIn 16 conditions x → all ≡ rowJoin 16 row own
-      → all ≡ entryRow conditions t1 a k row
-  entry-named e q load joined = rw (eq-eqb a (entryAttribute t1 k) (e ∙ p)) (joined ∙ ap (rowJoin 16 row) (load ∙ ap (rowIn 16 conditions) q))
+module _ {conditions entries : List ℕ} {k : ℕ} (E : EntryRead conditions entries k) (row : List ℕ) {a t : ℕ} (p : t ≡ entryAttribute entries k) where
+  pub entry-named : a ≡ t → {x : ℕ} {own all : List ℕ} → x ≡ entryExpression entries k → own ≡ rowIn 16 conditions x → all ≡ rowJoin 16 row own
+      → all ≡ entryRow conditions entries a k row
+  entry-named e q load joined = rw (eq-eqb a (entryAttribute entries k) (e ∙ p)) (joined ∙ ap (rowJoin 16 row) (load ∙ ap (rowIn 16 conditions) q))
 
-  pub entry-other : (a ≡ t → ⊥) → row ≡ entryRow conditions t1 a k row
-  entry-other e = rw (ne-eqb a (entryAttribute t1 k) (λ i. e (i ∙ sym p)))
+  pub entry-other : (a ≡ t → ⊥) → row ≡ entryRow conditions entries a k row
+  entry-other e = rw (ne-eqb a (entryAttribute entries k) (λ i. e (i ∙ sym p)))
 
 -- ---- one entry more
 
@@ -63,26 +63,26 @@ module _ (T : Tables) (a : ℕ) (h : ℕ → Bool) (f : ℕ → ℕ) where
 -- ---- the loop over a list
 
 -- of the `count` entries from `start` on the first i are joined
-pub record Listing (conditions t1 : List ℕ) (a start count : ℕ) (row : List ℕ) (i : ℕ) : Type 0 where
+pub record EntriesJoining (conditions entries : List ℕ) (a start count : ℕ) (row : List ℕ) (i : ℕ) : Type 0 where
   pub most : i ≤ count
-  pub joined : (T : Tables) → ListReads T conditions t1 start count → row ≡ listRow T a start i
+  pub joined : (T : Tables) → ListRowReads T conditions entries start count → row ≡ listRow T a start i
 
-pub entry-read : {conditions t1 : List ℕ} {start count : ℕ} → ListReadable conditions t1 start count → (i : ℕ) → i < count
-    → EntryRead conditions t1 (start + i)
-entry-read {conditions} {t1} {start} A i h =
+pub entry-read : {conditions entries : List ℕ} {start count : ℕ} → ListRowReadable conditions entries start count → (i : ℕ) → i < count
+    → EntryRead conditions entries (start + i)
+entry-read {conditions} {entries} {start} A i h =
     let R = A .reads in
     let k : start + i < entryCount (A .tables) = (let l = R .inside in omega arith) in
-    rw (R .entries)
+    rw (R .entriesAre)
     (record { inside = k; rowed = let x = entry-expression (R .filled .formed) (start + i) k in let m = R .filled .room in omega arith })
 
-module _ {conditions t1 : List ℕ} {a start count : ℕ} {row : List ℕ} where
-  pub listing-none : row ≡ rowOf 16 (λ c. false) → Listing conditions t1 a start count row 0
+module _ {conditions entries : List ℕ} {a start count : ℕ} {row : List ℕ} where
+  pub listing-none : row ≡ rowOf 16 (λ c. false) → EntriesJoining conditions entries a start count row 0
   unfolding listed
   listing-none e = record { most = omega arith; joined = λ T R. e ∙ has-none T a }
 
-  module _ {i : ℕ} (S : Listing conditions t1 a start count row i) where
-    pub listing-more : i < count → {after : List ℕ} → after ≡ entryRow conditions t1 a (start + i) row
-        → Listing conditions t1 a start count after (i + 1)
+  module _ {i : ℕ} (S : EntriesJoining conditions entries a start count row i) where
+    pub listing-more : i < count → {after : List ℕ} → after ≡ entryRow conditions entries a (start + i) row
+        → EntriesJoining conditions entries a start count after (i + 1)
     unfolding listed
     listing-more h e = record {
       most = omega arith;
@@ -90,39 +90,40 @@ module _ {conditions t1 : List ℕ} {a start count : ℕ} {row : List ℕ} where
           let k : start + i < entryCount T = (let l = R .inside in omega arith) in
           let x = entryExpression (T .entries) (start + i) in
           let t = entryAttribute (T .entries) (start + i) in
-          e ∙ ap₂ (λ (l r : List ℕ). entryRow conditions l a (start + i) r) (R .entries) (S .joined T R)
+          e ∙ ap₂ (λ (l r : List ℕ). entryRow conditions l a (start + i) r) (R .entriesAre) (S .joined T R)
           ∙ ap (λ (r : List ℕ). cond (eqb a t) (rowJoin 16 (listRow T a start i) r) (listRow T a start i))
           (R .filled .each x (entry-expression (R .filled .formed) (start + i) k))
           ∙ join-entry T a (λ c. at T c x) (λ c. listed T c start i) t ∙ ap (listRow T a start) (sym (add-one i));
     }
 
-    pub listing-all : count ≤ i → (T : Tables) → ListReads T conditions t1 start count → row ≡ listRow T a start count
+    pub listing-all : count ≤ i → (T : Tables) → ListRowReads T conditions entries start count → row ≡ listRow T a start count
     listing-all h T R = let e : i ≡ count = (let l = S .most in omega arith) in S .joined T R ∙ ap (listRow T a start) e
 
 -- ---- one relation
 
-module _ {T : Tables} {conditions t1 t2 : List ℕ} {r start : ℕ} (A : RelationAt T conditions t1 t2 r start) where
-  pub relation-reads : {n : ℕ} → n ≡ relationLength t2 r → ListReads T conditions t1 start n
+module _ {T : Tables} {conditions entries relations : List ℕ} {r start : ℕ} (A : RelationAt T conditions entries relations r start) where
+  pub relation-reads : {n : ℕ} → n ≡ relationLength relations r → ListRowReads T conditions entries start n
   relation-reads e = record {
     filled = A .reads .filled;
-    entries = A .reads .entries;
-    inside = rw (e, A .reads .relations, A .starts) (relation-list (A .reads .filled .formed) r (A .inside) .inside);
+    entriesAre = A .reads .entriesAre;
+    inside = rw (e, A .reads .relationsAre, A .starts) (relation-list (A .reads .filled .formed) r (A .inside) .inside);
   }
 
-  pub relation-rowed : {x : ℕ} → x ≡ relationExpression t2 r → x * 16 + 16 ≤ length conditions
+  pub relation-rowed : {x : ℕ} → x ≡ relationExpression relations r → x * 16 + 16 ≤ length conditions
   relation-rowed e =
       let l = relation-expression (A .reads .filled .formed) r (A .inside) in
       let m = A .reads .filled .room in
-      let s = e ∙ ap (λ (t : List ℕ). relationExpression t r) (A .reads .relations) in
+      let s = e ∙ ap (λ (t : List ℕ). relationExpression t r) (A .reads .relationsAre) in
       omega arith
 
-  pub relation-is : (a : ℕ) {n x : ℕ} {all own row : List ℕ} → n ≡ relationLength t2 r → x ≡ relationExpression t2 r → all ≡ listRow T a start n
+  pub relation-is : (a : ℕ) {n x : ℕ} {all own row : List ℕ} → n ≡ relationLength relations r → x ≡ relationExpression relations r
+      → all ≡ listRow T a start n
       → own ≡ rowIn 16 conditions x → row ≡ rowIntersect 16 all own → row ≡ relationRow T a r
   relation-is a {n} {x} p q list load met =
       let e = relationExpression (T .relations) r in
       met
-      ∙ ap₂ (rowIntersect 16) (list ∙ ap₂ (listRow T a) (A .starts) (p ∙ ap (λ (t : List ℕ). relationLength t r) (A .reads .relations)))
-      (load ∙ ap (rowIn 16 conditions) (q ∙ ap (λ (t : List ℕ). relationExpression t r) (A .reads .relations))
+      ∙ ap₂ (rowIntersect 16) (list ∙ ap₂ (listRow T a) (A .starts) (p ∙ ap (λ (t : List ℕ). relationLength t r) (A .reads .relationsAre)))
+      (load ∙ ap (rowIn 16 conditions) (q ∙ ap (λ (t : List ℕ). relationExpression t r) (A .reads .relationsAre))
       ∙ A .reads .filled .each e (relation-expression (A .reads .filled .formed) r (A .inside)))
       ∙ has-where T a (λ c. at T c e) (λ c. relationSet T c r)
       ∙ ap (λ (t : Bool). hasRow T a (λ c. cond (t && at T c e) (relationSet T c r) 0)) (sym (lt-ltb r (relationCount T) (A .inside)))
@@ -130,35 +131,37 @@ module _ {T : Tables} {conditions t1 t2 : List ℕ} {r start : ℕ} (A : Relatio
 -- ---- the loop over the relations
 
 -- the rows of those below r stand over `lent`, and the list of r starts at `start`
-pub record Related (conditions t1 t2 : List ℕ) (a : ℕ) (lent relations : List ℕ) (r start : ℕ) : Type 0 where
-  pub rows : Filling (λ T. RelationReads T conditions t1 t2) relationRow a (length t2 / 2) lent relations r
-  pub starts : start ≡ relationStart t2 r
+pub record RelationsFilling (conditions entries relations : List ℕ) (a : ℕ) (lent relationRows : List ℕ) (r start : ℕ) : Type 0 where
+  pub rows : RowsFilling (λ T. RelationRowReads T conditions entries relations) relationRow a (length relations / 2) lent relationRows r
+  pub starts : start ≡ relationStart relations r
 
-pub related-none : {conditions t1 t2 : List ℕ} {a : ℕ} {lent : List ℕ} → Related conditions t1 t2 a lent lent 0 0
+pub related-none : {conditions entries relations : List ℕ} {a : ℕ} {lent : List ℕ} → RelationsFilling conditions entries relations a lent lent 0 0
 related-none = record { rows = filling-none; starts = refl }
 
-module _ {conditions t1 t2 : List ℕ} {a : ℕ} {lent relations : List ℕ} {r start : ℕ} (S : Related conditions t1 t2 a lent relations r start) where
-  module _ (h : r < length t2 / 2) where
-    related-at : {T : Tables} → RelationReads T conditions t1 t2 → RelationAt T conditions t1 t2 r start
-    related-at R = record { reads = R; inside = rw (R .relations) at h; starts = rw (R .relations) at (S .starts) }
+module _ {conditions entries relations : List ℕ} {a : ℕ} {lent relationRows : List ℕ} {r start : ℕ}
+    (S : RelationsFilling conditions entries relations a lent relationRows r start) where
+  module _ (h : r < length relations / 2) where
+    related-at : {T : Tables} → RelationRowReads T conditions entries relations → RelationAt T conditions entries relations r start
+    related-at R = record { reads = R; inside = rw (R .relationsAre) at h; starts = rw (R .relationsAre) at (S .starts) }
 
-    pub related-some : RelationReadable conditions t1 t2 lent → SomeRelation conditions t1 t2 r start
+    pub related-some : RelationRowReadable conditions entries relations lent → SomeRelation conditions entries relations r start
     related-some A = record { tables = A .tables; at = related-at (A .reads) }
 
-    module _ {n : ℕ} (e : n ≡ relationLength t2 r) where
-      pub related-small : RelationReadable conditions t1 t2 lent → start + n ≤ 512
+    module _ {n : ℕ} (e : n ≡ relationLength relations r) where
+      pub related-small : RelationRowReadable conditions entries relations lent → start + n ≤ 512
       related-small A =
           let l = relation-reads (related-at (A .reads)) e .inside in
           let m = A .reads .filled .formed .sized1 .fits in
           omega arith
 
-      pub related-more : {row after : List ℕ} → ((T : Tables) → RelationAt T conditions t1 t2 r start → row ≡ relationRow T a r)
-          → length after ≡ length relations → after ≡ withRow 16 relations r row → Related conditions t1 t2 a lent after (r + 1) (start + n)
+      pub related-more : {row after : List ℕ} → ((T : Tables) → RelationAt T conditions entries relations r start → row ≡ relationRow T a r)
+          → length after ≡ length relationRows → after ≡ withRow 16 relationRows r row
+          → RelationsFilling conditions entries relations a lent after (r + 1) (start + n)
       related-more row same stored = record {
         rows = filling-more relation-wide (S .rows) h (λ T R B. row T (related-at R)) same stored;
-        starts = ap₂ _+_ (S .starts) e ∙ ap (relationStart t2) (sym (add-one r));
+        starts = ap₂ _+_ (S .starts) e ∙ ap (relationStart relations) (sym (add-one r));
       }
 
-  pub related-all : length t2 / 2 ≤ r → (T : Tables) → RelationReads T conditions t1 t2
-      → relations ≡ written (concat (relationCount T) (relationRow T a)) lent
-  related-all h T R = filling-all relation-wide (S .rows) h T R (ap (λ (t : List ℕ). length t / 2) (R .relations))
+  pub related-all : length relations / 2 ≤ r → (T : Tables) → RelationRowReads T conditions entries relations
+      → relationRows ≡ written (concat (relationCount T) (relationRow T a)) lent
+  related-all h T R = filling-all relation-wide (S .rows) h T R (ap (λ (t : List ℕ). length t / 2) (R .relationsAre))

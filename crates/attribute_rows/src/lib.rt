@@ -18,40 +18,40 @@ ghost use Rattle.sets.specs.Lists.{concat};
 ghost use Rattle.sets.specs.Rows.{rowOf, rowIn, rowJoin, rowIntersect, rowMinus};
 ghost use Rattle.report.specs.Tables.{Tables, relationCount, comparisonCount, queryCount};
 ghost use Rattle.report.specs.Configuring.{written};
-ghost use Rattle.attribute_rows.specs.AttributeRows.{listRow, relationRow, namedRow, setRow, ListReads, ListReadable};
-ghost use Rattle.attribute_rows.specs.AttributeRows.{RelationReads, RelationReadable, NamedReads, NamedReadable, SetReads, SetReadable};
+ghost use Rattle.attribute_rows.specs.AttributeRows.{listRow, relationRow, namedRow, setRow, ListRowReads, ListRowReadable};
+ghost use Rattle.attribute_rows.specs.AttributeRows.{RelationRowReads, RelationRowReadable, NamedReads, NamedReadable, SetReads, SetReadable};
 ghost use Rattle.attribute_rows.specs.RowRules.{choiceRow, entryRow, EntryRead, RelationAt, SomeRelation, namedStep, NamedRead};
-ghost use Rattle.attribute_rows.specs.RowRules.{setStep, QueryAt, SetRead};
+ghost use Rattle.attribute_rows.specs.RowRules.{setStep, QueryStands, SetRead};
 
 // A row joined with that of entry k, if it names attribute a.
-fn with_entry(t1: &[u16], conditions: &[u64], k: usize, a: usize, r: Row) -> Row
-    requires { ⌜ EntryRead (now conditions) (now t1) k ⌝ }
-    ensures { λ s. ⌜ s .words ≡ entryRow (now (conditions .entry)) (now (t1 .entry)) a k (r .words) ⌝ }
+fn with_entry(entries: &[u16], conditions: &[u64], k: usize, a: usize, r: Row) -> Row
+    requires { ⌜ EntryRead (now conditions) (now entries) k ⌝ }
+    ensures { λ s. ⌜ s .words ≡ entryRow (now (conditions .entry)) (now (entries .entry)) a k (r .words) ⌝ }
 {
-    if a == entry_attribute(t1, k) {
-        let x = entry_expression(t1, k);
+    if a == entry_attribute(entries, k) {
+        let x = entry_expression(entries, k);
         return r.join(Row::load(conditions, x));
     }
     r
 }
 
 // The join of the rows of the entries that name attribute a, of `count` entries from `start` on.
-pub fn list_row(t1: &[u16], conditions: &[u64], start: usize, count: usize, a: usize) -> Row
-    requires { ⌜ ListReadable (now conditions) (now t1) start count ⌝ }
+pub fn list_row(entries: &[u16], conditions: &[u64], start: usize, count: usize, a: usize) -> Row
+    requires { ⌜ ListRowReadable (now conditions) (now entries) start count ⌝ }
     ensures { λ r.
-        ⌜ ((T : Tables) → ListReads T (now (conditions .entry)) (now (t1 .entry)) start count → r .words ≡ listRow T a start count) ⌝ }
+        ⌜ ((T : Tables) → ListRowReads T (now (conditions .entry)) (now (entries .entry)) start count → r .words ≡ listRow T a start count) ⌝ }
 {
     let mut r = Row::empty();
     let mut i = 0;
     while i < count {
-        r = with_entry(t1, conditions, start + i, a, r);
+        r = with_entry(entries, conditions, start + i, a, r);
         i += 1;
     }
     r
 }
 
 // Where `holds` has it the configurations of x, elsewhere those of y.
-pub fn choice_row(holds: Row, x: Row, y: Row) -> Row
+fn choice_row(holds: Row, x: Row, y: Row) -> Row
     ensures { λ r. ⌜ r .words ≡ rowJoin 16 (rowIntersect 16 (x .words) (holds .words)) (rowMinus 16 (y .words) (holds .words)) ⌝ }
 {
     x.intersect(holds).join(y.minus(holds))
@@ -107,16 +107,22 @@ fn named_row(x: Comparison, conditions: &[u64], full: Row, named: &[u64], a: usi
 }
 
 // Fills `named` with the rows of all comparisons.
-pub fn named_rows(t3: &[u16], conditions: &[u64], full: Row, a: usize, named: &mut [u64])
-    requires { ⌜ NamedReadable (now conditions) (now t3) (full .words) (now named) ⌝ }
+pub fn fill_named_rows(
+    comparisons: &[u16],
+    conditions: &[u64],
+    full: Row,
+    a: usize,
+    named: &mut [u64],
+)
+    requires { ⌜ NamedReadable (now conditions) (now comparisons) (full .words) (now named) ⌝ }
     ensures { λ _.
-        ⌜ ((T : Tables) → NamedReads T (now (conditions .entry)) (now (t3 .entry)) (full .words)
+        ⌜ ((T : Tables) → NamedReads T (now (conditions .entry)) (now (comparisons .entry)) (full .words)
         → now (named .exit) ≡ written (concat (comparisonCount T) (namedRow T a)) (now (named .entry))) ⌝ }
 {
-    let count = t3.len() / 5;
+    let count = comparisons.len() / 5;
     let mut f = 0;
     while f < count {
-        let x = comparison_at(t3, f);
+        let x = comparison_at(comparisons, f);
         let r = named_row(x, conditions, full, &*named, a);
         r.store(&mut *named, f);
         f += 1;
@@ -124,33 +130,46 @@ pub fn named_rows(t3: &[u16], conditions: &[u64], full: Row, a: usize, named: &m
 }
 
 // Relation r, whose list starts at `start`: its list where it is present.
-fn relation_row(t1: &[u16], t2: &[u16], conditions: &[u64], r: usize, start: usize, a: usize) -> Row
-    requires { ⌜ SomeRelation (now conditions) (now t1) (now t2) r start ⌝ }
+fn relation_row(
+    entries: &[u16],
+    relations: &[u16],
+    conditions: &[u64],
+    r: usize,
+    start: usize,
+    a: usize,
+) -> Row
+    requires { ⌜ SomeRelation (now conditions) (now entries) (now relations) r start ⌝ }
     ensures { λ s.
-        ⌜ ((T : Tables) → RelationAt T (now (conditions .entry)) (now (t1 .entry)) (now (t2 .entry)) r start
+        ⌜ ((T : Tables) → RelationAt T (now (conditions .entry)) (now (entries .entry)) (now (relations .entry)) r start
         → s .words ≡ relationRow T a r) ⌝ }
 {
-    let count = relation_length(t2, r);
-    let x = relation_expression(t2, r);
-    let listed = list_row(t1, conditions, start, count, a);
+    let count = relation_length(relations, r);
+    let x = relation_expression(relations, r);
+    let listed = list_row(entries, conditions, start, count, a);
     let present = Row::load(conditions, x);
     listed.intersect(present)
 }
 
-// Fills `relations` with the rows of all relations.
-pub fn relation_rows(t1: &[u16], t2: &[u16], conditions: &[u64], a: usize, relations: &mut [u64])
-    requires { ⌜ RelationReadable (now conditions) (now t1) (now t2) (now relations) ⌝ }
+// Fills `relation_rows` with the rows of all relations.
+pub fn fill_relation_rows(
+    entries: &[u16],
+    relations: &[u16],
+    conditions: &[u64],
+    a: usize,
+    relation_rows: &mut [u64],
+)
+    requires { ⌜ RelationRowReadable (now conditions) (now entries) (now relations) (now «relation_rows») ⌝ }
     ensures { λ _.
-        ⌜ ((T : Tables) → RelationReads T (now (conditions .entry)) (now (t1 .entry)) (now (t2 .entry))
-        → now (relations .exit) ≡ written (concat (relationCount T) (relationRow T a)) (now (relations .entry))) ⌝ }
+        ⌜ ((T : Tables) → RelationRowReads T (now (conditions .entry)) (now (entries .entry)) (now (relations .entry))
+        → now («relation_rows» .exit) ≡ written (concat (relationCount T) (relationRow T a)) (now («relation_rows» .entry))) ⌝ }
 {
-    let count = t2.len() / 2;
+    let count = relations.len() / 2;
     let mut start = 0;
     let mut r = 0;
     while r < count {
-        let row = relation_row(t1, t2, conditions, r, start, a);
-        row.store(&mut *relations, r);
-        start += relation_length(t2, r);
+        let row = relation_row(entries, relations, conditions, r, start, a);
+        row.store(&mut *relation_rows, r);
+        start += relation_length(relations, r);
         r += 1;
     }
 }
@@ -158,25 +177,25 @@ pub fn relation_rows(t1: &[u16], t2: &[u16], conditions: &[u64], a: usize, relat
 // The row of a query form, a project's list starting at `start`; `sets` has the rows of lower forms.
 fn set_row(
     x: Query,
-    t1: &[u16],
+    entries: &[u16],
     conditions: &[u64],
-    relations: &[u64],
+    relation_rows: &[u64],
     sets: &[u64],
     start: usize,
     a: usize,
 ) -> Row
-    requires { ⌜ SetRead (now conditions) (now t1) (now relations) (now sets) start x ⌝ }
+    requires { ⌜ SetRead (now conditions) (now entries) (now «relation_rows») (now sets) start x ⌝ }
     ensures { λ r.
-        ⌜ ((T : Tables) (q : ℕ) → QueryAt T q (now (conditions .entry)) (now (t1 .entry)) start x
-        → r .words ≡ setStep T a start (now (conditions .entry)) (now (relations .entry)) (now (sets .entry)) x) ⌝ }
+        ⌜ ((T : Tables) (q : ℕ) → QueryStands T q (now (conditions .entry)) (now (entries .entry)) start x
+        → r .words ≡ setStep T a start (now (conditions .entry)) (now («relation_rows» .entry)) (now (sets .entry)) x) ⌝ }
 {
     match x {
         Query::Malformed => Row::empty(),
         Query::Empty => Row::empty(),
-        Query::Relation(r) => Row::load(relations, r),
+        Query::Relation(r) => Row::load(relation_rows, r),
         Query::Select(_, b) => Row::load(sets, b),
         Query::Project(count, b) => {
-            let listed = list_row(t1, conditions, start, count, a);
+            let listed = list_row(entries, conditions, start, count, a);
             let under = Row::load(sets, b);
             listed.intersect(under)
         }
@@ -188,26 +207,26 @@ fn set_row(
 }
 
 // Fills `sets` with the rows of all query forms; project lists lie from `first` on.
-pub fn set_rows(
-    t1: &[u16],
-    t4: &[u16],
+pub fn fill_set_rows(
+    entries: &[u16],
+    queries: &[u16],
     conditions: &[u64],
-    relations: &[u64],
+    relation_rows: &[u64],
     first: usize,
     a: usize,
     sets: &mut [u64],
 )
-    requires { ⌜ SetReadable (now conditions) (now t1) (now t4) (now relations) first a (now sets) ⌝ }
+    requires { ⌜ SetReadable (now conditions) (now entries) (now queries) (now «relation_rows») first a (now sets) ⌝ }
     ensures { λ _.
-        ⌜ ((T : Tables) → SetReads T (now (conditions .entry)) (now (t1 .entry)) (now (t4 .entry)) (now (relations .entry)) first a
+        ⌜ ((T : Tables) → SetReads T (now (conditions .entry)) (now (entries .entry)) (now (queries .entry)) (now («relation_rows» .entry)) first a
         → now (sets .exit) ≡ written (concat (queryCount T) (setRow T a)) (now (sets .entry))) ⌝ }
 {
-    let count = t4.len() / 4;
+    let count = queries.len() / 4;
     let mut start = first;
     let mut q = 0;
     while q < count {
-        let x = query_at(t4, q);
-        let row = set_row(x, t1, conditions, relations, &*sets, start, a);
+        let x = query_at(queries, q);
+        let row = set_row(x, entries, conditions, relation_rows, &*sets, start, a);
         row.store(&mut *sets, q);
         start += project_length(x);
         q += 1;

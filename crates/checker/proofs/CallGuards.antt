@@ -1,4 +1,4 @@
--- The promises and the theorems of Demands are about something: calls on H1 (document 01, "Berths to try"), by computation.
+-- The promises and the theorems of Demands are about something: calls on H1 (docs/FORMAT.md, "Worked examples"), by computation.
 use Prim.Native.Nat.{ℕ}
 use mathlib.Core.Path.{_≡_, refl, sym, ap}
 use mathlib.Core.Bool.{true}
@@ -13,8 +13,8 @@ use Rattle.report.specs.declared.Verdict.{Verdict}
 use Rattle.report.proofs.ExamplesHold.{computed}
 use Rattle.report.proofs.Guards.{h1-accepted}
 use Rattle.checker.specs.declared.Configured.{Configured}
-use Rattle.checker.specs.Calls.{Checks, Rooms, Configures}
-use Rattle.checker.proofs.Demands.{FoundWritten, found-written}
+use Rattle.checker.specs.Promises.{Checks, Rooms, Configures, FoundWritten}
+use Rattle.checker.proofs.Demands.{found-written}
 
 -- tables lent with other words in them, table 1 with two words more than its source
 abbrev lent1 : List ℕ
@@ -56,4 +56,4 @@ h4-rooms = record { entries = lit≤ tt; relations = lit≤ tt; comparisons = li
 pub h4-found : FoundWritten (h1 2) 0 (columnRows (h1 2)) lent1 lent2 [] lent4 (Configured.Written 3 1 0 2) (0 ∷ 0 ∷ 1 ∷ 0 ∷ 0 ∷ 0 ∷ replicate 6 9)
     (0 ∷ 2 ∷ []) [] (1 ∷ 0 ∷ 0 ∷ 0 ∷ 3 ∷ 1 ∷ 0 ∷ 0 ∷ [])
 h4-found =
-    found-written (h1 2) (replicate 1024 9) (columnRows (h1 2)) h1-checks 0 h4-permitted lent1 lent2 [] lent4 h4-rooms _ _ _ _ _ h4-configures
+    found-written (h1 2) 0 lent1 lent2 [] lent4 _ _ _ _ _ h4-configures (replicate 1024 9) (columnRows (h1 2)) h1-checks h4-permitted h4-rooms

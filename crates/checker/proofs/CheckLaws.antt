@@ -6,6 +6,7 @@ use mathlib.Core.List.{List, _++_, append-nil}
 use native.Mathlib.Nat.{le-refl, le-max-left, le-max-right, max-le}
 use native.Mathlib.Omega.{arith}
 use borrow.Author.Tests.{eq-eqb, ne-eqb}
+use lib.Dec.{eqb}
 use lib.ListN.{length, drop, replicate, length-replicate}
 use lib.Seq.{paste, take-all, drop-length}
 use Rattle.sets.specs.Rows.{rowOf, rowIn, rowIsEmpty, within}
@@ -14,16 +15,19 @@ use Rattle.report.specs.Verdicts.{refusal, refuseIf, orElse, after}
 use Rattle.report.specs.FormChecks.{formCheck}
 use Rattle.report.specs.ColumnRows.{columnRows}
 use Rattle.report.specs.Configuring.{written}
-use Rattle.report.specs.Checks.{Call, rowsLentCheck, modelCheck, schemaCheck, typingCheck, answer, rowsAfter}
+use Rattle.report.specs.Formed.{Formed}
+use Rattle.report.specs.Checks.{modelCheck, schemaCheck, typingCheck}
+use Rattle.report.specs.Calls.{answer, checking}
 use Rattle.report.specs.declared.Refusal.{Refusal}
 use Rattle.report.specs.declared.Verdict.{Verdict}
-use Rattle.report.proofs.Formed.{Formed}
 use Rattle.report.proofs.VerdictLaws.{accepted-not-refused, or-else-accepted, then-next, accepted-if}
-use Rattle.conditions.specs.Conditions.{expressionRows, Reads}
+use Rattle.report.proofs.FirstFault.{first-none, first-one, answer-run}
+use Rattle.conditions.specs.Conditions.{expressionRows, SchemaReads}
 use Rattle.conditions.proofs.FillLaws.{filled}
 use Rattle.conditions.proofs.PermittedLaws.{model-check, reads}
 use Rattle.forms.proofs.Chain.{stops, goes-on}
 use Rattle.typing.specs.Typed.{TypingReads, Checked}
+use Rattle.checker.specs.Promises.{Checks}
 use Rattle.checker.specs.Steps.{meaningCheck, Meant}
 
 -- a list with as many words of another over it is that other
@@ -34,51 +38,46 @@ paste-all d s e =
 
 -- ---- the answer
 
-chain : (f l m s t : Verdict) → orElse (orElse f (orElse l (orElse m s))) (orElse t Verdict.Accepted) ≡ orElse f (orElse l (orElse m (orElse s t)))
-chain Verdict.Accepted Verdict.Accepted Verdict.Accepted Verdict.Accepted t = or-else-accepted t
-chain Verdict.Accepted Verdict.Accepted Verdict.Accepted (Verdict.Refused r) t = refl
-chain Verdict.Accepted Verdict.Accepted (Verdict.Refused r) s t = refl
-chain Verdict.Accepted (Verdict.Refused r) m s t = refl
-chain (Verdict.Refused r) l m s t = refl
+-- 11
+abbrev rowsCheck : ℕ → Verdict
+rowsCheck room = refuseIf (not (eqb room 1024)) (refusal 11 0 0 0)
 
 module _ (T : Tables) where
   -- the parts of the answer, in the order in which they run
-  pub answer-parts : (room : ℕ) → answer T (Call.check room) ≡ orElse (formCheck T) (orElse (rowsLentCheck room) (meaningCheck T))
-  unfolding answer
-  answer-parts room = chain (formCheck T) (rowsLentCheck room) (modelCheck T) (schemaCheck T) (typingCheck T)
+  pub answer-parts : (room : ℕ) → answer T (checking room) ≡ orElse (formCheck T) (orElse (rowsCheck room) (meaningCheck T))
+  answer-parts room =
+      answer-run T (checking room)
+      ∙ ap₂ (λ (v w : Verdict). orElse (formCheck T) (orElse v (orElse (modelCheck T) (orElse (schemaCheck T) w)))) (first-one _ _)
+      (ap (orElse (typingCheck T)) first-none ∙ or-else-accepted (typingCheck T))
 
-  -- what is to be shown at a return
-  abbrev Returned : Verdict → List ℕ → List ℕ → Type 0
-  Returned v lent rows = (v ≡ answer T (Call.check (length lent))) × (rows ≡ rowsAfter T lent)
-
-  refused : {v : Verdict} {r : Refusal} (lent : List ℕ) → v ≡ answer T (Call.check (length lent)) → v ≡ Verdict.Refused r → Returned v lent lent
+  refused : {v : Verdict} {r : Refusal} (lent : List ℕ) → v ≡ answer T (checking (length lent)) → v ≡ Verdict.Refused r → Checks T lent v lent
   refused lent e f = (e, ap (λ (x : Verdict). after x (columnRows T) lent) (sym f ∙ e))
 
   module _ {v : Verdict} (lent : List ℕ) (forms : v ≡ formCheck T) where
     -- a form check refuses
-    pub forms-refuse : {r : Refusal} → v ≡ Verdict.Refused r → Returned v lent lent
+    pub forms-refuse : {r : Refusal} → v ≡ Verdict.Refused r → Checks T lent v lent
     forms-refuse f = refused lent (stops _ forms f ∙ sym (answer-parts (length lent))) f
 
     module _ (passed : v ≡ Verdict.Accepted) where
       -- 11
-      pub rows-refuse : {w : Verdict} → w ≡ Verdict.Refused (refusal 11 0 0 0) → (length lent ≡ 1024 → ⊥) → Returned w lent lent
+      pub rows-refuse : {w : Verdict} → w ≡ Verdict.Refused (refusal 11 0 0 0) → (length lent ≡ 1024 → ⊥) → Checks T lent w lent
       rows-refuse {w} e n =
-          let own : w ≡ rowsLentCheck (length lent) = e ∙ ap (λ (b : Bool). refuseIf (not b) (refusal 11 0 0 0)) (sym (ne-eqb (length lent) 1024 n)) in
+          let own : w ≡ rowsCheck (length lent) = e ∙ ap (λ (b : Bool). refuseIf (not b) (refusal 11 0 0 0)) (sym (ne-eqb (length lent) 1024 n)) in
           refused lent (goes-on forms passed (stops _ own e) ∙ sym (answer-parts (length lent))) e
 
       module _ (room : length lent ≡ 1024) {w : Verdict} {columns : List ℕ} (M : Meant T w columns) where
-        answers : w ≡ answer T (Call.check (length lent))
+        answers : w ≡ answer T (checking (length lent))
         answers =
             goes-on forms passed
             (M .answers ∙ sym (then-next (accepted-if _ (ap not (eq-eqb (length lent) 1024 room)))))
             ∙ sym (answer-parts (length lent))
 
         -- 12 to 19
-        pub meaning-refuses : {r : Refusal} → w ≡ Verdict.Refused r → Returned w lent lent
+        pub meaning-refuses : {r : Refusal} → w ≡ Verdict.Refused r → Checks T lent w lent
         meaning-refuses = refused lent answers
 
         -- all passed
-        pub accepts : w ≡ Verdict.Accepted → {rows : List ℕ} → rows ≡ columns → Returned Verdict.Accepted lent rows
+        pub accepts : w ≡ Verdict.Accepted → {rows : List ℕ} → rows ≡ columns → Checks T lent Verdict.Accepted rows
         accepts f e = (sym f ∙ answers, e ∙ M .shows f ∙ ap (λ (x : Verdict). after x (columnRows T) lent) (sym f ∙ answers))
 
 -- ---- 12 to 19
@@ -86,11 +85,11 @@ module _ (T : Tables) where
 -- the expression rows, filled into words enough, and the row of the model
 pub begun : {T : Tables} → Formed T → {words : ℕ} → 4096 ≤ words → {rows permits : List ℕ}
     → rows ≡ written (expressionRows (T .features) (T .expressions)) (replicate words 0) → permits ≡ rowIn 16 rows (T .model)
-    → Reads T rows permits (T .entries) (T .relations)
+    → SchemaReads T rows permits (T .entries) (T .relations)
 begun F {words} enough fills load =
     reads (filled F (replicate words 0) (let s = F .sized0 .fits in omega (arith, length-replicate {A = ℕ} words 0)) fills) load
 
-module _ {T : Tables} {rows permits : List ℕ} (R : Reads T rows permits (T .entries) (T .relations)) where
+module _ {T : Tables} {rows permits : List ℕ} (R : SchemaReads T rows permits (T .entries) (T .relations)) where
   -- what the typing check reads; no item is over the larger of the two numbers
   pub typing-reads : {full : List ℕ} {first count : ℕ} → full ≡ rowOf 16 (within (T .features) (λ c. true))
       → first ≡ relationStart (T .relations) (relationCount T) → count ≡ max (T .attributes) (relationCount T)
@@ -98,7 +97,15 @@ module _ {T : Tables} {rows permits : List ℕ} (R : Reads T rows permits (T .en
   typing-reads whole begins most =
       record {
         reads =
-            record { filled = R .filled; whole = whole; entries = refl; relations = refl; comparisons = refl; queries = refl; begins = begins };
+            record {
+              filled = R .filled;
+              whole = whole;
+              entriesAre = refl;
+              relationsAre = refl;
+              comparisonsAre = refl;
+              queriesAre = refl;
+              begins = begins;
+            };
         permitting = R .permitting;
         enough =
             rw most

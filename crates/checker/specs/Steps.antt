@@ -4,7 +4,7 @@ use mathlib.Core.Path.{_≡_}
 use mathlib.Core.Bool.{true}
 use mathlib.Core.List.{List}
 use lib.ListN.{replicate}
-use Rattle.sets.specs.Rows.{rowOf}
+use Rattle.sets.specs.Rows.{rowOf, RowsAre}
 use Rattle.report.specs.Tables.{Tables, relationCount, queryCount, relationStart}
 use Rattle.report.specs.Expressions.{permitted}
 use Rattle.report.specs.Typing.{reached}
@@ -12,11 +12,10 @@ use Rattle.report.specs.ColumnRows.{columnRows}
 use Rattle.report.specs.Verdicts.{orElse}
 use Rattle.report.specs.FormChecks.{formCheck}
 use Rattle.report.specs.Checks.{modelCheck, schemaCheck, typingCheck}
+use Rattle.report.specs.Formed.{Formed}
 use Rattle.report.specs.declared.Verdict.{Verdict}
-use Rattle.report.proofs.Formed.{Formed}
-use Rattle.attribute_rows.specs.AttributeRows.{RowsAre}
 use Rattle.kept_lists.specs.Keeping.{AtReads}
-use Rattle.checker.specs.Calls.{Rooms}
+use Rattle.checker.specs.Promises.{Rooms}
 
 -- 12 to 19: what a call runs after the form checks (and, in checking, after 11), up to typing
 abbrev pub meaningCheck : Tables → Verdict
@@ -27,22 +26,22 @@ abbrev pub reportCheck : Tables → Verdict
 reportCheck T = orElse (formCheck T) (meaningCheck T)
 
 -- tables that have passed the form checks, of which the number of features, the model and table 0 are read
-pub record ModelReads (T : Tables) (n model : ℕ) (t0 : List ℕ) : Type 0 where
+pub record ModelReads (T : Tables) (n model : ℕ) (expressions : List ℕ) : Type 0 where
   pub formed : Formed T
   pub features : n ≡ T .features
   pub number : model ≡ T .model
-  pub expressions : t0 ≡ T .expressions
+  pub expressionsAre : expressions ≡ T .expressions
 
-pub record ModelReadable (n model : ℕ) (t0 : List ℕ) : Type 0 where
+pub record ModelReadable (n model : ℕ) (expressions : List ℕ) : Type 0 where
   pub tables : Tables
-  pub reads : ModelReads tables n model t0
+  pub reads : ModelReads tables n model expressions
 
 -- tables 1 to 4
-pub record SourceReads (T : Tables) (t1 t2 t3 t4 : List ℕ) : Type 0 where
-  pub entries : t1 ≡ T .entries
-  pub relations : t2 ≡ T .relations
-  pub comparisons : t3 ≡ T .comparisons
-  pub queries : t4 ≡ T .queries
+pub record SourceReads (T : Tables) (entries relations comparisons queries : List ℕ) : Type 0 where
+  pub entriesAre : entries ≡ T .entries
+  pub relationsAre : relations ≡ T .relations
+  pub comparisonsAre : comparisons ≡ T .comparisons
+  pub queriesAre : queries ≡ T .queries
 
 -- tables that have passed the form checks, and words for the column rows, all 0
 pub record MeaningReads (T : Tables) (columns : List ℕ) : Type 0 where
@@ -57,24 +56,26 @@ pub record Meant (T : Tables) (answer : Verdict) (columns : List ℕ) : Type 0 w
 -- ---- what the writing of configured tables reads
 
 -- tables that have passed the checks, and a permitted configuration
-pub record ConfigureReads (T : Tables) (n model : ℕ) (t0 t1 t2 t3 t4 : List ℕ) (c : ℕ) : Type 0 where
-  pub head : ModelReads T n model t0
-  pub source : SourceReads T t1 t2 t3 t4
+pub record ConfigureReads (T : Tables) (n model : ℕ) (expressions entries relations comparisons queries : List ℕ) (c : ℕ) : Type 0 where
+  pub head : ModelReads T n model expressions
+  pub source : SourceReads T entries relations comparisons queries
   pub permits : permitted T c ≡ true
 
-pub record ConfigureWritable (n model : ℕ) (t0 t1 t2 t3 t4 : List ℕ) (c : ℕ) (o1 o2 o3 o4 : List ℕ) : Type 0 where
+pub record ConfigureWritable (n model : ℕ) (expressions entries relations comparisons queries : List ℕ) (c : ℕ)
+    (newEntries newRelations newComparisons newQueries : List ℕ) : Type 0 where
   pub tables : Tables
-  pub reads : ConfigureReads tables n model t0 t1 t2 t3 t4 c
-  pub rooms : Rooms tables o1 o2 o3 o4
+  pub reads : ConfigureReads tables n model expressions entries relations comparisons queries c
+  pub rooms : Rooms tables newEntries newRelations newComparisons newQueries
 
 -- their expression rows, the configurations that reach each query form, and where the lists of the project forms start
-pub record KeptReads (T : Tables) (conditions reach t1 t2 t3 t4 : List ℕ) (first c : ℕ) : Type 0 where
+pub record KeptReads (T : Tables) (conditions reach entries relations comparisons queries : List ℕ) (first c : ℕ) : Type 0 where
   pub reads : AtReads T conditions c
-  pub reaching : RowsAre (queryCount T) (λ q. rowOf 16 (λ d. reached T d q)) reach
-  pub source : SourceReads T t1 t2 t3 t4
+  pub reaching : RowsAre 16 (queryCount T) (λ q. rowOf 16 (λ d. reached T d q)) reach
+  pub source : SourceReads T entries relations comparisons queries
   pub begins : first ≡ relationStart (T .relations) (relationCount T)
 
-pub record KeptWritable (conditions reach t1 t2 t3 t4 : List ℕ) (first c : ℕ) (o1 o2 o3 o4 : List ℕ) : Type 0 where
+pub record KeptWritable (conditions reach entries relations comparisons queries : List ℕ) (first c : ℕ)
+    (newEntries newRelations newComparisons newQueries : List ℕ) : Type 0 where
   pub tables : Tables
-  pub reads : KeptReads tables conditions reach t1 t2 t3 t4 first c
-  pub rooms : Rooms tables o1 o2 o3 o4
+  pub reads : KeptReads tables conditions reach entries relations comparisons queries first c
+  pub rooms : Rooms tables newEntries newRelations newComparisons newQueries

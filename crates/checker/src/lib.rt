@@ -9,6 +9,7 @@ use forms::check_forms;
 use forms::relations_end;
 use report::Refusal;
 use report::Verdict;
+use sets::AttributeSet;
 use sets::Row;
 use table_checks::refuse;
 use typing::check_typing;
@@ -16,8 +17,11 @@ ghost use mathlib.Core.Path.{_≡_};
 ghost use Prim.Native.Nat.{max};
 ghost use lib.ListN.{length};
 ghost use Rattle.report.specs.Tables.{tablesOf};
-ghost use Rattle.report.specs.Checks.{Call, answer, rowsAfter};
+ghost use Rattle.checker.specs.Promises.{Checks};
 ghost use Rattle.checker.specs.Steps.{MeaningReads, Meant};
+
+// The words of the column rows: a row for each attribute.
+pub const COLUMN_WORDS: usize = AttributeSet::MOST_ATTRIBUTES * Row::WORDS;
 
 // What configuring answers: how many forms tables 1 to 4 have, or the refusal.
 pub enum Configured {
@@ -53,38 +57,39 @@ fn check_meaning(
     n: usize,
     m: usize,
     model: usize,
-    t0: &[u16],
-    t1: &[u16],
-    t2: &[u16],
-    t3: &[u16],
-    t4: &[u16],
+    expressions: &[u16],
+    entries: &[u16],
+    relations: &[u16],
+    comparisons: &[u16],
+    queries: &[u16],
     columns: &mut [u64],
 ) -> Verdict
-    requires { ⌜ MeaningReads (tablesOf n m model (now t0) (now t1) (now t2) (now t3) (now t4)) (now columns) ⌝ }
+    requires { ⌜ MeaningReads (tablesOf n m model (now expressions) (now entries) (now relations) (now comparisons) (now queries)) (now columns) ⌝ }
     ensures { λ v.
-        ⌜ Meant (tablesOf n m model (now (t0 .entry)) (now (t1 .entry)) (now (t2 .entry)) (now (t3 .entry)) (now (t4 .entry))) v (now (columns .exit)) ⌝ }
+        ⌜ Meant (tablesOf n m model (now (expressions .entry)) (now (entries .entry)) (now (relations .entry)) (now (comparisons .entry))
+        (now (queries .entry))) v (now (columns .exit)) ⌝ }
 {
-    let mut conditions = [0; 4096];
-    fill_rows(n, t0, &mut conditions);
-    let permits = Row::load(&conditions, model);
-    let permitted = check_permitted(permits);
-    if let Verdict::Refused(_) = permitted {
-        return permitted;
+    let mut conditions = [0; AttributeSet::MOST_EXPRESSIONS * Row::WORDS];
+    fill_rows(n, expressions, &mut conditions);
+    let permitted = Row::load(&conditions, model);
+    let model_verdict = check_permitted(permitted);
+    if let Verdict::Refused(_) = model_verdict {
+        return model_verdict;
     }
-    let schema = check_schema(&conditions, permits, t1, t2);
+    let schema = check_schema(&conditions, permitted, entries, relations);
     if let Verdict::Refused(_) = schema {
         return schema;
     }
     check_typing(
-        t1,
-        t2,
-        t3,
-        t4,
+        entries,
+        relations,
+        comparisons,
+        queries,
         &conditions,
         Row::full(n),
-        permits,
-        relations_end(t2),
-        larger(m, t2.len() / 2),
+        permitted,
+        relations_end(relations),
+        larger(m, relations.len() / 2),
         columns,
     )
 }
@@ -94,33 +99,49 @@ pub fn check(
     features: u64,
     attributes: u64,
     model: u64,
-    t0: &[u16],
-    t1: &[u16],
-    t2: &[u16],
-    t3: &[u16],
-    t4: &[u16],
+    expressions: &[u16],
+    entries: &[u16],
+    relations: &[u16],
+    comparisons: &[u16],
+    queries: &[u16],
     rows: &mut [u64],
 ) -> Verdict
     ensures { λ r.
-        ⌜ r ≡ answer (tablesOf features attributes model (now (t0 .entry)) (now (t1 .entry)) (now (t2 .entry)) (now (t3 .entry)) (now (t4 .entry)))
-        (Call.check (length (now (rows .entry)))) ⌝ }
-    ensures { λ _.
-        ⌜ now (rows .exit)
-        ≡ rowsAfter (tablesOf features attributes model (now (t0 .entry)) (now (t1 .entry)) (now (t2 .entry)) (now (t3 .entry)) (now (t4 .entry)))
-        (now (rows .entry)) ⌝ }
+        ⌜ Checks (tablesOf features attributes model (now (expressions .entry)) (now (entries .entry)) (now (relations .entry))
+        (now (comparisons .entry)) (now (queries .entry)))
+        (now (rows .entry)) r (now (rows .exit)) ⌝ }
 {
     let n = features as usize;
     let m = attributes as usize;
-    let k = model as usize;
-    let form = check_forms(n, m, k, t0, t1, t2, t3, t4);
+    let model = model as usize;
+    let form = check_forms(
+        n,
+        m,
+        model,
+        expressions,
+        entries,
+        relations,
+        comparisons,
+        queries,
+    );
     if let Verdict::Refused(_) = form {
         return form;
     }
-    if rows.len() != 1024 {
+    if rows.len() != COLUMN_WORDS {
         return refuse(11, 0);
     }
-    let mut columns = [0; 1024];
-    let meaning = check_meaning(n, m, k, t0, t1, t2, t3, t4, &mut columns);
+    let mut columns = [0; COLUMN_WORDS];
+    let meaning = check_meaning(
+        n,
+        m,
+        model,
+        expressions,
+        entries,
+        relations,
+        comparisons,
+        queries,
+        &mut columns,
+    );
     if let Verdict::Refused(_) = meaning {
         return meaning;
     }

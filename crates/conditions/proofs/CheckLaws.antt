@@ -19,7 +19,7 @@ use Rattle.report.specs.declared.Verdict.{Verdict}
 use Rattle.report.specs.declared.Refusal.{Refusal}
 use Rattle.report.proofs.VerdictLaws.{then-next, then-refused, accepted-if, accepted-first, refused-first}
 use Rattle.report.proofs.FormedFacts.{entry-expression, relation-expression, relation-list}
-use Rattle.conditions.specs.Conditions.{Filled, Reads, Readable}
+use Rattle.conditions.specs.Conditions.{ExpressionsFilled, SchemaReads, SchemaReadable}
 use Rattle.conditions.specs.RowRules.{apartIn, listRule, presentRow, relationRule, RelationRead}
 use Rattle.conditions.proofs.PermittedLaws.{permittedRow, somewhere-row, permitted-all, row-in, meet-row}
 
@@ -34,67 +34,68 @@ below-next h = omega arith
 -- ---- the loop over a list
 
 -- of the n entries from `from` on those below k have been seen, and each holds somewhere that `present` has
-pub record Listed (rows present t1 : List ℕ) (from n k : ℕ) : Type 0 where
+pub record Listed (rows present entries : List ℕ) (from n k : ℕ) : Type 0 where
   pub least : from ≤ k
   pub most : k ≤ from + n
-  pub each : (j : ℕ) → from ≤ j → j < k → apartIn rows present t1 j ≡ false
+  pub each : (j : ℕ) → from ≤ j → j < k → apartIn rows present entries j ≡ false
 
-module _ (rows present t1 : List ℕ) (from n : ℕ) where
-  pub listed-none : Listed rows present t1 from n from
+module _ (rows present entries : List ℕ) (from n : ℕ) where
+  pub listed-none : Listed rows present entries from n from
   listed-none = record { least = omega arith; most = omega arith; each = λ j l h. absurd (omega arith) }
 
   -- one entry more: what the code found of it
-  module _ {k x : ℕ} {own both : List ℕ} {t : Bool} (S : Listed rows present t1 from n k) (h : k < from + n) (p : x ≡ entryExpression t1 k)
+  module _ {k x : ℕ} {own both : List ℕ} {t : Bool} (S : Listed rows present entries from n k) (h : k < from + n) (p : x ≡ entryExpression entries k)
       (q : own ≡ rowIn 16 rows x) (m : both ≡ rowIntersect 16 present own) (e : t ≡ rowIsEmpty 16 both) where
-    is-apart : t ≡ apartIn rows present t1 k
-    is-apart = e ∙ ap (rowIsEmpty 16) (met-row rows present (entryExpression t1 k) p q m)
+    is-apart : t ≡ apartIn rows present entries k
+    is-apart = e ∙ ap (rowIsEmpty 16) (met-row rows present (entryExpression entries k) p q m)
 
-    pub listed-more : t ≡ false → Listed rows present t1 from n (k + 1)
+    pub listed-more : t ≡ false → Listed rows present entries from n (k + 1)
     listed-more f = record {
       least = let l = S .least in omega arith;
       most = omega arith;
       each =
-          λ j l b. ⊎-elim (λ (s : j ≡ k). ap (apartIn rows present t1) s ∙ sym is-apart ∙ f) (λ (d : j < k). S .each j l d)
+          λ j l b. ⊎-elim (λ (s : j ≡ k). ap (apartIn rows present entries) s ∙ sym is-apart ∙ f) (λ (d : j < k). S .each j l d)
           (eq-or-lt-of-le (below-next b));
     }
 
-    pub listed-here : (r : ℕ) → t ≡ true → {a : ℕ} → a ≡ entryAttribute t1 k → Verdict.Refused (refusal 14 r a 0) ≡ listRule rows present t1 r from n
+    pub listed-here : (r : ℕ) → t ≡ true → {a : ℕ} → a ≡ entryAttribute entries k
+        → Verdict.Refused (refusal 14 r a 0) ≡ listRule rows present entries r from n
     unfolding listRule
     listed-here r f g =
         ap (λ (a : ℕ). Verdict.Refused (refusal 14 r a 0)) g
-        ∙ sym (ap (refuseAt (λ k. refusal 14 r (entryAttribute t1 k) 0))
-        (least-seek (apartIn rows present t1) n from k (record { within = (S .least, h); holds = sym is-apart ∙ f; before = S .each })))
+        ∙ sym (ap (refuseAt (λ k. refusal 14 r (entryAttribute entries k) 0))
+        (least-seek (apartIn rows present entries) n from k (record { within = (S .least, h); holds = sym is-apart ∙ f; before = S .each })))
 
-  pub listed-all : (r : ℕ) {k : ℕ} → Listed rows present t1 from n k → from + n ≤ k → Verdict.Accepted ≡ listRule rows present t1 r from n
+  pub listed-all : (r : ℕ) {k : ℕ} → Listed rows present entries from n k → from + n ≤ k → Verdict.Accepted ≡ listRule rows present entries r from n
   unfolding listRule
   listed-all r S h =
-      sym (ap (refuseAt (λ k. refusal 14 r (entryAttribute t1 k) 0))
-      (nothing-seek (apartIn rows present t1) n from (λ j l u. S .each j l (omega arith))))
+      sym (ap (refuseAt (λ k. refusal 14 r (entryAttribute entries k) 0))
+      (nothing-seek (apartIn rows present entries) n from (λ j l u. S .each j l (omega arith))))
 
 -- ---- one relation: what the code found of it
 
-module _ (rows permits t1 t2 : List ℕ) (r start : ℕ) {x : ℕ} {own present : List ℕ} {t : Bool} (p : x ≡ relationExpression t2 r)
+module _ (rows permits entries relations : List ℕ) (r start : ℕ) {x : ℕ} {own present : List ℕ} {t : Bool} (p : x ≡ relationExpression relations r)
     (q : own ≡ rowIn 16 rows x) (m : present ≡ rowIntersect 16 permits own) (e : t ≡ rowIsEmpty 16 present) where
-  is-present : present ≡ presentRow rows permits t2 r
-  is-present = met-row rows permits (relationExpression t2 r) p q m
+  is-present : present ≡ presentRow rows permits relations r
+  is-present = met-row rows permits (relationExpression relations r) p q m
 
-  first-rule : refuseIf (rowIsEmpty 16 (presentRow rows permits t2 r)) (refusal 13 r 0 0) ≡ refuseIf t (refusal 13 r 0 0)
+  first-rule : refuseIf (rowIsEmpty 16 (presentRow rows permits relations r)) (refusal 13 r 0 0) ≡ refuseIf t (refusal 13 r 0 0)
   first-rule = ap (λ (b : Bool). refuseIf b (refusal 13 r 0 0)) (sym (e ∙ ap (rowIsEmpty 16) is-present))
 
-  pub relation-absent : t ≡ true → Verdict.Refused (refusal 13 r 0 0) ≡ relationRule rows permits t1 t2 r start
+  pub relation-absent : t ≡ true → Verdict.Refused (refusal 13 r 0 0) ≡ relationRule rows permits entries relations r start
   unfolding relationRule
   relation-absent f = sym (then-refused _ (first-rule ∙ ap (λ (b : Bool). refuseIf b (refusal 13 r 0 0)) f))
 
-  pub relation-present : t ≡ false → {n : ℕ} → n ≡ relationLength t2 r → {v : Verdict} → v ≡ listRule rows present t1 r start n
-      → v ≡ relationRule rows permits t1 t2 r start
+  pub relation-present : t ≡ false → {n : ℕ} → n ≡ relationLength relations r → {v : Verdict} → v ≡ listRule rows present entries r start n
+      → v ≡ relationRule rows permits entries relations r start
   unfolding relationRule
   relation-present f l g =
-      g ∙ ap₂ (λ (s : List ℕ) (n : ℕ). listRule rows s t1 r start n) is-present l
+      g ∙ ap₂ (λ (s : List ℕ) (n : ℕ). listRule rows s entries r start n) is-present l
       ∙ sym (then-next (first-rule ∙ accepted-if (refusal 13 r 0 0) f))
 
 -- ---- one relation of tables that have passed the form checks
 
-module _ {T : Tables} {rows : List ℕ} (L : Filled T rows) (r : ℕ) (h : r < relationCount T) where
+module _ {T : Tables} {rows : List ℕ} (L : ExpressionsFilled T rows) (r : ℕ) (h : r < relationCount T) where
   pub relation-read : RelationRead rows (T .entries) (T .relations) r (relationStart (T .relations) r)
   relation-read = record {
     inside = h;
@@ -125,45 +126,47 @@ module _ {T : Tables} {rows : List ℕ} (L : Filled T rows) (r : ℕ) (h : r < r
 -- ---- the loop over the relations
 
 -- those below r have been seen, none is refused, and the list of r starts at `start`
-pub record Related (rows permits t1 t2 : List ℕ) (start r : ℕ) : Type 0 where
-  pub most : r ≤ length t2 / 2
-  pub starts : start ≡ relationStart t2 r
-  pub each : (j : ℕ) → j < r → relationRule rows permits t1 t2 j (relationStart t2 j) ≡ Verdict.Accepted
+pub record RelationsChecked (rows permits entries relations : List ℕ) (start r : ℕ) : Type 0 where
+  pub most : r ≤ length relations / 2
+  pub starts : start ≡ relationStart relations r
+  pub each : (j : ℕ) → j < r → relationRule rows permits entries relations j (relationStart relations j) ≡ Verdict.Accepted
 
-module _ (rows permits t1 t2 : List ℕ) where
+module _ (rows permits entries relations : List ℕ) where
   abbrev rule : ℕ → Verdict
-  rule r = relationRule rows permits t1 t2 r (relationStart t2 r)
+  rule r = relationRule rows permits entries relations r (relationStart relations r)
 
-  rule-is : {T : Tables} → Reads T rows permits t1 t2 → (r : ℕ) → r < length t2 / 2 → rule r ≡ relationCheck T r
-  rule-is {T} R r h = rw (R .entries, R .relations) (relation-rule (R .filled) r (rw (R .relations) at h) (R .permitting))
+  rule-is : {T : Tables} → SchemaReads T rows permits entries relations → (r : ℕ) → r < length relations / 2 → rule r ≡ relationCheck T r
+  rule-is {T} R r h = rw (R .entriesAre, R .relationsAre) (relation-rule (R .filled) r (rw (R .relationsAre) at h) (R .permitting))
 
-  pub related-none : Related rows permits t1 t2 0 0
+  pub related-none : RelationsChecked rows permits entries relations 0 0
   related-none = record { most = omega arith; starts = refl; each = λ j h. absurd (omega arith) }
 
-  module _ {start r : ℕ} (S : Related rows permits t1 t2 start r) (h : r < length t2 / 2) where
-    pub related-read : Readable rows permits t1 t2 → RelationRead rows t1 t2 r start
+  module _ {start r : ℕ} (S : RelationsChecked rows permits entries relations start r) (h : r < length relations / 2) where
+    pub related-read : SchemaReadable rows permits entries relations → RelationRead rows entries relations r start
     related-read A =
         let R = A .reads in
-        rw (S .starts, R .entries, R .relations) (relation-read (R .filled) r (rw (R .relations) at h))
+        rw (S .starts, R .entriesAre, R .relationsAre) (relation-read (R .filled) r (rw (R .relationsAre) at h))
 
-    module _ {v : Verdict} (gave : v ≡ relationRule rows permits t1 t2 r start) where
+    module _ {v : Verdict} (gave : v ≡ relationRule rows permits entries relations r start) where
       is-rule : v ≡ rule r
-      is-rule = gave ∙ ap (relationRule rows permits t1 t2 r) (S .starts)
+      is-rule = gave ∙ ap (relationRule rows permits entries relations r) (S .starts)
 
-      pub related-more : v ≡ Verdict.Accepted → {n : ℕ} → n ≡ relationLength t2 r → Related rows permits t1 t2 (start + n) (r + 1)
+      pub related-more : v ≡ Verdict.Accepted → {n : ℕ} → n ≡ relationLength relations r
+          → RelationsChecked rows permits entries relations (start + n) (r + 1)
       related-more e p = record {
         most = omega arith;
-        starts = ap₂ _+_ (S .starts) p ∙ ap (relationStart t2) (sym (add-one r));
+        starts = ap₂ _+_ (S .starts) p ∙ ap (relationStart relations) (sym (add-one r));
         each = λ j l. ⊎-elim (λ (s : j ≡ r). ap rule s ∙ sym is-rule ∙ e) (λ (m : j < r). S .each j m) (eq-or-lt-of-le (below-next l));
       }
 
-      pub related-here : {x : Refusal} → v ≡ Verdict.Refused x → (T : Tables) → Reads T rows permits t1 t2 → v ≡ schemaCheck T
+      pub related-here : {x : Refusal} → v ≡ Verdict.Refused x → (T : Tables) → SchemaReads T rows permits entries relations → v ≡ schemaCheck T
       related-here {x} e T R =
-          e ∙ sym (refused-first (relationCheck T) (relationCount T) 0 r x (omega arith) (let b = rw (R .relations) at h in omega arith)
+          e ∙ sym (refused-first (relationCheck T) (relationCount T) 0 r x (omega arith) (let b = rw (R .relationsAre) at h in omega arith)
           (λ j l m. sym (rule-is R j (omega arith)) ∙ S .each j m) (sym (rule-is R r h) ∙ sym is-rule ∙ e))
 
-  pub related-all : {start r : ℕ} → Related rows permits t1 t2 start r → length t2 / 2 ≤ r → (T : Tables) → Reads T rows permits t1 t2
+  pub related-all : {start r : ℕ} → RelationsChecked rows permits entries relations start r → length relations / 2 ≤ r → (T : Tables)
+      → SchemaReads T rows permits entries relations
       → Verdict.Accepted ≡ schemaCheck T
   related-all {start} {r} S h T R =
       sym (accepted-first (relationCheck T) (relationCount T) 0
-      (λ j l m. let b : j < length t2 / 2 = rw (R .relations) (omega arith) in sym (rule-is R j b) ∙ S .each j (omega arith)))
+      (λ j l m. let b : j < length relations / 2 = rw (R .relationsAre) (omega arith) in sym (rule-is R j b) ∙ S .each j (omega arith)))

@@ -15,11 +15,11 @@ use Rattle.sets.proofs.RowLaws.{rowIn-concat, withRow-more}
 use Rattle.report.specs.Tables.{Tables, expression, expressionCount}
 use Rattle.report.specs.Expressions.{truthOf, holds}
 use Rattle.report.specs.Configuring.{written}
+use Rattle.report.specs.Formed.{Formed, ExpressionLower}
 use Rattle.report.specs.declared.Expression.{Expression}
-use Rattle.report.proofs.Formed.{Formed}
-use Rattle.report.proofs.FormFacts.{ExpressionLower, expression-lower}
+use Rattle.report.proofs.FormFacts.{expression-lower}
 use Rattle.report.proofs.StepLaws.{holds-step}
-use Rattle.conditions.specs.Conditions.{expressionRow, expressionRows, Fillable, Filled}
+use Rattle.conditions.specs.Conditions.{expressionRow, expressionRows, ExpressionsFillable, ExpressionsFilled}
 use Rattle.conditions.specs.RowRules.{stepRow}
 
 -- ---- one expression
@@ -71,7 +71,7 @@ module _ (n : ℕ) (expressions rows : List ℕ) (f : ℕ) (below : (e : ℕ) �
 -- ---- the loop that fills them
 
 -- the rows of the expressions below f stand over `lent`
-pub record Filling (n : ℕ) (expressions lent rows : List ℕ) (f : ℕ) : Type 0 where
+pub record ExpressionsFilling (n : ℕ) (expressions lent rows : List ℕ) (f : ℕ) : Type 0 where
   pub most : f ≤ length expressions / 3
   pub size : length rows ≡ length lent
   pub filled : rows ≡ concat f (expressionRow n expressions) ++ drop (f * 16) lent
@@ -80,10 +80,10 @@ wide : (n : ℕ) (expressions : List ℕ) (count e : ℕ) → e < count → leng
 wide n expressions count e h = rowOf-row 16 (within n (λ c. holds expressions c e)) .size
 
 module _ (n : ℕ) (expressions lent : List ℕ) where
-  pub filling-none : Filling n expressions lent lent 0
+  pub filling-none : ExpressionsFilling n expressions lent lent 0
   filling-none = record { most = omega arith; size = refl; filled = refl }
 
-  module _ (A : Fillable n expressions lent) {rows : List ℕ} {f : ℕ} (S : Filling n expressions lent rows f) where
+  module _ (A : ExpressionsFillable n expressions lent) {rows : List ℕ} {f : ℕ} (S : ExpressionsFilling n expressions lent rows f) where
     module _ (h : f < length expressions / 3) where
       fit-lower : ExpressionLower n f (expression expressions f)
       fit-lower = expression-lower n f (expression expressions f) (A .fit f h)
@@ -96,7 +96,8 @@ module _ (n : ℕ) (expressions lent : List ℕ) where
           lower-more n 10 f (length rows / 16) (A .few) (omega arith) (expression expressions f) fit-lower)
 
       pub filling-more : {x : Expression} {full row after : List ℕ} → full ≡ rowOf 16 (within n (λ c. true)) → x ≡ expression expressions f
-          → row ≡ stepRow full rows x → length after ≡ length rows → after ≡ withRow 16 rows f row → Filling n expressions lent after (f + 1)
+          → row ≡ stepRow full rows x → length after ≡ length rows → after ≡ withRow 16 rows f row
+          → ExpressionsFilling n expressions lent after (f + 1)
       filling-more {x} {full} {row} all e step same stored = record {
         most = omega arith;
         size = same ∙ S .size;
@@ -124,11 +125,11 @@ module _ (n : ℕ) (expressions lent : List ℕ) where
 
 module _ {T : Tables} (F : Formed T) (lent : List ℕ) (room : expressionCount T * 16 ≤ length lent) where
   -- tables that have passed the form checks may be filled
-  pub fillable : Fillable (T .features) (T .expressions) lent
+  pub fillable : ExpressionsFillable (T .features) (T .expressions) lent
   fillable = record { few = F .few; fit = F .expressionsOk; room = room }
 
   -- and are, by what the filling promises
-  pub filled : {rows : List ℕ} → rows ≡ written (expressionRows (T .features) (T .expressions)) lent → Filled T rows
+  pub filled : {rows : List ℕ} → rows ≡ written (expressionRows (T .features) (T .expressions)) lent → ExpressionsFilled T rows
   unfolding expressionRows
   filled e =
       let size = concat-length (expressionRow (T .features) (T .expressions)) 16 (expressionCount T) (wide (T .features) (T .expressions) _) in

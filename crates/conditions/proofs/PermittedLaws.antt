@@ -17,8 +17,8 @@ use Rattle.report.specs.Expressions.{holds, permitted}
 use Rattle.report.specs.Typing.{at}
 use Rattle.report.specs.Verdicts.{refusal, refuseIf}
 use Rattle.report.specs.Checks.{somewhere, modelCheck}
-use Rattle.report.proofs.Formed.{Formed}
-use Rattle.conditions.specs.Conditions.{Filled, Reads}
+use Rattle.report.specs.Formed.{Formed}
+use Rattle.conditions.specs.Conditions.{ExpressionsFilled, SchemaReads}
 
 -- a test that fails from m on
 some-narrow : (test : ℕ → Bool) (m n : ℕ) → m ≤ n → ((k : ℕ) → m ≤ k → test k ≡ false) → someBelow test n ≡ someBelow test m
@@ -71,7 +71,7 @@ pub model-check : {T : Tables} → Formed T → {row : List ℕ} → row ≡ row
 model-check {T} F e =
     ap (λ (b : Bool). refuseIf b (refusal 12 0 0 0)) (ap (rowIsEmpty 16) (e ∙ permitted-all T) ∙ somewhere-row T (F .few) (λ c. true))
 
-module _ {T : Tables} {rows : List ℕ} (L : Filled T rows) where
+module _ {T : Tables} {rows : List ℕ} (L : ExpressionsFilled T rows) where
   -- each expression has its row
   pub row-in : {e : ℕ} → e < expressionCount T → e < length rows / 16
   row-in h = let m = L .room in omega arith
@@ -89,5 +89,5 @@ module _ {T : Tables} {rows : List ℕ} (L : Filled T rows) where
   unfolding permitted
   model-row = L .each (T .model) (L .formed .modelIn)
 
-  pub reads : {permits : List ℕ} → permits ≡ rowIn 16 rows (T .model) → Reads T rows permits (T .entries) (T .relations)
-  reads e = record { filled = L; permitting = e ∙ model-row; entries = refl; relations = refl }
+  pub reads : {permits : List ℕ} → permits ≡ rowIn 16 rows (T .model) → SchemaReads T rows permits (T .entries) (T .relations)
+  reads e = record { filled = L; permitting = e ∙ model-row; entriesAre = refl; relationsAre = refl }

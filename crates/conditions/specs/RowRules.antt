@@ -23,29 +23,30 @@ stepRow full rows (Expression.Or a b) = rowJoin 16 (rowIn 16 rows a) (rowIn 16 r
 
 -- entry k holds nowhere that `present` has
 abbrev pub apartIn : List ℕ → List ℕ → List ℕ → ℕ → Bool
-apartIn rows present t1 k = rowIsEmpty 16 (rowIntersect 16 present (rowIn 16 rows (entryExpression t1 k)))
+apartIn rows present entries k = rowIsEmpty 16 (rowIntersect 16 present (rowIn 16 rows (entryExpression entries k)))
 
 -- 14 of relation r, of `count` entries from `start` on, where `present` has the permitted configurations at which it is present
 unfoldable pub listRule : List ℕ → List ℕ → List ℕ → ℕ → ℕ → ℕ → Verdict
-listRule rows present t1 r start count = refuseAt (λ k. refusal 14 r (entryAttribute t1 k) 0) (seek (apartIn rows present t1) count start)
+listRule rows present entries r start count = refuseAt (λ k. refusal 14 r (entryAttribute entries k) 0)
+    (seek (apartIn rows present entries) count start)
 
 -- the permitted configurations at which relation r is present
 abbrev pub presentRow : List ℕ → List ℕ → List ℕ → ℕ → List ℕ
-presentRow rows permits t2 r = rowIntersect 16 permits (rowIn 16 rows (relationExpression t2 r))
+presentRow rows permits relations r = rowIntersect 16 permits (rowIn 16 rows (relationExpression relations r))
 
 -- 13 and 14 of relation r, whose list starts at `start`
 unfoldable pub relationRule : List ℕ → List ℕ → List ℕ → List ℕ → ℕ → ℕ → Verdict
-relationRule rows permits t1 t2 r start =
-    orElse (refuseIf (rowIsEmpty 16 (presentRow rows permits t2 r)) (refusal 13 r 0 0))
-    (listRule rows (presentRow rows permits t2 r) t1 r start (relationLength t2 r))
+relationRule rows permits entries relations r start =
+    orElse (refuseIf (rowIsEmpty 16 (presentRow rows permits relations r)) (refusal 13 r 0 0))
+    (listRule rows (presentRow rows permits relations r) entries r start (relationLength relations r))
 
 -- a list lies in table 1, and each expression there has a row
-pub record ListRead (rows t1 : List ℕ) (start count : ℕ) : Type 0 where
-  pub inside : start + count ≤ length t1 / 2
-  pub rowed : (k : ℕ) → k < length t1 / 2 → entryExpression t1 k < length rows / 16
+pub record ListRead (rows entries : List ℕ) (start count : ℕ) : Type 0 where
+  pub inside : start + count ≤ length entries / 2
+  pub rowed : (k : ℕ) → k < length entries / 2 → entryExpression entries k < length rows / 16
 
 -- relation r is in table 2, its expression has a row, and its list is such a one
-pub record RelationRead (rows t1 t2 : List ℕ) (r start : ℕ) : Type 0 where
-  pub inside : r < length t2 / 2
-  pub rowed : relationExpression t2 r < length rows / 16
-  pub list : ListRead rows t1 start (relationLength t2 r)
+pub record RelationRead (rows entries relations : List ℕ) (r start : ℕ) : Type 0 where
+  pub inside : r < length relations / 2
+  pub rowed : relationExpression relations r < length rows / 16
+  pub list : ListRead rows entries start (relationLength relations r)

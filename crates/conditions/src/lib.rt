@@ -16,8 +16,8 @@ ghost use Rattle.report.specs.Tables.{Tables};
 ghost use Rattle.report.specs.Verdicts.{refusal, refuseIf};
 ghost use Rattle.report.specs.Checks.{schemaCheck};
 ghost use Rattle.report.specs.Configuring.{written};
-ghost use Rattle.report.proofs.FormFacts.{ExpressionLower};
-ghost use Rattle.conditions.specs.Conditions.{expressionRows, Fillable, Reads, Readable};
+ghost use Rattle.report.specs.Formed.{ExpressionLower};
+ghost use Rattle.conditions.specs.Conditions.{expressionRows, ExpressionsFillable, SchemaReads, SchemaReadable};
 ghost use Rattle.conditions.specs.RowRules.{stepRow, listRule, relationRule, ListRead, RelationRead};
 
 // The row of an expression, from the rows of lower forms; `full` has the configurations of all features.
@@ -37,15 +37,15 @@ fn expression_row(x: Expression, rows: &[u64], full: Row) -> Row
 }
 
 // Fills `rows` with the rows of the expressions of table 0, bottom up.
-pub fn fill_rows(n: usize, t0: &[u16], rows: &mut [u64])
-    requires { ⌜ Fillable n (now t0) (now rows) ⌝ }
-    ensures { λ _. ⌜ now (rows .exit) ≡ written (expressionRows n (now (t0 .entry))) (now (rows .entry)) ⌝ }
+pub fn fill_rows(n: usize, expressions: &[u16], rows: &mut [u64])
+    requires { ⌜ ExpressionsFillable n (now expressions) (now rows) ⌝ }
+    ensures { λ _. ⌜ now (rows .exit) ≡ written (expressionRows n (now (expressions .entry))) (now (rows .entry)) ⌝ }
 {
     let full = Row::full(n);
-    let count = t0.len() / 3;
+    let count = expressions.len() / 3;
     let mut f = 0;
     while f < count {
-        let x = expression_at(t0, f);
+        let x = expression_at(expressions, f);
         let r = expression_row(x, &*rows, full);
         r.store(&mut *rows, f);
         f += 1;
@@ -71,21 +71,21 @@ pub fn check_permitted(permitted: Row) -> Verdict
 fn check_list(
     rows: &[u64],
     present: Row,
-    t1: &[u16],
+    entries: &[u16],
     r: usize,
     start: usize,
     count: usize,
 ) -> Verdict
-    requires { ⌜ ListRead (now rows) (now t1) start count ⌝ }
-    ensures { λ v. ⌜ v ≡ listRule (now (rows .entry)) (present .words) (now (t1 .entry)) r start count ⌝ }
+    requires { ⌜ ListRead (now rows) (now entries) start count ⌝ }
+    ensures { λ v. ⌜ v ≡ listRule (now (rows .entry)) (present .words) (now (entries .entry)) r start count ⌝ }
 {
     let end = start + count;
     let mut k = start;
     while k < end {
-        let x = entry_expression(t1, k);
+        let x = entry_expression(entries, k);
         let both = present.intersect(Row::load(rows, x));
         if both.is_empty() {
-            let a = entry_attribute(t1, k);
+            let a = entry_attribute(entries, k);
             return Verdict::Refused(Refusal {
                 number: 14,
                 place: r as u64,
@@ -101,19 +101,19 @@ fn check_list(
 // Checks 13 and 14 of relation r, whose list starts at `start`.
 fn check_relation(
     rows: &[u64],
-    permits: Row,
-    t1: &[u16],
-    t2: &[u16],
+    permitted: Row,
+    entries: &[u16],
+    relations: &[u16],
     r: usize,
     start: usize,
 ) -> Verdict
-    requires { ⌜ RelationRead (now rows) (now t1) (now t2) r start ⌝ }
-    ensures { λ v. ⌜ v ≡ relationRule (now (rows .entry)) (permits .words) (now (t1 .entry)) (now (t2 .entry)) r start ⌝ }
+    requires { ⌜ RelationRead (now rows) (now entries) (now relations) r start ⌝ }
+    ensures { λ v. ⌜ v ≡ relationRule (now (rows .entry)) (permitted .words) (now (entries .entry)) (now (relations .entry)) r start ⌝ }
 {
-    let x = relation_expression(t2, r);
-    let count = relation_length(t2, r);
+    let x = relation_expression(relations, r);
+    let count = relation_length(relations, r);
     let own = Row::load(rows, x);
-    let present = permits.intersect(own);
+    let present = permitted.intersect(own);
     if present.is_empty() {
         return Verdict::Refused(Refusal {
             number: 13,
@@ -122,23 +122,24 @@ fn check_relation(
             configuration: 0,
         });
     }
-    check_list(rows, present, t1, r, start, count)
+    check_list(rows, present, entries, r, start, count)
 }
 
 // Checks 13 and 14, relation by relation, of tables whose expression rows `rows` starts with.
-pub fn check_schema(rows: &[u64], permits: Row, t1: &[u16], t2: &[u16]) -> Verdict
-    requires { ⌜ Readable (now rows) (permits .words) (now t1) (now t2) ⌝ }
-    ensures { λ v. ⌜ ((T : Tables) → Reads T (now (rows .entry)) (permits .words) (now (t1 .entry)) (now (t2 .entry)) → v ≡ schemaCheck T) ⌝ }
+pub fn check_schema(rows: &[u64], permitted: Row, entries: &[u16], relations: &[u16]) -> Verdict
+    requires { ⌜ SchemaReadable (now rows) (permitted .words) (now entries) (now relations) ⌝ }
+    ensures { λ v. ⌜ ((T : Tables) → SchemaReads T (now (rows .entry)) (permitted .words) (now (entries .entry)) (now (relations .entry))
+        → v ≡ schemaCheck T) ⌝ }
 {
-    let count = t2.len() / 2;
+    let count = relations.len() / 2;
     let mut start = 0;
     let mut r = 0;
     while r < count {
-        let v = check_relation(rows, permits, t1, t2, r, start);
+        let v = check_relation(rows, permitted, entries, relations, r, start);
         if let Verdict::Refused(_) = v {
             return v;
         }
-        start += relation_length(t2, r);
+        start += relation_length(relations, r);
         r += 1;
     }
     Verdict::Accepted

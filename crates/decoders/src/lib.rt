@@ -1,6 +1,7 @@
 // One form of each table, from its words.
 use report::Comparison;
 use report::Expression;
+use report::Operands;
 use report::Query;
 ghost use mathlib.Core.Path.{_≡_};
 ghost use mathlib.Core.Bool.{cond};
@@ -8,6 +9,7 @@ ghost use Prim.Native.Nat.{_+_, _*_, _/_, _<_};
 ghost use lib.ListN.{length, getD};
 ghost use Rattle.report.specs.Tables.{entryAttribute, entryExpression, relationExpression, relationLength, expressionOf, expression};
 ghost use Rattle.report.specs.Tables.{comparisonOf, comparison, queryOf, query, projectLength};
+ghost use Rattle.report.specs.Operands.{queryOperands};
 ghost use Rattle.report.specs.declared.Expression.{Expression};
 ghost use Rattle.report.specs.declared.Comparison.{Comparison};
 ghost use Rattle.report.specs.declared.Query.{Query};
@@ -28,35 +30,35 @@ fn word_at(t: &[u16], i: usize) -> usize
 }
 
 // The attribute of entry k.
-pub fn entry_attribute(t1: &[u16], k: usize) -> usize
-    requires { ⌜ k < length (now t1) / 2 ⌝ }
-    ensures { λ r. ⌜ IsWord (entryAttribute (now (t1 .entry)) k) r ⌝ }
+pub fn entry_attribute(entries: &[u16], k: usize) -> usize
+    requires { ⌜ k < length (now entries) / 2 ⌝ }
+    ensures { λ r. ⌜ IsWord (entryAttribute (now (entries .entry)) k) r ⌝ }
 {
-    word_at(t1, k * 2)
+    word_at(entries, k * 2)
 }
 
 // The expression of entry k.
-pub fn entry_expression(t1: &[u16], k: usize) -> usize
-    requires { ⌜ k < length (now t1) / 2 ⌝ }
-    ensures { λ r. ⌜ IsWord (entryExpression (now (t1 .entry)) k) r ⌝ }
+pub fn entry_expression(entries: &[u16], k: usize) -> usize
+    requires { ⌜ k < length (now entries) / 2 ⌝ }
+    ensures { λ r. ⌜ IsWord (entryExpression (now (entries .entry)) k) r ⌝ }
 {
-    word_at(t1, k * 2 + 1)
+    word_at(entries, k * 2 + 1)
 }
 
 // The expression of relation k.
-pub fn relation_expression(t2: &[u16], k: usize) -> usize
-    requires { ⌜ k < length (now t2) / 2 ⌝ }
-    ensures { λ r. ⌜ IsWord (relationExpression (now (t2 .entry)) k) r ⌝ }
+pub fn relation_expression(relations: &[u16], k: usize) -> usize
+    requires { ⌜ k < length (now relations) / 2 ⌝ }
+    ensures { λ r. ⌜ IsWord (relationExpression (now (relations .entry)) k) r ⌝ }
 {
-    word_at(t2, k * 2)
+    word_at(relations, k * 2)
 }
 
 // How many entries relation k has.
-pub fn relation_length(t2: &[u16], k: usize) -> usize
-    requires { ⌜ k < length (now t2) / 2 ⌝ }
-    ensures { λ r. ⌜ IsWord (relationLength (now (t2 .entry)) k) r ⌝ }
+pub fn relation_length(relations: &[u16], k: usize) -> usize
+    requires { ⌜ k < length (now relations) / 2 ⌝ }
+    ensures { λ r. ⌜ IsWord (relationLength (now (relations .entry)) k) r ⌝ }
 {
-    word_at(t2, k * 2 + 1)
+    word_at(relations, k * 2 + 1)
 }
 
 fn whole_expression(whole: bool, form: Expression) -> Expression
@@ -81,12 +83,16 @@ fn expression_of(kind: usize, a: usize, b: usize) -> Expression
 }
 
 // Form k of table 0.
-pub fn expression_at(t0: &[u16], k: usize) -> Expression
-    requires { ⌜ k < length (now t0) / 3 ⌝ }
-    ensures { λ r. ⌜ r ≡ expression (now (t0 .entry)) k ⌝ }
+pub fn expression_at(expressions: &[u16], k: usize) -> Expression
+    requires { ⌜ k < length (now expressions) / 3 ⌝ }
+    ensures { λ r. ⌜ r ≡ expression (now (expressions .entry)) k ⌝ }
 {
     let at = k * 3;
-    expression_of(word_at(t0, at), word_at(t0, at + 1), word_at(t0, at + 2))
+    expression_of(
+        word_at(expressions, at),
+        word_at(expressions, at + 1),
+        word_at(expressions, at + 2),
+    )
 }
 
 fn whole_comparison(whole: bool, form: Comparison) -> Comparison
@@ -116,17 +122,17 @@ fn comparison_of(kind: usize, o: usize, a: usize, b: usize, c: usize) -> Compari
 }
 
 // Form k of table 3.
-pub fn comparison_at(t3: &[u16], k: usize) -> Comparison
-    requires { ⌜ k < length (now t3) / 5 ⌝ }
-    ensures { λ r. ⌜ r ≡ comparison (now (t3 .entry)) k ⌝ }
+pub fn comparison_at(comparisons: &[u16], k: usize) -> Comparison
+    requires { ⌜ k < length (now comparisons) / 5 ⌝ }
+    ensures { λ r. ⌜ r ≡ comparison (now (comparisons .entry)) k ⌝ }
 {
     let at = k * 5;
     comparison_of(
-        word_at(t3, at),
-        word_at(t3, at + 1),
-        word_at(t3, at + 2),
-        word_at(t3, at + 3),
-        word_at(t3, at + 4),
+        word_at(comparisons, at),
+        word_at(comparisons, at + 1),
+        word_at(comparisons, at + 2),
+        word_at(comparisons, at + 3),
+        word_at(comparisons, at + 4),
     )
 }
 
@@ -154,16 +160,16 @@ fn query_of(kind: usize, a: usize, b: usize, c: usize) -> Query
 }
 
 // Form k of table 4.
-pub fn query_at(t4: &[u16], k: usize) -> Query
-    requires { ⌜ k < length (now t4) / 4 ⌝ }
-    ensures { λ r. ⌜ r ≡ query (now (t4 .entry)) k ⌝ }
+pub fn query_at(queries: &[u16], k: usize) -> Query
+    requires { ⌜ k < length (now queries) / 4 ⌝ }
+    ensures { λ r. ⌜ r ≡ query (now (queries .entry)) k ⌝ }
 {
     let at = k * 4;
     query_of(
-        word_at(t4, at),
-        word_at(t4, at + 1),
-        word_at(t4, at + 2),
-        word_at(t4, at + 3),
+        word_at(queries, at),
+        word_at(queries, at + 1),
+        word_at(queries, at + 2),
+        word_at(queries, at + 3),
     )
 }
 
@@ -175,5 +181,22 @@ pub fn project_length(x: Query) -> usize
         count
     } else {
         0
+    }
+}
+
+// The query forms that a query form refers to.
+pub fn query_operands(x: Query) -> Operands
+    ensures { λ r. ⌜ r ≡ queryOperands x ⌝ }
+{
+    match x {
+        Query::Malformed => Operands::Nothing,
+        Query::Empty => Operands::Nothing,
+        Query::Relation(_) => Operands::Nothing,
+        Query::Select(_, b) => Operands::One(b),
+        Query::Project(_, b) => Operands::One(b),
+        Query::Choice(e, a, b) => Operands::Choice(e, a, b),
+        Query::Product(a, b) => Operands::Both(a, b),
+        Query::Union(a, b) => Operands::Both(a, b),
+        Query::Intersection(a, b) => Operands::Both(a, b),
     }
 }

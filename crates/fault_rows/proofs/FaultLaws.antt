@@ -25,9 +25,8 @@ use Rattle.report.specs.Expressions.{permitted}
 use Rattle.report.specs.Typing.{present, setOf, reached, faultsOf, faults, fails}
 use Rattle.report.specs.ColumnRows.{hasColumn, columnRows}
 use Rattle.report.specs.Configuring.{written}
+use Rattle.report.specs.Formed.{Formed, QueryLower}
 use Rattle.report.specs.declared.Query.{Query}
-use Rattle.report.proofs.Formed.{Formed}
-use Rattle.report.proofs.FormFacts.{QueryLower}
 use Rattle.report.proofs.FormedFacts.{query-at, report-in}
 use Rattle.report.proofs.SetLaws.{listed-narrow, names-narrow, set-narrow}
 use Rattle.fault_rows.specs.FaultRows.{faultyRow, columnRow, Items}

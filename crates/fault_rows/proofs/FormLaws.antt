@@ -13,14 +13,14 @@ use Rattle.sets.proofs.BitLaws.{bit-none, bit-pow, bit-difference, bit-xor}
 use Rattle.sets.proofs.RowLaws.{join-within, minus-within}
 use Rattle.report.specs.Tables.{Tables, query, queryCount, relationCount, relationExpression, projectStart}
 use Rattle.report.specs.Typing.{at, present, names, projectSet, setOf, faultsOf, faults}
+use Rattle.report.specs.Formed.{QueryLower}
 use Rattle.report.specs.declared.Query.{Query}
-use Rattle.report.proofs.FormFacts.{QueryLower}
 use Rattle.report.proofs.FormedFacts.{query-at, relation-expression}
 use Rattle.attribute_rows.specs.AttributeRows.{hasRow, listRow}
-use Rattle.attribute_rows.specs.RowRules.{QueryAt}
+use Rattle.attribute_rows.specs.RowRules.{QueryStands}
 use Rattle.attribute_rows.proofs.AttributeLaws.{row-same, none-within, has-none, has-and}
 use Rattle.fault_rows.specs.FaultRows.{faultRow}
-use Rattle.fault_rows.specs.FaultRules.{unequalRow, absentRow, AbsentRead, faultStep, FaultRead, FormReads, FaultAt, SomeFault}
+use Rattle.fault_rows.specs.FaultRules.{unequalRow, absentRow, AbsentRead, faultStep, FaultRead, FormFaultReads, FaultAt, SomeFault}
 
 -- ---- rows of sets
 
@@ -49,12 +49,12 @@ module _ (T : Tables) (a : ℕ) (f g : ℕ → ℕ) where
 
 -- ---- an absent relation
 
-module _ {conditions t2 : List ℕ} {r : ℕ} (A : AbsentRead conditions t2 r) (full : List ℕ) {a : ℕ} where
-  pub absent-here : a ≡ r → {x : ℕ} {row : List ℕ} → x ≡ relationExpression t2 r → row ≡ rowMinus 16 full (rowIn 16 conditions x)
-      → row ≡ absentRow conditions full t2 a r
+module _ {conditions relations : List ℕ} {r : ℕ} (A : AbsentRead conditions relations r) (full : List ℕ) {a : ℕ} where
+  pub absent-here : a ≡ r → {x : ℕ} {row : List ℕ} → x ≡ relationExpression relations r → row ≡ rowMinus 16 full (rowIn 16 conditions x)
+      → row ≡ absentRow conditions full relations a r
   absent-here e p is = rw (eq-eqb a r e) (is ∙ ap (λ (y : ℕ). rowMinus 16 full (rowIn 16 conditions y)) p)
 
-  pub absent-other : (a ≡ r → ⊥) → {row : List ℕ} → row ≡ rowOf 16 (λ c. false) → row ≡ absentRow conditions full t2 a r
+  pub absent-other : (a ≡ r → ⊥) → {row : List ℕ} → row ≡ rowOf 16 (λ c. false) → row ≡ absentRow conditions full relations a r
   absent-other e is = rw (ne-eqb a r e) is
 
 -- a row, or none
@@ -62,7 +62,8 @@ row-if : (n : ℕ) (h : ℕ → Bool) (t : Bool) → cond t (rowOf 16 (within n 
 row-if n h true = row-same n h (λ c. h c && true) (λ c. sym (and-true (h c)))
 row-if n h false = none-within n ∙ row-same n (λ c. false) (λ c. h c && false) (λ c. sym (and-false (h c)))
 
-module _ {T : Tables} {conditions full t1 t2 t4 named sets : List ℕ} {a : ℕ} (R : FormReads T conditions full t1 t2 t4 named sets a) where
+module _ {T : Tables} {conditions full entries relations queries named sets : List ℕ} {a : ℕ}
+    (R : FormFaultReads T conditions full entries relations queries named sets a) where
   absent-rule : (r : ℕ) → r < relationCount T → absentRow conditions full (T .relations) a r ≡ hasRow T a (λ c. cond (present T c r) 0 (2 ^ r))
   absent-rule r h =
       let e = relationExpression (T .relations) r in
@@ -100,41 +101,44 @@ module _ {T : Tables} {conditions full t1 t2 t4 named sets : List ℕ} {a : ℕ}
       ap₂ unequalRow (set-at (l .first .lower) h) (set-at (l .second .lower) h) ∙ has-unequal T a (λ c. setOf T c b) (λ c. setOf T c d)
 
 -- the code found form q to be x
-module _ {T : Tables} {conditions full t1 t2 t4 named sets : List ℕ} {q start a : ℕ} (A : FaultAt T conditions full t1 t2 t4 named sets q start a)
-    {x : Query} (e : x ≡ query t4 q) where
+module _ {T : Tables} {conditions full entries relations queries named sets : List ℕ} {q start a : ℕ}
+    (A : FaultAt T conditions full entries relations queries named sets q start a)
+    {x : Query} (e : x ≡ query queries q) where
   form : x ≡ query (T .queries) q
-  form = e ∙ ap (λ (t : List ℕ). query t q) (A .reads .queries)
+  form = e ∙ ap (λ (t : List ℕ). query t q) (A .reads .queriesAre)
 
-  pub fault-stands : QueryAt T q conditions t1 start x
+  pub fault-stands : QueryStands T q conditions entries start x
   fault-stands = record {
     filled = A .reads .filled;
-    entries = A .reads .entries;
+    entriesAre = A .reads .entriesAre;
     starts = A .starts;
     lower = rw form (query-at (A .reads .filled .formed) q (A .inside));
   }
 
-  pub fault-is : {row : List ℕ} → row ≡ faultStep T a start conditions full t2 named sets x → row ≡ faultRow T a q
+  pub fault-is : {row : List ℕ} → row ≡ faultStep T a start conditions full relations named sets x → row ≡ faultRow T a q
   unfolding faults
   fault-is step =
       step
-      ∙ ap₂ (λ (i : ℕ) (t : List ℕ). faultStep T a i conditions full t named sets x) (A .starts) (A .reads .relations)
+      ∙ ap₂ (λ (i : ℕ) (t : List ℕ). faultStep T a i conditions full t named sets x) (A .starts) (A .reads .relationsAre)
       ∙ ap (faultStep T a (projectStart T q) conditions full (T .relations) named sets) form
       ∙ fault-rule (A .reads) (A .inside) (query (T .queries) q) (query-at (A .reads .filled .formed) q (A .inside))
 
-pub fault-read : {conditions full t1 t2 t4 named sets : List ℕ} {q start a : ℕ} → SomeFault conditions full t1 t2 t4 named sets q start a
-    → {x : Query} → x ≡ query t4 q → FaultRead conditions t1 t2 named sets start x
+pub fault-read : {conditions full entries relations queries named sets : List ℕ} {q start a : ℕ}
+    → SomeFault conditions full entries relations queries named sets q start a
+    → {x : Query} → x ≡ query queries q → FaultRead conditions entries relations named sets start x
 fault-read {q = q} A e = record {
   tables = A .tables;
   form = q;
   at = fault-stands (A .at) e;
-  relations = A .at .reads .relations;
+  relationsAre = A .at .reads .relationsAre;
   compared = A .at .reads .compared .room;
   below = let l = A .at .inside in let m = A .at .reads .formed .room in omega arith;
 }
 
 -- a relation that a form names is in table 2
-pub absent-read : {T : Tables} {q : ℕ} {conditions t1 t2 : List ℕ} {start : ℕ} {x : Query} → QueryAt T q conditions t1 start x → t2 ≡ T .relations
-    → {r : ℕ} → x ≡ Query.Relation r → AbsentRead conditions t2 r
+pub absent-read : {T : Tables} {q : ℕ} {conditions entries relations : List ℕ} {start : ℕ} {x : Query} → QueryStands T q conditions entries start x
+    → relations ≡ T .relations
+    → {r : ℕ} → x ≡ Query.Relation r → AbsentRead conditions relations r
 absent-read {T} A p {r} e =
     let l : r < relationCount T = rw e at (A .lower) in
     rw p

@@ -3,25 +3,26 @@ use Prim.Native.Nat.{ℕ, suc, _+_, _*_, _/_, _^_, _<_, _≤_}
 use mathlib.Core.Path.{_≡_, refl, sym, ap, ap₂, _∙_}
 use mathlib.Core.Bool.{Bool, true, false, _&&_, _||_, and-true, and-false}
 use mathlib.Core.List.{List}
-use mathlib.Core.Logic.{⊎-elim}
-use native.Mathlib.Nat.{not-suc-le-zero, le-refl, eq-or-lt-of-le}
+use native.Mathlib.Nat.{le-refl}
 use native.Mathlib.Numerals.{add-one}
 use native.Mathlib.Omega.{arith}
 use lib.Dec.{ltb}
 use lib.Bits.{bitOr}
 use lib.ListN.{length, getD}
 use Rattle.sets.specs.Search.{someBelow}
+use Rattle.sets.specs.Lists.{concat}
 use Rattle.sets.specs.Bits.{bit}
-use Rattle.sets.specs.Rows.{rowOf, rowIn, rowJoin, rowIntersect, withRow, within}
+use Rattle.sets.specs.Rows.{rowOf, rowIn, rowJoin, rowIntersect, withRow, within, RowsAre}
 use Rattle.sets.proofs.SearchLaws.{someBelow-suc}
 use Rattle.sets.proofs.ListLaws.{table-length}
-use Rattle.sets.proofs.RowLaws.{rowOf-same, join-rowOf, intersect-rowOf, withRow-same, withRow-other}
+use Rattle.sets.proofs.RowLaws.{rowOf-same, rowOf-row, join-rowOf, intersect-rowOf, withRow-other}
 use Rattle.report.specs.Tables.{Tables, query, queryCount, report, projectLength, projectedBefore}
 use Rattle.report.specs.Expressions.{holds, permitted}
 use Rattle.report.specs.Typing.{leads, reached, faults}
+use Rattle.report.specs.Configuring.{written}
 use Rattle.report.specs.declared.Query.{Query}
 use Rattle.report.proofs.FormedFacts.{project-within}
-use Rattle.attribute_rows.specs.AttributeRows.{RowsAre}
+use Rattle.attribute_rows.proofs.FillLaws.{RowsFilling, filling-none, filling-more, filling-all}
 use Rattle.fault_rows.specs.FaultRows.{faultRow, faultyRow}
 use Rattle.fault_rows.specs.FaultRules.{joinedFault, FaultAt, SomeFault, JoinReads, JoinReadable}
 
@@ -50,50 +51,48 @@ join-row T a q =
 join-wide : (s t : List ℕ) → length (rowJoin 16 s t) ≡ 16
 join-wide s t = table-length 16 (λ i. bitOr (getD s i 0) (getD t i 0))
 
+pub faulty-wide : (T : Tables) (items q : ℕ) → length (faultyRow T items q) ≡ 16
+faulty-wide T items q = rowOf-row 16 (λ c. reached T c q && someBelow (bit (faults T c q)) items) .size
+
 -- ---- the loop
 
--- the rows of the forms below q have item a besides, the others are those of `lent`; the list of the next project starts at `start`
-pub record Joining (conditions full t1 t2 t4 : List ℕ) (first : ℕ) (reach named sets : List ℕ) (a : ℕ) (lent faults : List ℕ) (q start : ℕ)
+-- where `lent` starts with the rows of the items below a: the rows of the forms below q have item a besides, the others are those of `lent`; the
+-- list of the next project starts at `start`
+pub record Joining (conditions full entries relations queries : List ℕ) (first : ℕ) (reach named sets : List ℕ) (a : ℕ) (lent faults : List ℕ)
+    (q start : ℕ)
     : Type 0 where
-  pub most : q ≤ length t4 / 4
-  pub size : length faults ≡ length lent
-  pub starts : start ≡ first + projectedBefore t4 q
-  pub done : (T : Tables) → JoinReads T conditions full t1 t2 t4 first reach named sets a → RowsAre (queryCount T) (faultyRow T a) lent
-      → (k : ℕ) → k < q → rowIn 16 faults k ≡ faultyRow T (a + 1) k
+  pub rows : RowsFilling
+      (λ T. JoinReads T conditions full entries relations queries first reach named sets a × RowsAre 16 (queryCount T) (faultyRow T a) lent)
+      (λ T x k. faultyRow T (x + 1) k) a (length queries / 4) lent faults q
+  pub starts : start ≡ first + projectedBefore queries q
   pub rest : (k : ℕ) → q ≤ k → rowIn 16 faults k ≡ rowIn 16 lent k
 
-pub joining-none : {conditions full t1 t2 t4 : List ℕ} {first : ℕ} {reach named sets : List ℕ} {a : ℕ} {lent : List ℕ}
-    → Joining conditions full t1 t2 t4 first reach named sets a lent lent 0 first
-joining-none = record {
-  most = omega arith;
-  size = refl;
-  starts = omega arith;
-  done = λ T R B k h. absurd (not-suc-le-zero h);
-  rest = λ k h. refl;
-}
+pub joining-none : {conditions full entries relations queries : List ℕ} {first : ℕ} {reach named sets : List ℕ} {a : ℕ} {lent : List ℕ}
+    → Joining conditions full entries relations queries first reach named sets a lent lent 0 first
+joining-none = record { rows = filling-none; starts = omega arith; rest = λ k h. refl }
 
-module _ {conditions full t1 t2 t4 : List ℕ} {first : ℕ} {reach named sets : List ℕ} {a : ℕ} {lent faults : List ℕ} {q start : ℕ}
-    (S : Joining conditions full t1 t2 t4 first reach named sets a lent faults q start) where
-  module _ (h : q < length t4 / 4) where
-    joining-at : {T : Tables} → JoinReads T conditions full t1 t2 t4 first reach named sets a
-        → FaultAt T conditions full t1 t2 t4 named sets q start a
+module _ {conditions full entries relations queries : List ℕ} {first : ℕ} {reach named sets : List ℕ} {a : ℕ} {lent faults : List ℕ} {q start : ℕ}
+    (S : Joining conditions full entries relations queries first reach named sets a lent faults q start) where
+  module _ (h : q < length queries / 4) where
+    joining-at : {T : Tables} → JoinReads T conditions full entries relations queries first reach named sets a
+        → FaultAt T conditions full entries relations queries named sets q start a
     joining-at R = record {
       reads = R .reads;
-      inside = rw (R .reads .queries) at h;
-      starts = S .starts ∙ ap₂ (λ (i : ℕ) (t : List ℕ). i + projectedBefore t q) (R .begins) (R .reads .queries);
+      inside = rw (R .reads .queriesAre) at h;
+      starts = S .starts ∙ ap₂ (λ (i : ℕ) (t : List ℕ). i + projectedBefore t q) (R .begins) (R .reads .queriesAre);
     }
 
-    module _ (A : JoinReadable conditions full t1 t2 t4 first reach named sets a lent) where
-      pub joining-some : SomeFault conditions full t1 t2 t4 named sets q start a
+    module _ (A : JoinReadable conditions full entries relations queries first reach named sets a lent) where
+      pub joining-some : SomeFault conditions full entries relations queries named sets q start a
       joining-some = record { tables = A .tables; at = joining-at (A .reads) }
 
       pub joining-room : (q * 16 + 16 ≤ length reach) × (q * 16 + 16 ≤ length faults)
       joining-room =
-          let r = A .room in let s = S .size in let m = A .reads .reaching .room in
+          let r = A .room in let s = S .rows .size in let m = A .reads .reaching .room in
           let i : q < queryCount (A .tables) = joining-at (A .reads) .inside in
           (omega arith, omega arith)
 
-      module _ {x : Query} (e : x ≡ query t4 q) {n : ℕ} (p : n ≡ projectLength x) where
+      module _ {x : Query} (e : x ≡ query queries q) {n : ℕ} (p : n ≡ projectLength x) where
         pub joining-small : start + n ≤ 512
         joining-small =
             let at = joining-at (A .reads) in
@@ -102,21 +101,18 @@ module _ {conditions full t1 t2 t4 : List ℕ} {first : ℕ} {reach named sets :
             let m = F .sized1 .fits in
             let b = at .starts in
             let g = ap (projectedBefore (A .tables .queries)) (add-one q) in
-            let y = p ∙ ap projectLength (e ∙ ap (λ (t : List ℕ). query t q) (A .reads .reads .queries)) in
+            let y = p ∙ ap projectLength (e ∙ ap (λ (t : List ℕ). query t q) (A .reads .reads .queriesAre)) in
             omega arith
 
-        pub joining-more : {here after : List ℕ} → ((T : Tables) → FaultAt T conditions full t1 t2 t4 named sets q start a → here ≡ faultRow T a q)
+        pub joining-more : {here after : List ℕ}
+            → ((T : Tables) → FaultAt T conditions full entries relations queries named sets q start a → here ≡ faultRow T a q)
             → length after ≡ length faults → after ≡ withRow 16 faults q (joinedFault here (rowIn 16 reach q) (rowIn 16 faults q))
-            → Joining conditions full t1 t2 t4 first reach named sets a lent after (q + 1) (start + n)
+            → Joining conditions full entries relations queries first reach named sets a lent after (q + 1) (start + n)
         joining-more {here} {after} fault same stored = record {
-          most = omega arith;
-          size = same ∙ S .size;
+          rows = filling-more (λ T x k. faulty-wide T (x + 1) k) (S .rows) h (λ T R B. own T (R .0) (R .1)) same stored;
           starts =
-              let b = S .starts in let m = ap (projectedBefore t4) (add-one q) in let y = p ∙ ap projectLength e in
+              let b = S .starts in let m = ap (projectedBefore queries) (add-one q) in let y = p ∙ ap projectLength e in
               omega arith;
-          done = λ T R B k l.
-              ⊎-elim (λ (i : k ≡ q). rw i (own T R B)) (λ (i : k < q). other k (omega arith) ∙ S .done T R B k i)
-              (eq-or-lt-of-le (omega arith));
           rest = λ k l. other k (omega arith) ∙ S .rest k (omega arith);
         }
           where
@@ -129,18 +125,16 @@ module _ {conditions full t1 t2 t4 : List ℕ} {first : ℕ} {reach named sets :
             other : (k : ℕ) → (k ≡ q → ⊥) → rowIn 16 after k ≡ rowIn 16 faults k
             other k i = ap (λ (l : List ℕ). rowIn 16 l k) stored ∙ withRow-other 16 faults q new wide (joining-room .1) k i
 
-            own : (T : Tables) → JoinReads T conditions full t1 t2 t4 first reach named sets a → RowsAre (queryCount T) (faultyRow T a) lent
-                → rowIn 16 after q ≡ faultyRow T (a + 1) q
+            own : (T : Tables) → JoinReads T conditions full entries relations queries first reach named sets a
+                → RowsAre 16 (queryCount T) (faultyRow T a) lent
+                → new ≡ faultyRow T (a + 1) q
             own T R B =
                 let i = joining-at R .inside in
-                ap (λ (l : List ℕ). rowIn 16 l q) stored ∙ withRow-same 16 faults q new wide (joining-room .1)
-                ∙ ap₂ (rowJoin 16) (S .rest q (le-refl q) ∙ B .each q i)
+                ap₂ (rowJoin 16) (S .rest q (le-refl q) ∙ B .each q i)
                 (ap₂ (rowIntersect 16) (fault T (joining-at R)) (R .reaching .each q i))
                 ∙ join-row T a q
 
-  pub joining-all : length t4 / 4 ≤ q → (T : Tables) → JoinReads T conditions full t1 t2 t4 first reach named sets a
-      → RowsAre (queryCount T) (faultyRow T a) lent → RowsAre (queryCount T) (faultyRow T (a + 1)) faults
-  joining-all h T R B = record {
-    room = let m = B .room in let s = S .size in omega arith;
-    each = λ k l. S .done T R B k (let e = ap (λ (t : List ℕ). length t / 4) (R .reads .queries) in omega arith);
-  }
+  pub joining-all : length queries / 4 ≤ q → (T : Tables) → JoinReads T conditions full entries relations queries first reach named sets a
+      → RowsAre 16 (queryCount T) (faultyRow T a) lent → faults ≡ written (concat (queryCount T) (faultyRow T (a + 1))) lent
+  joining-all h T R B =
+      filling-all (λ U x k. faulty-wide U (x + 1) k) (S .rows) h T (R, B) (ap (λ (t : List ℕ). length t / 4) (R .reads .queriesAre))

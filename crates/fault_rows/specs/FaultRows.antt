@@ -7,14 +7,13 @@ use lib.ListN.{length, replicate}
 use Rattle.sets.specs.Search.{someBelow}
 use Rattle.sets.specs.Lists.{concat}
 use Rattle.sets.specs.Bits.{bit}
-use Rattle.sets.specs.Rows.{rowOf, within}
+use Rattle.sets.specs.Rows.{rowOf, within, RowsAre}
 use Rattle.report.specs.Tables.{Tables, relationCount, queryCount, relationStart, projectStart}
 use Rattle.report.specs.Expressions.{permitted}
 use Rattle.report.specs.Typing.{reached, faults}
 use Rattle.report.specs.ColumnRows.{hasColumn}
 use Rattle.report.specs.Configuring.{written}
-use Rattle.conditions.specs.Conditions.{Filled}
-use Rattle.attribute_rows.specs.AttributeRows.{RowsAre}
+use Rattle.conditions.specs.Conditions.{ExpressionsFilled}
 
 module _ (T : Tables) where
   -- the configurations at which item a is at fault in form q, whether they reach it or not
@@ -31,34 +30,35 @@ module _ (T : Tables) where
 
 -- what fault rows are worked out from: tables that have passed the form checks, their expression rows, all configurations, and where the lists
 -- of project forms start
-pub record FaultReads (T : Tables) (conditions full t1 t2 t3 t4 : List ℕ) (first : ℕ) : Type 0 where
-  pub filled : Filled T conditions
+pub record FaultReads (T : Tables) (conditions full entries relations comparisons queries : List ℕ) (first : ℕ) : Type 0 where
+  pub filled : ExpressionsFilled T conditions
   pub whole : full ≡ rowOf 16 (within (T .features) (λ c. true))
-  pub entries : t1 ≡ T .entries
-  pub relations : t2 ≡ T .relations
-  pub comparisons : t3 ≡ T .comparisons
-  pub queries : t4 ≡ T .queries
+  pub entriesAre : entries ≡ T .entries
+  pub relationsAre : relations ≡ T .relations
+  pub comparisonsAre : comparisons ≡ T .comparisons
+  pub queriesAre : queries ≡ T .queries
   pub begins : first ≡ relationStart (T .relations) (relationCount T)
 
 -- besides, the permitted configurations and those that reach each form
-pub record FailReads (T : Tables) (conditions full permits reach t1 t2 t3 t4 : List ℕ) (first : ℕ) : Type 0 where
-  pub reads : FaultReads T conditions full t1 t2 t3 t4 first
+pub record FailReads (T : Tables) (conditions full permits reach entries relations comparisons queries : List ℕ) (first : ℕ) : Type 0 where
+  pub reads : FaultReads T conditions full entries relations comparisons queries first
   pub permitting : permits ≡ rowOf 16 (permitted T)
-  pub reaching : RowsAre (queryCount T) (λ q. rowOf 16 (λ c. reached T c q)) reach
+  pub reaching : RowsAre 16 (queryCount T) (λ q. rowOf 16 (λ c. reached T c q)) reach
 
 -- there are such tables, `faults` has only zeros and room for a row a form, and `columns` room for a row an item
-pub record FailReadable (conditions full permits reach t1 t2 t3 t4 : List ℕ) (first items : ℕ) (faults columns : List ℕ) : Type 0 where
+pub record FailReadable (conditions full permits reach entries relations comparisons queries : List ℕ) (first items : ℕ)
+    (faults columns : List ℕ) : Type 0 where
   pub tables : Tables
-  pub reads : FailReads tables conditions full permits reach t1 t2 t3 t4 first
+  pub reads : FailReads tables conditions full permits reach entries relations comparisons queries first
   pub words : ℕ
   pub clear : faults ≡ replicate words 0
   pub room : queryCount tables * 16 ≤ words
   pub column : items * 16 ≤ length columns
 
--- what is filled in: the rows of the forms, and over the words that were there before the column rows
-pub record FailsFilled (T : Tables) (items : ℕ) (faults before columns : List ℕ) : Type 0 where
-  pub rows : RowsAre (queryCount T) (faultyRow T items) faults
-  pub shown : columns ≡ written (concat items (columnRow T)) before
+-- what is filled in, over the words that were lent: the rows of the forms, and the column rows
+pub record FailsFilled (T : Tables) (items : ℕ) (lentFaults faults lentColumns columns : List ℕ) : Type 0 where
+  pub rows : faults ≡ written (concat (queryCount T) (faultyRow T items)) lentFaults
+  pub shown : columns ≡ written (concat items (columnRow T)) lentColumns
 
 -- items are attributes and relations
 pub record Items (T : Tables) (items : ℕ) : Type 0 where
@@ -67,13 +67,13 @@ pub record Items (T : Tables) (items : ℕ) : Type 0 where
   pub most : items ≤ 64
 
 -- form q, whose list, if it is a project, starts at `start`, and a configuration c
-pub record ItemReads (T : Tables) (conditions full t1 t2 t3 t4 : List ℕ) (first items q start c : ℕ) : Type 0 where
-  pub reads : FaultReads T conditions full t1 t2 t3 t4 first
+pub record ItemReads (T : Tables) (conditions full entries relations comparisons queries : List ℕ) (first items q start c : ℕ) : Type 0 where
+  pub reads : FaultReads T conditions full entries relations comparisons queries first
   pub enough : Items T items
   pub inside : q < queryCount T
   pub starts : start ≡ projectStart T q
   pub configuration : c < 2 ^ (T .features)
 
-pub record ItemReadable (conditions full t1 t2 t3 t4 : List ℕ) (first items q start c : ℕ) : Type 0 where
+pub record ItemReadable (conditions full entries relations comparisons queries : List ℕ) (first items q start c : ℕ) : Type 0 where
   pub tables : Tables
-  pub reads : ItemReads tables conditions full t1 t2 t3 t4 first items q start c
+  pub reads : ItemReads tables conditions full entries relations comparisons queries first items q start c

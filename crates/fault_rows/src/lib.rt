@@ -1,9 +1,9 @@
 // Fault rows: for each query form the configurations at which it fails; and the column rows. Both go attribute by attribute, each from the
 // rows of that attribute.
+use attribute_rows::fill_named_rows;
+use attribute_rows::fill_relation_rows;
+use attribute_rows::fill_set_rows;
 use attribute_rows::list_row;
-use attribute_rows::named_rows;
-use attribute_rows::relation_rows;
-use attribute_rows::set_rows;
 use decoders::project_length;
 use decoders::query_at;
 use decoders::relation_expression;
@@ -11,15 +11,14 @@ use report::Query;
 use sets::AttributeSet;
 use sets::Row;
 ghost use mathlib.Core.Path.{_≡_};
-ghost use mathlib.Core.Bool.{cond};
-ghost use Prim.Native.Nat.{ℕ, _+_, _*_, _^_, _<_, _≤_};
-ghost use lib.Bits.{bitOr};
+ghost use Prim.Native.Nat.{ℕ, _+_, _*_, _<_, _≤_};
 ghost use lib.ListN.{length};
-ghost use Rattle.sets.specs.Rows.{rowBit, rowIn, rowIntersect, rowMinus, withRow};
+ghost use Rattle.sets.specs.Lists.{concat};
+ghost use Rattle.sets.specs.Rows.{rowIn, rowIntersect, rowMinus, withRow, RowsAre};
 ghost use Rattle.report.specs.Tables.{Tables, queryCount};
 ghost use Rattle.report.specs.Typing.{faults};
-ghost use Rattle.attribute_rows.specs.AttributeRows.{RowsAre};
-ghost use Rattle.attribute_rows.specs.RowRules.{QueryAt};
+ghost use Rattle.report.specs.Configuring.{written};
+ghost use Rattle.attribute_rows.specs.RowRules.{QueryStands};
 ghost use Rattle.fault_rows.specs.FaultRows.{faultRow, faultyRow, FaultReads, FailReads, FailReadable, FailsFilled};
 ghost use Rattle.fault_rows.specs.FaultRows.{ItemReads, ItemReadable};
 ghost use Rattle.fault_rows.specs.FaultRules.{unequalRow, absentRow, AbsentRead, joinedFault, faultStep, FaultRead, FaultAt, SomeFault};
@@ -52,12 +51,12 @@ fn missing_row(wanted: Row, rows: &[u64], b: usize) -> Row
 }
 
 // The configurations at which relation r is absent, if it is item a.
-fn absent_row(t2: &[u16], conditions: &[u64], full: Row, r: usize, a: usize) -> Row
-    requires { ⌜ AbsentRead (now conditions) (now t2) r ⌝ }
-    ensures { λ s. ⌜ s .words ≡ absentRow (now (conditions .entry)) (full .words) (now (t2 .entry)) a r ⌝ }
+fn absent_row(relations: &[u16], conditions: &[u64], full: Row, r: usize, a: usize) -> Row
+    requires { ⌜ AbsentRead (now conditions) (now relations) r ⌝ }
+    ensures { λ s. ⌜ s .words ≡ absentRow (now (conditions .entry)) (full .words) (now (relations .entry)) a r ⌝ }
 {
     if a == r {
-        let x = relation_expression(t2, r);
+        let x = relation_expression(relations, r);
         return missing_row(full, conditions, x);
     }
     Row::empty()
@@ -67,8 +66,8 @@ fn absent_row(t2: &[u16], conditions: &[u64], full: Row, r: usize, a: usize) -> 
 // and `sets` have the rows of attribute a.
 fn form_faults(
     x: Query,
-    t1: &[u16],
-    t2: &[u16],
+    entries: &[u16],
+    relations: &[u16],
     conditions: &[u64],
     full: Row,
     named: &[u64],
@@ -76,18 +75,19 @@ fn form_faults(
     start: usize,
     a: usize,
 ) -> Row
-    requires { ⌜ FaultRead (now conditions) (now t1) (now t2) (now named) (now sets) start x ⌝ }
+    requires { ⌜ FaultRead (now conditions) (now entries) (now relations) (now named) (now sets) start x ⌝ }
     ensures { λ r.
-        ⌜ ((T : Tables) (q : ℕ) → QueryAt T q (now (conditions .entry)) (now (t1 .entry)) start x
-        → r .words ≡ faultStep T a start (now (conditions .entry)) (full .words) (now (t2 .entry)) (now (named .entry)) (now (sets .entry)) x) ⌝ }
+        ⌜ ((T : Tables) (q : ℕ) → QueryStands T q (now (conditions .entry)) (now (entries .entry)) start x
+        → r .words ≡ faultStep T a start (now (conditions .entry)) (full .words) (now (relations .entry)) (now (named .entry)) (now (sets .entry)) x)
+        ⌝ }
 {
     match x {
         Query::Malformed => Row::empty(),
         Query::Empty => Row::empty(),
-        Query::Relation(r) => absent_row(t2, conditions, full, r, a),
+        Query::Relation(r) => absent_row(relations, conditions, full, r, a),
         Query::Select(f, b) => missing_row(Row::load(named, f), sets, b),
         Query::Project(count, b) => {
-            missing_row(list_row(t1, conditions, start, count, a), sets, b)
+            missing_row(list_row(entries, conditions, start, count, a), sets, b)
         }
         Query::Choice(_, _, _) => Row::empty(),
         Query::Product(b, d) => common_row(sets, b, d),
@@ -98,9 +98,9 @@ fn form_faults(
 
 // The same of form q.
 fn fault_row(
-    t1: &[u16],
-    t2: &[u16],
-    t4: &[u16],
+    entries: &[u16],
+    relations: &[u16],
+    queries: &[u16],
     conditions: &[u64],
     full: Row,
     named: &[u64],
@@ -109,15 +109,25 @@ fn fault_row(
     start: usize,
     a: usize,
 ) -> Row
-    requires { ⌜ SomeFault (now conditions) (full .words) (now t1) (now t2) (now t4) (now named) (now sets) q start a ⌝ }
+    requires { ⌜ SomeFault (now conditions) (full .words) (now entries) (now relations) (now queries) (now named) (now sets) q start a ⌝ }
     ensures { λ r.
         ⌜ ((T : Tables)
-        → FaultAt T (now (conditions .entry)) (full .words) (now (t1 .entry)) (now (t2 .entry)) (now (t4 .entry))
+        → FaultAt T (now (conditions .entry)) (full .words) (now (entries .entry)) (now (relations .entry)) (now (queries .entry))
         (now (named .entry)) (now (sets .entry)) q start a
         → r .words ≡ faultRow T a q) ⌝ }
 {
-    let x = query_at(t4, q);
-    form_faults(x, t1, t2, conditions, full, named, sets, start, a)
+    let x = query_at(queries, q);
+    form_faults(
+        x,
+        entries,
+        relations,
+        conditions,
+        full,
+        named,
+        sets,
+        start,
+        a,
+    )
 }
 
 // Row q of `faults` joined with those configurations of `here` that reach form q.
@@ -135,9 +145,9 @@ fn join_fault(here: Row, reach: &[u64], q: usize, faults: &mut [u64])
 // Joins into row q of `faults`, for each form q, the configurations that reach q and at which item a is at fault in it. The lists of project
 // forms start at `first`.
 fn join_faults(
-    t1: &[u16],
-    t2: &[u16],
-    t4: &[u16],
+    entries: &[u16],
+    relations: &[u16],
+    queries: &[u16],
     conditions: &[u64],
     full: Row,
     first: usize,
@@ -147,107 +157,131 @@ fn join_faults(
     a: usize,
     faults: &mut [u64],
 )
-    requires { ⌜ JoinReadable (now conditions) (full .words) (now t1) (now t2) (now t4) first (now reach) (now named) (now sets) a (now faults) ⌝ }
+    requires { ⌜ JoinReadable (now conditions) (full .words) (now entries) (now relations) (now queries) first (now reach) (now named) (now sets) a
+        (now faults) ⌝ }
     ensures { λ _.
         ⌜ ((T : Tables)
-        → JoinReads T (now (conditions .entry)) (full .words) (now (t1 .entry)) (now (t2 .entry)) (now (t4 .entry)) first
+        → JoinReads T (now (conditions .entry)) (full .words) (now (entries .entry)) (now (relations .entry)) (now (queries .entry)) first
         (now (reach .entry)) (now (named .entry)) (now (sets .entry)) a
-        → RowsAre (queryCount T) (faultyRow T a) (now (faults .entry)) → RowsAre (queryCount T) (faultyRow T (a + 1)) (now (faults .exit))) ⌝ }
+        → RowsAre 16 (queryCount T) (faultyRow T a) (now (faults .entry))
+        → now (faults .exit) ≡ written (concat (queryCount T) (faultyRow T (a + 1))) (now (faults .entry))) ⌝ }
 {
-    let count = t4.len() / 4;
+    let count = queries.len() / 4;
     let mut start = first;
     let mut q = 0;
     while q < count {
-        let here = fault_row(t1, t2, t4, conditions, full, named, sets, q, start, a);
+        let here = fault_row(
+            entries,
+            relations,
+            queries,
+            conditions,
+            full,
+            named,
+            sets,
+            q,
+            start,
+            a,
+        );
         join_fault(here, reach, q, &mut *faults);
-        start += project_length(query_at(t4, q));
+        start += project_length(query_at(queries, q));
         q += 1;
     }
 }
 
 // Fills the rows of attribute a: of the comparisons, the relations and the query forms.
 fn fill_attribute(
-    t1: &[u16],
-    t2: &[u16],
-    t3: &[u16],
-    t4: &[u16],
+    entries: &[u16],
+    relations: &[u16],
+    comparisons: &[u16],
+    queries: &[u16],
     conditions: &[u64],
     full: Row,
     first: usize,
     a: usize,
     named: &mut [u64],
-    relations: &mut [u64],
+    relation_rows: &mut [u64],
     sets: &mut [u64],
 )
-    requires { ⌜ AttributeReadable (now conditions) (full .words) (now t1) (now t2) (now t3) (now t4) first (now named) (now relations) (now sets) ⌝ }
+    requires { ⌜ AttributeReadable (now conditions) (full .words) (now entries) (now relations) (now comparisons) (now queries) first (now named)
+        (now «relation_rows») (now sets) ⌝ }
     ensures { λ _.
         ⌜ ((T : Tables)
-        → FaultReads T (now (conditions .entry)) (full .words) (now (t1 .entry)) (now (t2 .entry)) (now (t3 .entry)) (now (t4 .entry)) first
-        → Rowed T a (now (named .exit)) (now (relations .exit)) (now (sets .exit))) ⌝ }
+        → FaultReads T (now (conditions .entry)) (full .words) (now (entries .entry)) (now (relations .entry)) (now (comparisons .entry))
+        (now (queries .entry)) first
+        → Rowed T a (now (named .exit)) (now («relation_rows» .exit)) (now (sets .exit))) ⌝ }
 {
-    named_rows(t3, conditions, full, a, &mut *named);
-    relation_rows(t1, t2, conditions, a, &mut *relations);
-    set_rows(t1, t4, conditions, &*relations, first, a, &mut *sets);
+    fill_named_rows(comparisons, conditions, full, a, &mut *named);
+    fill_relation_rows(entries, relations, conditions, a, &mut *relation_rows);
+    fill_set_rows(
+        entries,
+        queries,
+        conditions,
+        &*relation_rows,
+        first,
+        a,
+        &mut *sets,
+    );
 }
 
 // Stores the column row of attribute a; `sets` has the rows of attribute a.
-fn store_column(t4: &[u16], permits: Row, sets: &[u64], a: usize, columns: &mut [u64])
-    requires { ⌜ ColumnRead (now t4) (now sets) a (now columns) ⌝ }
+fn store_column(queries: &[u16], permitted: Row, sets: &[u64], a: usize, columns: &mut [u64])
+    requires { ⌜ ColumnRead (now queries) (now sets) a (now columns) ⌝ }
     ensures { λ _.
-        ⌜ now (columns .exit) ≡ withRow 16 (now (columns .entry)) a (storedColumn (permits .words) (now (t4 .entry)) (now (sets .entry))) ⌝ }
+        ⌜ now (columns .exit) ≡ withRow 16 (now (columns .entry)) a (storedColumn (permitted .words) (now (queries .entry)) (now (sets .entry))) ⌝ }
 {
-    let last = t4.len() / 4 - 1;
+    let last = queries.len() / 4 - 1;
     let shown = Row::load(sets, last);
-    let column = shown.intersect(permits);
+    let column = shown.intersect(permitted);
     column.store(&mut *columns, a);
 }
 
 // Fills `faults` with the rows of the configurations at which each form fails, and `columns` with the column rows: attribute by attribute, of
 // the items below `items`.
 pub fn fill_faults(
-    t1: &[u16],
-    t2: &[u16],
-    t3: &[u16],
-    t4: &[u16],
+    entries: &[u16],
+    relations: &[u16],
+    comparisons: &[u16],
+    queries: &[u16],
     conditions: &[u64],
     full: Row,
-    permits: Row,
+    permitted: Row,
     first: usize,
     items: usize,
     reach: &[u64],
     faults: &mut [u64],
     columns: &mut [u64],
 )
-    requires { ⌜ FailReadable (now conditions) (full .words) (permits .words) (now reach) (now t1) (now t2) (now t3) (now t4) first items
+    requires { ⌜ FailReadable (now conditions) (full .words) (permitted .words) (now reach) (now entries) (now relations) (now comparisons)
+        (now queries) first items
         (now faults) (now columns) ⌝ }
     ensures { λ _.
         ⌜ ((T : Tables)
-        → FailReads T (now (conditions .entry)) (full .words) (permits .words) (now (reach .entry))
-        (now (t1 .entry)) (now (t2 .entry)) (now (t3 .entry)) (now (t4 .entry)) first
-        → FailsFilled T items (now (faults .exit)) (now (columns .entry)) (now (columns .exit))) ⌝ }
+        → FailReads T (now (conditions .entry)) (full .words) (permitted .words) (now (reach .entry))
+        (now (entries .entry)) (now (relations .entry)) (now (comparisons .entry)) (now (queries .entry)) first
+        → FailsFilled T items (now (faults .entry)) (now (faults .exit)) (now (columns .entry)) (now (columns .exit))) ⌝ }
 {
-    let mut named = [0; 4096];
-    let mut relations = [0; 512];
-    let mut sets = [0; 4096];
+    let mut named = [0; AttributeSet::MOST_COMPARISONS * Row::WORDS];
+    let mut relation_rows = [0; AttributeSet::MOST_RELATIONS * Row::WORDS];
+    let mut sets = [0; AttributeSet::MOST_QUERIES * Row::WORDS];
     let mut a = 0;
     while a < items {
         fill_attribute(
-            t1,
-            t2,
-            t3,
-            t4,
+            entries,
+            relations,
+            comparisons,
+            queries,
             conditions,
             full,
             first,
             a,
             &mut named,
-            &mut relations,
+            &mut relation_rows,
             &mut sets,
         );
         join_faults(
-            t1,
-            t2,
-            t4,
+            entries,
+            relations,
+            queries,
             conditions,
             full,
             first,
@@ -257,28 +291,17 @@ pub fn fill_faults(
             a,
             &mut *faults,
         );
-        store_column(t4, permits, &sets, a, &mut *columns);
+        store_column(queries, permitted, &sets, a, &mut *columns);
         a += 1;
     }
 }
 
-// The set, with item a if the row has configuration c.
-fn with_item(found: AttributeSet, here: Row, c: usize, a: usize) -> AttributeSet
-    requires { ⌜ (c < 1024) × (a < 64) ⌝ }
-    ensures { λ r. ⌜ r .bits ≡ cond (rowBit (here .words) c) (bitOr (found .bits) (2 ^ a)) (found .bits) ⌝ }
-{
-    if here.has(c) {
-        return found.with(a);
-    }
-    found
-}
-
 // The items at fault in form q at configuration c.
 pub fn items_at(
-    t1: &[u16],
-    t2: &[u16],
-    t3: &[u16],
-    t4: &[u16],
+    entries: &[u16],
+    relations: &[u16],
+    comparisons: &[u16],
+    queries: &[u16],
     conditions: &[u64],
     full: Row,
     first: usize,
@@ -287,34 +310,46 @@ pub fn items_at(
     start: usize,
     c: usize,
 ) -> AttributeSet
-    requires { ⌜ ItemReadable (now conditions) (full .words) (now t1) (now t2) (now t3) (now t4) first items q start c ⌝ }
+    requires { ⌜ ItemReadable (now conditions) (full .words) (now entries) (now relations) (now comparisons) (now queries) first items q start c ⌝ }
     ensures { λ r.
         ⌜ ((T : Tables)
-        → ItemReads T (now (conditions .entry)) (full .words) (now (t1 .entry)) (now (t2 .entry)) (now (t3 .entry)) (now (t4 .entry))
+        → ItemReads T (now (conditions .entry)) (full .words) (now (entries .entry)) (now (relations .entry)) (now (comparisons .entry))
+        (now (queries .entry))
         first items q start c
         → r .bits ≡ faults T c q) ⌝ }
 {
-    let mut named = [0; 4096];
-    let mut relations = [0; 512];
-    let mut sets = [0; 4096];
+    let mut named = [0; AttributeSet::MOST_COMPARISONS * Row::WORDS];
+    let mut relation_rows = [0; AttributeSet::MOST_RELATIONS * Row::WORDS];
+    let mut sets = [0; AttributeSet::MOST_QUERIES * Row::WORDS];
     let mut found = AttributeSet::empty();
     let mut a = 0;
     while a < items {
         fill_attribute(
-            t1,
-            t2,
-            t3,
-            t4,
+            entries,
+            relations,
+            comparisons,
+            queries,
             conditions,
             full,
             first,
             a,
             &mut named,
-            &mut relations,
+            &mut relation_rows,
             &mut sets,
         );
-        let here = fault_row(t1, t2, t4, conditions, full, &named, &sets, q, start, a);
-        found = with_item(found, here, c, a);
+        let here = fault_row(
+            entries,
+            relations,
+            queries,
+            conditions,
+            full,
+            &named,
+            &sets,
+            q,
+            start,
+            a,
+        );
+        found = found.with_if(a, here.has(c));
         a += 1;
     }
     found

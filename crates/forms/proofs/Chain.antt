@@ -11,11 +11,12 @@ use lib.Dec.{ltb, lit<}
 use Rattle.report.specs.Tables.{Tables, shapes, shapeOf, words, entryAttribute, relationExpression, relationStart}
 use Rattle.report.specs.Verdicts.{refusal, refuseIf, orElse}
 use Rattle.report.specs.FormChecks.{headCheck, lengthCheck, lengthsCheck, entriesCheck, relationsCheck, entryFits, relationFits}
+use Rattle.report.specs.Formed.{Sized}
 use Rattle.report.specs.declared.Refusal.{Refusal}
 use Rattle.report.specs.declared.Verdict.{Verdict}
 use Rattle.report.proofs.VerdictLaws.{then-next, then-refused, both-accepted, if-accepted, first-accepted}
-use Rattle.report.proofs.Formed.{Sized, sized, all-fit}
-use Rattle.forms.specs.Steps.{Ready, ListsReady, ContentsReady}
+use Rattle.report.proofs.Formed.{sized, all-fit}
+use Rattle.forms.specs.Steps.{QueriesReady, ListsReady, ContentsReady}
 use Rattle.forms.proofs.Lists.{list-inside}
 
 -- a check that refuses ends the chain; after one that accepts, the rest answers
@@ -36,7 +37,7 @@ module _ (e : ℕ) (entries relations : List ℕ) (accepted : relationsCheck e e
       (all-fit _ (relationFits e entries relations) (length relations / 2) accepted r h) .1)
 
   pub ready : {start : ℕ} (queries : List ℕ) → ListsReady entries relations queries → start ≡ relationStart relations (length relations / 2)
-      → Ready entries start queries
+      → QueriesReady entries start queries
   ready queries l f =
       record {
         narrow = l .narrow;

@@ -17,7 +17,7 @@ use Rattle.report.specs.Tables.{entryAttribute, relationExpression, relationLen
 use Rattle.report.specs.FormChecks.{repeats, listFits, relationFits}
 use Rattle.report.proofs.FormFacts.{list-in}
 use Rattle.decoders.specs.Words.{IsWord}
-use Rattle.table_checks.proofs.FormLoops.{Passed, passed-none, passed-more}
+use Rattle.table_checks.proofs.FormLoops.{FormsPassed, passed-none, passed-more}
 use Rattle.forms.specs.Steps.{Inside}
 
 -- ---- one list
@@ -82,8 +82,8 @@ narrow-at {start} i k a h e = let w = i .within in rw e (i .narrow .each (start 
 -- ---- the relations
 
 -- the first r relations fit, and their lists end at `start`
-pub record Related (e : ℕ) (entries relations : List ℕ) (start r : ℕ) : Type 0 where
-  pub passed : Passed (relationFits e entries relations) (length relations / 2) r
+pub record RelationsPassed (e : ℕ) (entries relations : List ℕ) (start r : ℕ) : Type 0 where
+  pub passed : FormsPassed (relationFits e entries relations) (length relations / 2) r
   pub ends : start ≡ relationStart relations r
   pub inside : start ≤ length entries / 2
 
@@ -96,11 +96,11 @@ pub next-start : (relations : List ℕ) (r : ℕ) {start n : ℕ} → start ≡ 
 next-start relations r e f = ap₂ _+_ e f ∙ ap (relationStart relations) (sym (add-one r))
 
 module _ (e : ℕ) (entries relations : List ℕ) where
-  pub related-none : Related e entries relations 0 0
+  pub related-none : RelationsPassed e entries relations 0 0
   related-none = record { passed = passed-none _ _; ends = refl; inside = omega arith }
 
   -- relation r, of expression x and n entries; t is whether its list fits
-  module _ {start r x n : ℕ} {t : Bool} (s : Related e entries relations start r) (f : x ≡ relationExpression relations r)
+  module _ {start r x n : ℕ} {t : Bool} (s : RelationsPassed e entries relations start r) (f : x ≡ relationExpression relations r)
       (g : n ≡ relationLength relations r) (l : t ≡ listFits entries start n)
     where
       pub relation-is : (ltb x e && t) ≡ relationFits e entries relations r
@@ -109,7 +109,7 @@ module _ (e : ℕ) (entries relations : List ℕ) where
       pub related-inside : not (ltb x e && t) ≡ false → start + n ≤ length entries / 2
       related-inside u = list-inside entries start n (sym l ∙ and-eq-true-iff (ltb x e) t .0 (not-false (ltb x e && t) u) .1)
 
-      pub related-more : r < length relations / 2 → not (ltb x e && t) ≡ false → Related e entries relations (start + n) (r + 1)
+      pub related-more : r < length relations / 2 → not (ltb x e && t) ≡ false → RelationsPassed e entries relations (start + n) (r + 1)
       related-more h u =
           record { passed = passed-more _ _ (s .passed) h relation-is u; ends = next-start relations r (s .ends) g; inside = related-inside u }
 

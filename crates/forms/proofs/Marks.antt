@@ -1,19 +1,22 @@
 -- Marks: what a mark more says, and that marks which agree with the forms taken give the rules of the definitions.
 use Prim.Native.Nat.{ℕ, zero, suc, _+_, _/_, _≤_, _<_}
 use mathlib.Core.Path.{_≡_, refl, sym, ap, ap₂, _∙_}
-use mathlib.Core.Bool.{Bool, true, false, _&&_, _||_, not, false≢true, and-eq-true-iff, or-true, or-false, or-assoc}
+use mathlib.Core.Bool.{Bool, true, false, _||_, and-eq-true-iff, or-true, or-false, or-assoc}
 use mathlib.Core.List.{List}
 use native.Mathlib.Omega.{arith}
 use borrow.Author.Tests.{eqb-true, eqb-false}
 use lib.ListN.{length, set, length-set, replicate}
 use lib.Seq.{getD-set-same, getD-set-other}
-use lib.Dec.{ltb, eqb}
+use lib.Dec.{eqb}
 use Rattle.report.specs.Tables.{projectLength, projectedBefore}
-use Rattle.report.specs.FormChecks.{isOperand, takenBelow, free, freePair, listFits, queryFits}
+use Rattle.report.specs.Operands.{queryOperands, isAmong}
+use Rattle.report.specs.FormChecks.{takenBelow, free, queryFits, queryFitsAt}
+use Rattle.report.specs.Formed.{OperandsBelow}
 use Rattle.report.specs.declared.Query.{Query}
-use Rattle.report.proofs.FormFacts.{Free, FreePair, is-free, is-free-pair}
+use Rattle.report.specs.declared.Operands.{Operands}
+use Rattle.report.proofs.FormFacts.{operands-free, free-below, below-more, Listing, project, unlisted, listing}
 use Rattle.forms.specs.declared.Counts.{Counts}
-use Rattle.forms.specs.Steps.{marked, freeBy, freePairBy, queryFitsBy, markedBy, Markable}
+use Rattle.forms.specs.Steps.{marked, markedBy}
 use Rattle.forms.proofs.Lists.{list-inside}
 
 pub unmarked : (n x : ℕ) → marked (replicate n 0) x ≡ false
@@ -31,80 +34,50 @@ set-marked marks i x h = go (eqb x i) refl
         ∙ sym (or-true (marked marks x))
     go false e = ap (λ (z : ℕ). eqb z 1) (getD-set-other marks i x 1 0 (eqb-false x i e)) ∙ sym (or-false (marked marks x))
 
--- the new marks are the old ones and those of a form that takes the operands y with `takes y`; there was room for them
-pub record Marking (room : Type 0) (marks new : List ℕ) (takes : ℕ → Bool) : Type 0 where
-  pub able : room
-  pub agree : (y : ℕ) → marked new y ≡ (marked marks y || takes y)
-  pub size : length new ≡ length marks
+module _ (marks : List ℕ) where
+  two-marked : (a b : ℕ) → (a < length marks) × (b < length marks) → (y : ℕ)
+      → marked (set (set marks a 1) b 1) y ≡ (marked marks y || (eqb y a || eqb y b))
+  two-marked a b l y =
+      set-marked (set marks a 1) b y (rw (length-set marks a 1) (l .1))
+      ∙ ap (λ (t : Bool). t || eqb y b) (set-marked marks a y (l .0))
+      ∙ or-assoc (marked marks y) (eqb y a) (eqb y b)
+
+  -- the marks with those of a form's operands are the old ones and theirs
+  pub operands-marked : (o : Operands) → OperandsBelow (length marks) o → (y : ℕ) → marked (markedBy o marks) y ≡ (marked marks y || isAmong y o)
+  operands-marked Operands.Nothing l y = sym (or-false (marked marks y))
+  operands-marked (Operands.One a) l y = set-marked marks a y l
+  operands-marked (Operands.Both a b) l y = two-marked a b l y
+  operands-marked (Operands.Choice e a b) l y = two-marked a b l y
+
+  pub marks-length : (o : Operands) → length (markedBy o marks) ≡ length marks
+  marks-length Operands.Nothing = refl
+  marks-length (Operands.One a) = length-set marks a 1
+  marks-length (Operands.Both a b) = simp length-set
+  marks-length (Operands.Choice e a b) = simp length-set
 
 -- a query that stands as form q
 module _ (n : Counts) (entries : List ℕ) (start : ℕ) (queries : List ℕ) (q : ℕ) where
   abbrev pub fits : Query → Bool
-  fits = queryFits (n .expressions) (n .relations) (n .comparisons) entries start queries q
+  fits = queryFitsAt (n .expressions) (n .relations) (n .comparisons) entries start queries q
 
   -- marks that agree with the forms taken below q, and a list that starts where the lists before it end
-  module _ (marks : List ℕ) (agree : (y : ℕ) → marked marks y ≡ takenBelow queries q y) where
-    free-is : (x : ℕ) → freeBy marks q x ≡ free queries q x
-    free-is x = ap (λ (t : Bool). ltb x q && not t) (agree x)
-
-    pair-is : (x y : ℕ) → freePairBy marks q x y ≡ freePair queries q x y
-    pair-is x y = ap₂ (λ (s t : Bool). s && t && not (eqb x y)) (free-is x) (free-is y)
-
-    pub fits-is : {end : ℕ} → end ≡ start + projectedBefore queries q → (x : Query) → queryFitsBy n entries end marks q x ≡ fits x
-    fits-is e Query.Malformed = refl
-    fits-is e Query.Empty = refl
-    fits-is e (Query.Relation a) = refl
-    fits-is e (Query.Select a b) = ap (λ (t : Bool). ltb a (n .comparisons) && t) (free-is b)
-    fits-is e (Query.Project a b) = ap₂ (λ (s : ℕ) (t : Bool). listFits entries s a && t) e (free-is b)
-    fits-is e (Query.Choice a b d) = ap (λ (t : Bool). ltb a (n .expressions) && t) (pair-is b d)
-    fits-is e (Query.Product a b) = pair-is a b
-    fits-is e (Query.Union a b) = pair-is a b
-    fits-is e (Query.Intersection a b) = pair-is a b
+  pub fits-is : (marks : List ℕ) → ((y : ℕ) → marked marks y ≡ takenBelow queries q y) → {end : ℕ} → end ≡ start + projectedBefore queries q
+      → (x : Query) → queryFits (n .expressions) (n .relations) (n .comparisons) entries end (marked marks) q x ≡ fits x
+  fits-is marks agree e x =
+      ap₂ (λ (s : ℕ) (t : ℕ → Bool). queryFits (n .expressions) (n .relations) (n .comparisons) entries s t q x) e (λ i y. agree y i)
 
   -- the list of a query that fits ends in table 1
   pub fits-inside : start + projectedBefore queries q ≤ length entries / 2 → (x : Query) → fits x ≡ true
       → start + projectedBefore queries q + projectLength x ≤ length entries / 2
-  fits-inside h Query.Malformed t = absurd (false≢true t)
-  fits-inside h Query.Empty t = omega arith
-  fits-inside h (Query.Relation a) t = omega arith
-  fits-inside h (Query.Select a b) t = omega arith
-  fits-inside h (Query.Project a b) t = list-inside entries _ a (and-eq-true-iff _ (free queries q b) .0 t .0)
-  fits-inside h (Query.Choice a b d) t = omega arith
-  fits-inside h (Query.Product a b) t = omega arith
-  fits-inside h (Query.Union a b) t = omega arith
-  fits-inside h (Query.Intersection a b) t = omega arith
+  fits-inside h x t = go (listing x)
+    where
+      go : Listing x → start + projectedBefore queries q + projectLength x ≤ length entries / 2
+      go (project a b e) = rw e (list-inside entries _ a (and-eq-true-iff _ (free (takenBelow queries q) q b) .0 (rw e at t) .0))
+      go (unlisted e) = omega arith
 
-  -- its operands are marked
-  module _ (marks : List ℕ) (room : q ≤ length marks) where
-    none : Marking (Unit {0}) marks marks (λ y. false)
-    none = record { able = tt; agree = λ y. sym (or-false (marked marks y)); size = refl }
-
-    one : (a : ℕ) → Free queries q a → Marking (a < length marks) marks (set marks a 1) (λ y. eqb y a)
-    one a f =
-        let h : a < length marks = (let l = f .lower in omega arith) in
-        record { able = h; agree = λ y. set-marked marks a y h; size = length-set marks a 1 }
-
-    two : (a b : ℕ) → FreePair queries q a b
-        → Marking ((a < length marks) × (b < length marks)) marks (set (set marks a 1) b 1) (λ y. eqb y a || eqb y b)
-    two a b f =
-        let g : a < length marks = (let l = f .first .lower in omega arith) in
-        let h : b < length marks = (let l = f .second .lower in omega arith) in
-        record {
-          able = (g, h);
-          agree = λ y.
-              set-marked (set marks a 1) b y (rw (length-set marks a 1) h)
-              ∙ ap (λ (t : Bool). t || eqb y b) (set-marked marks a y g)
-              ∙ or-assoc (marked marks y) (eqb y a) (eqb y b);
-          size = simp length-set;
-        }
-
-    pub fits-marks : (x : Query) → fits x ≡ true → Marking (Markable marks x) marks (markedBy x marks) (λ y. isOperand y x)
-    fits-marks Query.Malformed t = none
-    fits-marks Query.Empty t = none
-    fits-marks (Query.Relation a) t = none
-    fits-marks (Query.Select a b) t = one b (is-free queries q b (and-eq-true-iff (ltb a (n .comparisons)) _ .0 t .1))
-    fits-marks (Query.Project a b) t = one b (is-free queries q b (and-eq-true-iff (listFits entries _ a) _ .0 t .1))
-    fits-marks (Query.Choice a b d) t = two b d (is-free-pair queries q b d (and-eq-true-iff (ltb a (n .expressions)) _ .0 t .1))
-    fits-marks (Query.Product a b) t = two a b (is-free-pair queries q a b t)
-    fits-marks (Query.Union a b) t = two a b (is-free-pair queries q a b t)
-    fits-marks (Query.Intersection a b) t = two a b (is-free-pair queries q a b t)
+  -- its operands are lower, so where the forms below it have marks they have
+  pub fits-below : (m : ℕ) → q ≤ m → (x : Query) → fits x ≡ true → OperandsBelow m (queryOperands x)
+  fits-below m room x t =
+      below-more room (queryOperands x)
+      (free-below (n .expressions) queries q (queryOperands x)
+      (operands-free (n .expressions) (n .relations) (n .comparisons) entries start queries q x t))

@@ -10,32 +10,35 @@ use borrow.Author.Tests.{not-false}
 use lib.ListN.{length, replicate}
 use Rattle.sets.proofs.SearchLaws.{someBelow-suc, lowest-same}
 use Rattle.report.specs.Tables.{query, projectLength, projectedBefore}
-use Rattle.report.specs.FormChecks.{isOperand, takenBelow, queriesCheck, untakenCheck, leftEntryCheck}
+use Rattle.report.specs.Operands.{queryOperands}
+use Rattle.report.specs.FormChecks.{isOperand, takenBelow, queryFits, queriesCheck, untakenCheck, leftEntryCheck}
 use Rattle.report.specs.Verdicts.{refusal, refuseAt, orElse}
+use Rattle.report.specs.Formed.{OperandsBelow}
 use Rattle.report.specs.declared.Query.{Query}
+use Rattle.report.specs.declared.Operands.{Operands}
 use Rattle.report.specs.declared.Verdict.{Verdict}
 use Rattle.report.proofs.VerdictLaws.{then-next, then-refused}
-use Rattle.table_checks.proofs.FormLoops.{Passed, passed-none, passed-more, passed-first, passed-all}
+use Rattle.table_checks.proofs.FormLoops.{FormsPassed, passed-none, passed-more, passed-first, passed-all}
 use Rattle.forms.specs.declared.Counts.{Counts}
-use Rattle.forms.specs.Steps.{marked, queryFitsBy, markedBy, Markable, untakenBy, queriesRest, Ready}
-use Rattle.forms.proofs.Marks.{Marking, unmarked, fits, fits-is, fits-inside, fits-marks}
+use Rattle.forms.specs.Steps.{marked, markedBy, untakenBy, queriesRest, QueriesReady}
+use Rattle.forms.proofs.Marks.{unmarked, operands-marked, marks-length, fits, fits-is, fits-inside, fits-below}
 
 -- the first q forms fit, their lists end at `end`, and the forms that they take are marked
-pub record Walked (n : Counts) (entries : List ℕ) (start : ℕ) (queries marks : List ℕ) (end q : ℕ) : Type 0 where
-  pub passed : Passed (λ j. fits n entries start queries j (query queries j)) (length queries / 4) q
+pub record QueriesPassed (n : Counts) (entries : List ℕ) (start : ℕ) (queries marks : List ℕ) (end q : ℕ) : Type 0 where
+  pub passed : FormsPassed (λ j. fits n entries start queries j (query queries j)) (length queries / 4) q
   pub ends : end ≡ start + projectedBefore queries q
   pub inside : end ≤ length entries / 2
   pub size : length marks ≡ 256
   pub agree : (x : ℕ) → marked marks x ≡ takenBelow queries q x
 
-module _ (n : Counts) (entries : List ℕ) (start : ℕ) (queries : List ℕ) (ready : Ready entries start queries) where
-  pub walked-none : Walked n entries start queries (replicate 256 0) start 0
+module _ (n : Counts) (entries : List ℕ) (start : ℕ) (queries : List ℕ) (ready : QueriesReady entries start queries) where
+  pub walked-none : QueriesPassed n entries start queries (replicate 256 0) start 0
   walked-none =
       record { passed = passed-none _ _; ends = sym (add-zero start); inside = ready .starts; size = refl; agree = unmarked 256 }
 
   -- form q is x; t is whether it fits
-  module _ {marks : List ℕ} {end q : ℕ} {x : Query} {t : Bool} (s : Walked n entries start queries marks end q) (h : q < length queries / 4)
-      (e : x ≡ query queries q) (f : t ≡ queryFitsBy n entries end marks q x)
+  module _ {marks : List ℕ} {end q : ℕ} {x : Query} {t : Bool} (s : QueriesPassed n entries start queries marks end q) (h : q < length queries / 4)
+      (e : x ≡ query queries q) (f : t ≡ queryFits (n .expressions) (n .relations) (n .comparisons) entries end (marked marks) q x)
     where
       test-is : t ≡ fits n entries start queries q x
       test-is = f ∙ fits-is n entries start queries q marks (s .agree) (s .ends) x
@@ -48,39 +51,42 @@ module _ (n : Counts) (entries : List ℕ) (start : ℕ) (queries : List ℕ) (r
       walked-first u v = v ∙ sym (then-refused _ (sym (passed-first _ _ (s .passed) h form-is u (λ j. refusal 8 j 0 0))))
 
       module _ (u : not t ≡ false) where
-        marking : Marking (Markable marks x) marks (markedBy x marks) (λ y. isOperand y x)
-        marking =
+        below : OperandsBelow (length marks) (queryOperands x)
+        below =
             let z = s .size in
             let y = ready .fits in
-            fits-marks n entries start queries q marks (omega arith) x (sym test-is ∙ not-false t u)
+            fits-below n entries start queries q (length marks) (omega arith) x (sym test-is ∙ not-false t u)
 
-        pub walked-markable : Markable marks x
-        walked-markable = marking .able
+        pub walked-below : {to : Operands} → to ≡ queryOperands x → OperandsBelow (length marks) to
+        walked-below p = rw p below
 
         pub walked-inside : {l : ℕ} → l ≡ projectLength x → end + l ≤ length entries / 2
         walked-inside p =
             let i = fits-inside n entries start queries q (rw (s .ends) at (s .inside)) x (sym test-is ∙ not-false t u) in
             rw (s .ends, p) i
 
-        pub walked-more : {new : List ℕ} {l : ℕ} → new ≡ markedBy x marks → l ≡ projectLength x
-            → Walked n entries start queries new (end + l) (q + 1)
-        walked-more p r = record {
+        pub walked-more : {new : List ℕ} {to : Operands} {l : ℕ} → to ≡ queryOperands x → new ≡ markedBy to marks → l ≡ projectLength x
+            → QueriesPassed n entries start queries new (end + l) (q + 1)
+        walked-more {new} o p r = record {
           passed = passed-more _ _ (s .passed) h form-is u;
           ends =
               ap₂ _+_ (s .ends) (r ∙ ap projectLength e)
               ∙ add-assoc start (projectedBefore queries q) (projectLength (query queries q))
               ∙ ap (λ (j : ℕ). start + projectedBefore queries j) (sym (add-one q));
           inside = walked-inside r;
-          size = ap length p ∙ marking .size ∙ s .size;
+          size = ap length marks-are ∙ marks-length marks (queryOperands x) ∙ s .size;
           agree = λ y.
-              ap (λ (m : List ℕ). marked m y) p
-              ∙ marking .agree y
+              ap (λ (m : List ℕ). marked m y) marks-are
+              ∙ operands-marked marks (queryOperands x) below y
               ∙ ap₂ _||_ (s .agree y) (ap (isOperand y) e)
               ∙ sym (ap (λ (j : ℕ). takenBelow queries j y) (add-one q) ∙ someBelow-suc (λ j. isOperand y (query queries j)) q);
         }
+          where
+            marks-are : new ≡ markedBy (queryOperands x) marks
+            marks-are = p ∙ ap (λ (to : Operands). markedBy to marks) o
 
   -- after the loop checks 9 and 10 by the marks are what is left
-  pub walked-all : {marks : List ℕ} {end q : ℕ} {v : Verdict} → Walked n entries start queries marks end q → length queries / 4 ≤ q
+  pub walked-all : {marks : List ℕ} {end q : ℕ} {v : Verdict} → QueriesPassed n entries start queries marks end q → length queries / 4 ≤ q
       → v ≡ orElse (untakenBy marks (length queries / 4 - 1)) (leftEntryCheck end (length entries / 2)) → v ≡ queriesRest n entries start queries
   unfolding queriesCheck untakenCheck
   walked-all {marks} {end} {q} s h p =

@@ -4,10 +4,10 @@ use mathlib.Core.List.{List, [], _∷_}
 use lib.ListN.{length}
 use Rattle.report.specs.Tables.{Tables}
 use Rattle.report.specs.Configuring.{configured}
-use Rattle.report.specs.Checks.{Call, answer}
+use Rattle.report.specs.Calls.{answer, checking, configuring}
 use Rattle.report.specs.declared.Refusal.{Refusal}
 use Rattle.report.specs.declared.Verdict.{Verdict}
-use Rattle.checker.specs.Calls.{configuredAnswer}
+use Rattle.checker.specs.Promises.{configuredAnswer}
 use Rattle.checker.specs.declared.Configured.{Configured}
 
 -- number, place, item and configuration
@@ -15,6 +15,10 @@ abbrev pub refusalWords : Refusal → List ℕ
 refusalWords r = r .number ∷ r .place ∷ r .item ∷ r .configuration ∷ []
 
 -- ---- checking
+
+-- what checking T answers, with these rows lent
+abbrev pub checkAnswer : Tables → List ℕ → Verdict
+checkAnswer T rows = answer T (checking (length rows))
 
 -- the number that is returned
 abbrev pub answerNumber : Verdict → ℕ
@@ -30,8 +34,8 @@ answerWords (Verdict.Refused r) lent = refusalWords r
 
 -- what configuring T at c answers, with these tables 1 to 4 lent for writing
 abbrev pub configureAnswer : Tables → ℕ → List ℕ → List ℕ → List ℕ → List ℕ → Configured
-configureAnswer T c o1 o2 o3 o4 =
-    configuredAnswer (answer T (Call.configure c (length o1) (length o2) (length o3) (length o4))) (configured T c)
+configureAnswer T c newEntries newRelations newComparisons newQueries =
+    configuredAnswer (answer T (configuring c (length newEntries) (length newRelations) (length newComparisons) (length newQueries))) (configured T c)
 
 -- the number that is returned
 abbrev pub configuredNumber : Configured → ℕ

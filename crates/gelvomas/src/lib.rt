@@ -5,11 +5,9 @@ use checker::configure;
 use report::Refusal;
 use report::Verdict;
 ghost use mathlib.Core.Path.{_≡_};
-ghost use lib.ListN.{length};
 ghost use Rattle.report.specs.Tables.{tablesOf};
-ghost use Rattle.report.specs.Checks.{Call, answer, rowsAfter};
-ghost use Rattle.checker.specs.Calls.{Configures};
-ghost use Rattle.gelvomas.specs.Answers.{refusalWords, answerNumber, answerWords, configureAnswer, configuredNumber, configuredWords};
+ghost use Rattle.checker.specs.Promises.{Checks, Configures};
+ghost use Rattle.gelvomas.specs.Answers.{refusalWords, checkAnswer, answerNumber, answerWords, configureAnswer, configuredNumber, configuredWords};
 
 // Number, place, item and configuration of a refusal, or how many forms tables 1 to 4 have.
 pub type AnswerWords = [u64; 4];
@@ -27,31 +25,48 @@ pub extern "C" fn gelvomas_check(
     features: u64,
     attributes: u64,
     model: u64,
-    t0: &[u16],
-    t1: &[u16],
-    t2: &[u16],
-    t3: &[u16],
-    t4: &[u16],
+    expressions: &[u16],
+    entries: &[u16],
+    relations: &[u16],
+    comparisons: &[u16],
+    queries: &[u16],
     rows: &mut [u64],
     refusal: &mut AnswerWords,
 ) -> u64
     ensures { λ r.
         ⌜ r
-        ≡ answerNumber
-        (answer (tablesOf features attributes model (now (t0 .entry)) (now (t1 .entry)) (now (t2 .entry)) (now (t3 .entry)) (now (t4 .entry)))
-        (Call.check (length (now (rows .entry))))) ⌝ }
+        ≡ answerNumber (checkAnswer
+        (tablesOf features attributes model (now (expressions .entry)) (now (entries .entry)) (now (relations .entry))
+        (now (comparisons .entry)) (now (queries .entry)))
+        (now (rows .entry))) ⌝ }
     ensures { λ _.
         ⌜ now (refusal .exit)
-        ≡ answerWords
-        (answer (tablesOf features attributes model (now (t0 .entry)) (now (t1 .entry)) (now (t2 .entry)) (now (t3 .entry)) (now (t4 .entry)))
-        (Call.check (length (now (rows .entry)))))
+        ≡ answerWords (checkAnswer
+        (tablesOf features attributes model (now (expressions .entry)) (now (entries .entry)) (now (relations .entry))
+        (now (comparisons .entry)) (now (queries .entry)))
+        (now (rows .entry)))
         (now (refusal .entry)) ⌝ }
     ensures { λ _.
-        ⌜ now (rows .exit)
-        ≡ rowsAfter (tablesOf features attributes model (now (t0 .entry)) (now (t1 .entry)) (now (t2 .entry)) (now (t3 .entry)) (now (t4 .entry)))
-        (now (rows .entry)) ⌝ }
+        ⌜ Checks (tablesOf features attributes model (now (expressions .entry)) (now (entries .entry)) (now (relations .entry))
+        (now (comparisons .entry)) (now (queries .entry)))
+        (now (rows .entry))
+        (checkAnswer
+        (tablesOf features attributes model (now (expressions .entry)) (now (entries .entry)) (now (relations .entry))
+        (now (comparisons .entry)) (now (queries .entry)))
+        (now (rows .entry)))
+        (now (rows .exit)) ⌝ }
 {
-    let v = check(features, attributes, model, t0, t1, t2, t3, t4, rows);
+    let v = check(
+        features,
+        attributes,
+        model,
+        expressions,
+        entries,
+        relations,
+        comparisons,
+        queries,
+        rows,
+    );
     if let Verdict::Refused(r) = v {
         *refusal = refusal_words(r);
         return 1;
@@ -59,65 +74,70 @@ pub extern "C" fn gelvomas_check(
     0
 }
 
-// Answers 0 where the report is configured: each of `o1` to `o4` holds its table, followed by what stood there, and `answer` how many forms each
-// table has. Else answers 1: `answer` holds number, place, item and configuration, and `o1` to `o4` are as they were.
+// Answers 0 where the report is configured: each of `new_entries` to `new_queries` holds its table, followed by what stood there, and
+// `answer` how many forms each table has. Else answers 1: `answer` holds number, place, item and configuration, and `new_entries` to
+// `new_queries` are as they were.
 #[no_mangle]
 pub extern "C" fn gelvomas_configure(
     features: u64,
     attributes: u64,
     model: u64,
-    t0: &[u16],
-    t1: &[u16],
-    t2: &[u16],
-    t3: &[u16],
-    t4: &[u16],
+    expressions: &[u16],
+    entries: &[u16],
+    relations: &[u16],
+    comparisons: &[u16],
+    queries: &[u16],
     c: u64,
-    o1: &mut [u16],
-    o2: &mut [u16],
-    o3: &mut [u16],
-    o4: &mut [u16],
+    new_entries: &mut [u16],
+    new_relations: &mut [u16],
+    new_comparisons: &mut [u16],
+    new_queries: &mut [u16],
     answer: &mut AnswerWords,
 ) -> u64
     ensures { λ r.
         ⌜ r
         ≡ configuredNumber (configureAnswer
-        (tablesOf features attributes model (now (t0 .entry)) (now (t1 .entry)) (now (t2 .entry)) (now (t3 .entry)) (now (t4 .entry)))
-        c (now (o1 .entry)) (now (o2 .entry)) (now (o3 .entry)) (now (o4 .entry))) ⌝ }
+        (tablesOf features attributes model (now (expressions .entry)) (now (entries .entry)) (now (relations .entry)) (now (comparisons .entry))
+        (now (queries .entry)))
+        c (now («new_entries» .entry)) (now («new_relations» .entry)) (now («new_comparisons» .entry)) (now («new_queries» .entry))) ⌝ }
     ensures { λ _.
         ⌜ now (answer .exit)
         ≡ configuredWords (configureAnswer
-        (tablesOf features attributes model (now (t0 .entry)) (now (t1 .entry)) (now (t2 .entry)) (now (t3 .entry)) (now (t4 .entry)))
-        c (now (o1 .entry)) (now (o2 .entry)) (now (o3 .entry)) (now (o4 .entry))) ⌝ }
+        (tablesOf features attributes model (now (expressions .entry)) (now (entries .entry)) (now (relations .entry)) (now (comparisons .entry))
+        (now (queries .entry)))
+        c (now («new_entries» .entry)) (now («new_relations» .entry)) (now («new_comparisons» .entry)) (now («new_queries» .entry))) ⌝ }
     ensures { λ _.
-        ⌜ Configures (tablesOf features attributes model (now (t0 .entry)) (now (t1 .entry)) (now (t2 .entry)) (now (t3 .entry)) (now (t4 .entry)))
-        c (now (o1 .entry)) (now (o2 .entry)) (now (o3 .entry)) (now (o4 .entry))
+        ⌜ Configures (tablesOf features attributes model (now (expressions .entry)) (now (entries .entry)) (now (relations .entry))
+        (now (comparisons .entry)) (now (queries .entry)))
+        c (now («new_entries» .entry)) (now («new_relations» .entry)) (now («new_comparisons» .entry)) (now («new_queries» .entry))
         (configureAnswer
-        (tablesOf features attributes model (now (t0 .entry)) (now (t1 .entry)) (now (t2 .entry)) (now (t3 .entry)) (now (t4 .entry)))
-        c (now (o1 .entry)) (now (o2 .entry)) (now (o3 .entry)) (now (o4 .entry)))
-        (now (o1 .exit)) (now (o2 .exit)) (now (o3 .exit)) (now (o4 .exit)) ⌝ }
+        (tablesOf features attributes model (now (expressions .entry)) (now (entries .entry)) (now (relations .entry)) (now (comparisons .entry))
+        (now (queries .entry)))
+        c (now («new_entries» .entry)) (now («new_relations» .entry)) (now («new_comparisons» .entry)) (now («new_queries» .entry)))
+        (now («new_entries» .exit)) (now («new_relations» .exit)) (now («new_comparisons» .exit)) (now («new_queries» .exit)) ⌝ }
 {
     let made = configure(
         features,
         attributes,
         model,
-        t0,
-        t1,
-        t2,
-        t3,
-        t4,
+        expressions,
+        entries,
+        relations,
+        comparisons,
+        queries,
         c,
-        o1,
-        o2,
-        o3,
-        o4,
+        new_entries,
+        new_relations,
+        new_comparisons,
+        new_queries,
     );
     match made {
-        Configured::Written(entries, relations, comparisons, queries) => {
+        Configured::Written(entry_count, relation_count, comparison_count, query_count) => {
             *answer = [
-                entries as u64,
-                relations as u64,
-                comparisons as u64,
-                queries as u64,
+                entry_count as u64,
+                relation_count as u64,
+                comparison_count as u64,
+                query_count as u64,
             ];
             0
         }

@@ -14,23 +14,22 @@ use Rattle.sets.specs.Rows.{rowBit, rowIn}
 use Rattle.sets.proofs.SearchLaws.{count-le}
 use Rattle.sets.proofs.ListLaws.{table-length, table-at, table-more}
 use Rattle.report.specs.Tables.{Tables, comparison, query, expressionCount, comparisonCount, queryCount}
+use Rattle.report.specs.Operands.{comparisonOperands, queryOperands, isChoice}
 use Rattle.report.specs.Typing.{at, taken, reached}
-use Rattle.report.specs.Configuring.{comparisonTargetOf, comparisonTarget, queryTargetOf, isComparisonChoice, isQueryChoice}
-use Rattle.report.specs.Configuring.{comparisonKept, queryKept, newComparison, newQuery, written}
+use Rattle.report.specs.Configuring.{targetOf, comparisonTarget, queryTarget, comparisonKept, queryKept, newComparison, newQuery, written}
+use Rattle.report.specs.Formed.{OperandsBelow}
 use Rattle.report.specs.declared.Comparison.{Comparison}
 use Rattle.report.specs.declared.Query.{Query}
-use Rattle.report.proofs.Comparison as comparisons
-use Rattle.report.proofs.Query as queries
-use Rattle.report.proofs.Formed.{Formed}
-use Rattle.report.proofs.FormFacts.{ComparisonBelow, QueryBelow}
+use Rattle.report.specs.declared.Operands.{Operands}
+use Rattle.report.proofs.Comparison as comparison-type
+use Rattle.report.proofs.Query as query-type
 use Rattle.report.proofs.FormedFacts.{comparison-at, comparison-operands, query-at, query-operands}
-use Rattle.report.proofs.StepLaws.{taken-below, comparison-target-in}
-use Rattle.report.proofs.PassingOn.{View, choice, plain, view, plain-target}
-use Rattle.report.proofs.LeadLaws.{target-plain, target-choice}
+use Rattle.report.proofs.StepLaws.{taken-below, comparison-target-in, query-target-in}
+use Rattle.report.proofs.OperandLaws.{View, choice, plain, view, choice-comparison, choice-query}
 use Rattle.kept_lists.specs.Keeping.{AtReads}
 use Rattle.kept_lists.proofs.KeepingLaws.{narrow, rowed, holds-at, reach-row, reach-has}
-use Rattle.kept_forms.specs.Numbering.{Numbered, ComparisonReads, ComparisonNumberable, QueryReads, QueryNumberable}
-use Rattle.kept_forms.specs.FormWords.{TakenRead, ComparisonAt, SomeComparison, QueryAt, SomeQuery}
+use Rattle.kept_forms.specs.Numbering.{NumbersAre, ComparisonReads, ComparisonNumberable, QueryReads, QueryNumberable}
+use Rattle.kept_forms.specs.FormWords.{TakenRead, ComparisonTargetAt, SomeComparison, QueryTargetAt, SomeQuery}
 
 -- ---- kinds of forms
 
@@ -41,33 +40,20 @@ plainComparisons = 0 ∷ 1 ∷ 2 ∷ 3 ∷ 4 ∷ 5 ∷ 6 ∷ 7 ∷ []
 abbrev plainQueries : List ℕ
 plainQueries = 0 ∷ 1 ∷ 2 ∷ 3 ∷ 4 ∷ 6 ∷ 7 ∷ 8 ∷ []
 
-module _ (T : Tables) (c : ℕ) where
-  -- a comparison that is no choice: it is kept, and a reference to it stays
-  pub record PlainComparison (x : Comparison) : Type 0 where
-    pub isPlain : isComparisonChoice T c x ≡ false
-    pub stays : (target : ℕ → ℕ) (f : ℕ) → comparisonTargetOf T c target f x ≡ f
+-- a form of one of these kinds is plain
+pub plain-comparison : (x : Comparison) → OneOf plainComparisons (tagOf comparison-type.the-type x) → isChoice (comparisonOperands x) ≡ false
+plain-comparison x h = go (view (comparisonOperands x))
+  where
+    go : View (comparisonOperands x) → isChoice (comparisonOperands x) ≡ false
+    go (choice e a b w) = absurd (miss plainComparisons 8 tt (rw (choice-comparison x w) at h))
+    go (plain p) = p
 
-  pub plain-comparison : (x : Comparison) → OneOf plainComparisons (tagOf comparisons.the-type x) → PlainComparison x
-  plain-comparison Comparison.Malformed h = record { isPlain = refl; stays = λ target f. refl }
-  plain-comparison Comparison.Never h = record { isPlain = refl; stays = λ target f. refl }
-  plain-comparison Comparison.Always h = record { isPlain = refl; stays = λ target f. refl }
-  plain-comparison (Comparison.Constant o a b) h = record { isPlain = refl; stays = λ target f. refl }
-  plain-comparison (Comparison.Attribute o a b) h = record { isPlain = refl; stays = λ target f. refl }
-  plain-comparison (Comparison.Not a) h = record { isPlain = refl; stays = λ target f. refl }
-  plain-comparison (Comparison.And a b) h = record { isPlain = refl; stays = λ target f. refl }
-  plain-comparison (Comparison.Or a b) h = record { isPlain = refl; stays = λ target f. refl }
-  plain-comparison (Comparison.Choice a b d) h = absurd (miss plainComparisons 8 tt h)
-
-  pub plain-query : (x : Query) → OneOf plainQueries (tagOf queries.the-type x) → isQueryChoice T c x ≡ false
-  plain-query Query.Malformed h = refl
-  plain-query Query.Empty h = refl
-  plain-query (Query.Relation a) h = refl
-  plain-query (Query.Select a b) h = refl
-  plain-query (Query.Project a b) h = refl
-  plain-query (Query.Choice a b d) h = absurd (miss plainQueries 5 tt h)
-  plain-query (Query.Product a b) h = refl
-  plain-query (Query.Union a b) h = refl
-  plain-query (Query.Intersection a b) h = refl
+pub plain-query : (x : Query) → OneOf plainQueries (tagOf query-type.the-type x) → isChoice (queryOperands x) ≡ false
+plain-query x h = go (view (queryOperands x))
+  where
+    go : View (queryOperands x) → isChoice (queryOperands x) ≡ false
+    go (choice e a b w) = absurd (miss plainQueries 5 tt (rw (choice-query x w) at h))
+    go (plain p) = p
 
 -- ---- a choice on expression e: the number of the alternative that it takes
 
@@ -85,8 +71,8 @@ module _ {conditions : List ℕ} {c : ℕ} (numbers : List ℕ) {e b d : ℕ} wh
     pub comparison-read : {count : ℕ} → SomeComparison conditions c numbers count x → TakenRead conditions c numbers e b d
     comparison-read A = let l = rw w at (A .at .lower) in taken-read (A .at .reads) numbers (l .0) b d (l .1, l .2) (A .below)
 
-    pub comparison-taken : {T : Tables} {f : ℕ} → ComparisonAt T f conditions c x → (count : ℕ) {v : ℕ}
-        → v ≡ getD numbers (cond (rowBit (rowIn 16 conditions e) c) b d) 0 → v ≡ comparisonTargetOf T c (λ k. getD numbers k 0) count x
+    pub comparison-taken : {T : Tables} {f : ℕ} → ComparisonTargetAt T f conditions c x → (count : ℕ) {v : ℕ}
+        → v ≡ getD numbers (cond (rowBit (rowIn 16 conditions e) c) b d) 0 → v ≡ targetOf T c (λ k. getD numbers k 0) count (comparisonOperands x)
     comparison-taken A count p = rw w (taken-number (A .reads) numbers ((rw w at (A .lower)) .0) b d p)
 
   module _ {x : Query} (w : x ≡ Query.Choice e b d) where
@@ -95,29 +81,23 @@ module _ {conditions : List ℕ} {c : ℕ} (numbers : List ℕ) {e b d : ℕ} wh
         let l = rw w at (A .at .lower) in
         taken-read (A .at .reads) numbers (l .0) b d (l .1 .first .lower, l .1 .second .lower) (A .below)
 
-    pub query-taken : {T : Tables} {q : ℕ} → QueryAt T q conditions c x → (count : ℕ) {v : ℕ}
-        → v ≡ getD numbers (cond (rowBit (rowIn 16 conditions e) c) b d) 0 → v ≡ queryTargetOf T c (λ k. getD numbers k 0) count x
+    pub query-taken : {T : Tables} {q : ℕ} → QueryTargetAt T q conditions c x → (count : ℕ) {v : ℕ}
+        → v ≡ getD numbers (cond (rowBit (rowIn 16 conditions e) c) b d) 0 → v ≡ targetOf T c (λ k. getD numbers k 0) count (queryOperands x)
     query-taken A count p = rw w (taken-number (A .reads) numbers ((rw w at (A .lower)) .0) b d p)
 
 -- ---- the number of one form, where `number` has the new numbers of lower forms, and `count` forms before it are kept
 
-module _ (T : Tables) (c f : ℕ) (number : ℕ → ℕ) (count : ℕ) (same : count ≡ countBelow (comparisonKept T c) f)
-    (each : (j : ℕ) → j < f → number j ≡ newComparison T c j) where
-  comparison-rule : (x : Comparison) → ComparisonBelow f x
-      → comparisonTargetOf T c number count x ≡ countBelow (comparisonKept T c) (comparisonTargetOf T c (comparisonTarget T c) f x)
-  comparison-rule Comparison.Malformed l = same
-  comparison-rule Comparison.Never l = same
-  comparison-rule Comparison.Always l = same
-  comparison-rule (Comparison.Constant o a b) l = same
-  comparison-rule (Comparison.Attribute o a b) l = same
-  comparison-rule (Comparison.Not a) l = same
-  comparison-rule (Comparison.And a b) l = same
-  comparison-rule (Comparison.Or a b) l = same
-  comparison-rule (Comparison.Choice a b d) l = each (taken T c a b d) (taken-below (at T c a) l)
+module _ (T : Tables) (c f : ℕ) (keep : ℕ → Bool) (target number : ℕ → ℕ) (count : ℕ) (same : count ≡ countBelow keep f)
+    (each : (j : ℕ) → j < f → number j ≡ countBelow keep (target j)) where
+  number-rule : (o : Operands) → OperandsBelow f o → targetOf T c number count o ≡ countBelow keep (targetOf T c target f o)
+  number-rule Operands.Nothing l = same
+  number-rule (Operands.One a) l = same
+  number-rule (Operands.Both a b) l = same
+  number-rule (Operands.Choice e a b) l = each (taken T c e a b) (taken-below (at T c e) l)
 
 -- ---- numbers that were written are those of the forms
 
-pub numbered : (count : ℕ) (f : ℕ → ℕ) (rest : List ℕ) {numbers : List ℕ} → numbers ≡ table count f ++ rest → Numbered count f numbers
+pub numbered : (count : ℕ) (f : ℕ → ℕ) (rest : List ℕ) {numbers : List ℕ} → numbers ≡ table count f ++ rest → NumbersAre count f numbers
 numbered count f rest e = record {
   room = omega (arith, ap length e ∙ length-append (table count f) rest, table-length count f);
   each = λ k h.
@@ -167,49 +147,53 @@ module _ {Reads : Tables → Type 0} {new : Tables → ℕ → ℕ} {keep : Tabl
 -- ---- the comparisons
 
 -- comparison f of a table 3, and of the same under another name
-module _ {t3 t : List ℕ} (is : t3 ≡ t) (f : ℕ) where
-  pub comparison-in : f < length t3 / 5 → f < length t / 5
+module _ {comparisons t : List ℕ} (is : comparisons ≡ t) (f : ℕ) where
+  pub comparison-in : f < length comparisons / 5 → f < length t / 5
   comparison-in h = rw is at h
 
-  pub comparison-is : {x : Comparison} → x ≡ comparison t3 f → x ≡ comparison t f
+  pub comparison-is : {x : Comparison} → x ≡ comparison comparisons f → x ≡ comparison t f
   comparison-is e = e ∙ ap (λ (l : List ℕ). comparison l f) is
 
-module _ {T : Tables} {conditions t3 : List ℕ} {c : ℕ} (R : ComparisonReads T conditions t3 c) {f : ℕ} (h : f < length t3 / 5) {x : Comparison}
-    (e : x ≡ comparison t3 f) where
-  comparison-stands : ComparisonAt T f conditions c x
+module _ {T : Tables} {conditions comparisons : List ℕ} {c : ℕ} (R : ComparisonReads T conditions comparisons c) {f : ℕ}
+    (h : f < length comparisons / 5) {x : Comparison}
+    (e : x ≡ comparison comparisons f) where
+  comparison-stands : ComparisonTargetAt T f conditions c x
   comparison-stands = record {
     reads = R .reads;
-    lower = rw (comparison-is (R .comparisons) f e) (comparison-at (R .reads .filled .formed) f (comparison-in (R .comparisons) f h));
+    lower = rw (comparison-is (R .comparisonsAre) f e) (comparison-at (R .reads .filled .formed) f (comparison-in (R .comparisonsAre) f h));
   }
 
   number-is : (number : ℕ → ℕ) {count v : ℕ} → ((j : ℕ) → j < f → number j ≡ newComparison T c j)
-      → count ≡ countBelow (comparisonKept T c) f → v ≡ comparisonTargetOf T c number count x → v ≡ newComparison T c f
+      → count ≡ countBelow (comparisonKept T c) f → v ≡ targetOf T c number count (comparisonOperands x) → v ≡ newComparison T c f
   number-is number {count} each same p =
       let F = R .reads .filled .formed in
-      let k = comparison-in (R .comparisons) f h in
-      p ∙ ap (comparisonTargetOf T c number count) (comparison-is (R .comparisons) f e)
-      ∙ comparison-rule T c f number count same each (comparison (T .comparisons) f) (comparison-operands F f k)
+      let k = comparison-in (R .comparisonsAre) f h in
+      p ∙ ap (λ (y : Comparison). targetOf T c number count (comparisonOperands y)) (comparison-is (R .comparisonsAre) f e)
+      ∙ number-rule T c f (comparisonKept T c) (comparisonTarget T c) number count same each (comparisonOperands (comparison (T .comparisons) f))
+      (comparison-operands F f k)
       ∙ ap (countBelow (comparisonKept T c)) (sym (comparison-target-in F c f k))
 
 -- the comparisons below f are numbered
-abbrev pub ComparisonNumbering : (conditions t3 : List ℕ) (c : ℕ) (lent numbers : List ℕ) (count f : ℕ) → Type 0
-ComparisonNumbering conditions t3 c =
-    Numbering (λ T. ComparisonReads T conditions t3 c) (λ T. newComparison T c) (λ T. comparisonKept T c) (length t3 / 5)
+abbrev pub ComparisonNumbering : (conditions comparisons : List ℕ) (c : ℕ) (lent numbers : List ℕ) (count f : ℕ) → Type 0
+ComparisonNumbering conditions comparisons c =
+    Numbering (λ T. ComparisonReads T conditions comparisons c) (λ T. newComparison T c) (λ T. comparisonKept T c) (length comparisons / 5)
 
-module _ {conditions t3 : List ℕ} {c : ℕ} {lent numbers : List ℕ} {count f : ℕ} (S : ComparisonNumbering conditions t3 c lent numbers count f) where
-  module _ (A : ComparisonNumberable conditions t3 c lent) (h : f < length t3 / 5) where
+module _ {conditions comparisons : List ℕ} {c : ℕ} {lent numbers : List ℕ} {count f : ℕ}
+    (S : ComparisonNumbering conditions comparisons c lent numbers count f) where
+  module _ (A : ComparisonNumberable conditions comparisons c lent) (h : f < length comparisons / 5) where
     -- few are kept, and there is a place for the next number
     pub comparisons-few : count ≤ 256
     comparisons-few =
         let l = numbering-few S (A .reads) in
         let m = A .reads .reads .filled .formed .sized3 .fits in
-        let k = comparison-in (A .reads .comparisons) f h in
+        let k = comparison-in (A .reads .comparisonsAre) f h in
         omega arith
 
     pub comparison-place : f < length numbers
     comparison-place = let m = A .room in let s = S .size in omega arith
 
-  module _ (A : ComparisonNumberable conditions t3 c lent) (h : f < length t3 / 5) {x : Comparison} (e : x ≡ comparison t3 f) where
+  module _ (A : ComparisonNumberable conditions comparisons c lent) (h : f < length comparisons / 5) {x : Comparison}
+      (e : x ≡ comparison comparisons f) where
     pub some-comparison : SomeComparison conditions c numbers count x
     some-comparison = record {
       tables = A .tables;
@@ -220,23 +204,24 @@ module _ {conditions t3 : List ℕ} {c : ℕ} {lent numbers : List ℕ} {count f
     }
 
     pub comparisons-more : {v s : ℕ}
-        → ((T : Tables) (f : ℕ) → ComparisonAt T f conditions c x → v ≡ comparisonTargetOf T c (λ k. getD numbers k 0) count x)
-        → ((T : Tables) (c : ℕ) → s ≡ cond (not (isComparisonChoice T c x)) 1 0)
-        → ComparisonNumbering conditions t3 c lent (set numbers f v) (count + s) (f + 1)
+        → ((T : Tables) (f : ℕ) → ComparisonTargetAt T f conditions c x → v ≡ targetOf T c (λ k. getD numbers k 0) count (comparisonOperands x))
+        → s ≡ cond (not (isChoice (comparisonOperands x))) 1 0
+        → ComparisonNumbering conditions comparisons c lent (set numbers f v) (count + s) (f + 1)
     comparisons-more p q =
         numbering-more S (A .room) h
         (λ T R. number-is R h e (λ k. getD numbers k 0) (numbering-below S R) (S .counted T R) (p T f (comparison-stands R h e)))
-        (λ T R. q T c ∙ ap (λ (y : Comparison). cond (not (isComparisonChoice T c y)) 1 0) (comparison-is (R .comparisons) f e))
+        (λ T R. q ∙ ap (λ (y : Comparison). cond (not (isChoice (comparisonOperands y))) 1 0) (comparison-is (R .comparisonsAre) f e))
 
-  pub comparisons-all : length t3 / 5 ≤ f → (T : Tables) → ComparisonReads T conditions t3 c
+  pub comparisons-all : length comparisons / 5 ≤ f → (T : Tables) → ComparisonReads T conditions comparisons c
       → numbers ≡ written (table (comparisonCount T) (newComparison T c)) lent
-  comparisons-all h T R = numbering-all S h T R (ap (λ (t : List ℕ). length t / 5) (R .comparisons))
+  comparisons-all h T R = numbering-all S h T R (ap (λ (t : List ℕ). length t / 5) (R .comparisonsAre))
 
 -- ---- the query forms
 
-module _ {T : Tables} {conditions reach t4 : List ℕ} {c : ℕ} (R : QueryReads T conditions reach t4 c) {q : ℕ} (h : q < length t4 / 4) where
+module _ {T : Tables} {conditions reach queries : List ℕ} {c : ℕ} (R : QueryReads T conditions reach queries c) {q : ℕ}
+    (h : q < length queries / 4) where
   pub query-in : q < queryCount T
-  query-in = rw (R .queries) at h
+  query-in = rw (R .queriesAre) at h
 
   -- form q has a row, which has c where c reaches it
   pub reach-rowed : (q * 16 + 16 ≤ length reach) × (c < 1024)
@@ -245,38 +230,31 @@ module _ {T : Tables} {conditions reach t4 : List ℕ} {c : ℕ} (R : QueryReads
   pub reached-at : rowBit (rowIn 16 reach q) c ≡ reached T c q
   reached-at = reach-has (R .reads) (R .reaching) query-in
 
-  module _ {x : Query} (e : x ≡ query t4 q) where
+  module _ {x : Query} (e : x ≡ query queries q) where
     pub query-is : x ≡ query (T .queries) q
-    query-is = e ∙ ap (λ (t : List ℕ). query t q) (R .queries)
+    query-is = e ∙ ap (λ (t : List ℕ). query t q) (R .queriesAre)
 
-    pub query-stands : QueryAt T q conditions c x
+    pub query-stands : QueryTargetAt T q conditions c x
     query-stands = record { reads = R .reads; lower = rw query-is (query-at (R .reads .filled .formed) q query-in) }
 
     query-number-is : (number : ℕ → ℕ) {count v : ℕ} → ((j : ℕ) → j < q → number j ≡ newQuery T c j)
-        → count ≡ countBelow (queryKept T c) q → v ≡ queryTargetOf T c number count x → v ≡ newQuery T c q
+        → count ≡ countBelow (queryKept T c) q → v ≡ targetOf T c number count (queryOperands x) → v ≡ newQuery T c q
     query-number-is number {count} each same p =
-        p ∙ ap (queryTargetOf T c number count) query-is ∙ go (view T c (query (T .queries) q)) (query-operands F q query-in)
-      where
-        F : Formed T
-        F = R .reads .filled .formed
-
-        go : View T c (query (T .queries) q) → QueryBelow q (query (T .queries) q)
-            → queryTargetOf T c number count (query (T .queries) q) ≡ newQuery T c q
-        go (plain w) l =
-            plain-target T c number count (query (T .queries) q) w ∙ same
-            ∙ ap (countBelow (queryKept T c)) (sym (target-plain F c q query-in w))
-        go (choice a b d w) l =
-            ap (queryTargetOf T c number count) w ∙ each (taken T c a b d) (taken-below (at T c a) (rw w at l))
-            ∙ ap (countBelow (queryKept T c)) (sym (target-choice F c q a b d query-in w))
+        let F = R .reads .filled .formed in
+        p ∙ ap (λ (y : Query). targetOf T c number count (queryOperands y)) query-is
+        ∙ number-rule T c q (queryKept T c) (queryTarget T c) number count same each (queryOperands (query (T .queries) q))
+        (query-operands F q query-in)
+        ∙ ap (countBelow (queryKept T c)) (sym (query-target-in F c q query-in))
 
 -- the query forms below q are numbered
-abbrev pub QueryNumbering : (conditions reach t4 : List ℕ) (c : ℕ) (lent numbers : List ℕ) (count q : ℕ) → Type 0
-QueryNumbering conditions reach t4 c =
-    Numbering (λ T. QueryReads T conditions reach t4 c) (λ T. newQuery T c) (λ T. queryKept T c) (length t4 / 4)
+abbrev pub QueryNumbering : (conditions reach queries : List ℕ) (c : ℕ) (lent numbers : List ℕ) (count q : ℕ) → Type 0
+QueryNumbering conditions reach queries c =
+    Numbering (λ T. QueryReads T conditions reach queries c) (λ T. newQuery T c) (λ T. queryKept T c) (length queries / 4)
 
-module _ {conditions reach t4 : List ℕ} {c : ℕ} {lent numbers : List ℕ} {count q : ℕ} (S : QueryNumbering conditions reach t4 c lent numbers count q)
+module _ {conditions reach queries : List ℕ} {c : ℕ} {lent numbers : List ℕ} {count q : ℕ}
+    (S : QueryNumbering conditions reach queries c lent numbers count q)
   where
-    module _ (A : QueryNumberable conditions reach t4 c lent) (h : q < length t4 / 4) where
+    module _ (A : QueryNumberable conditions reach queries c lent) (h : q < length queries / 4) where
       -- few are kept, and there is a place for the next number
       pub queries-few : count ≤ 256
       queries-few =
@@ -286,7 +264,7 @@ module _ {conditions reach t4 : List ℕ} {c : ℕ} {lent numbers : List ℕ} {c
       pub query-place : q < length numbers
       query-place = let m = A .room in let s = S .size in omega arith
 
-    module _ (A : QueryNumberable conditions reach t4 c lent) (h : q < length t4 / 4) {x : Query} (e : x ≡ query t4 q) where
+    module _ (A : QueryNumberable conditions reach queries c lent) (h : q < length queries / 4) {x : Query} (e : x ≡ query queries q) where
       pub some-query : SomeQuery conditions c numbers count x
       some-query = record {
         tables = A .tables;
@@ -297,14 +275,14 @@ module _ {conditions reach t4 : List ℕ} {c : ℕ} {lent numbers : List ℕ} {c
       }
 
       pub queries-more : {v s : ℕ} {b : Bool}
-          → ((T : Tables) (q : ℕ) → QueryAt T q conditions c x → v ≡ queryTargetOf T c (λ k. getD numbers k 0) count x)
-          → b ≡ rowBit (rowIn 16 reach q) c → ((T : Tables) (c : ℕ) → s ≡ cond (b && not (isQueryChoice T c x)) 1 0)
-          → QueryNumbering conditions reach t4 c lent (set numbers q v) (count + s) (q + 1)
+          → ((T : Tables) (q : ℕ) → QueryTargetAt T q conditions c x → v ≡ targetOf T c (λ k. getD numbers k 0) count (queryOperands x))
+          → b ≡ rowBit (rowIn 16 reach q) c → s ≡ cond (b && not (isChoice (queryOperands x))) 1 0
+          → QueryNumbering conditions reach queries c lent (set numbers q v) (count + s) (q + 1)
       queries-more p r s =
           numbering-more S (A .room) h
           (λ T R. query-number-is R h e (λ k. getD numbers k 0) (numbering-below S R) (S .counted T R) (p T q (query-stands R h e)))
-          (λ T R. s T c ∙ ap₂ (λ (t : Bool) (y : Query). cond (t && not (isQueryChoice T c y)) 1 0) (r ∙ reached-at R h) (query-is R h e))
+          (λ T R. s ∙ ap₂ (λ (t : Bool) (y : Query). cond (t && not (isChoice (queryOperands y))) 1 0) (r ∙ reached-at R h) (query-is R h e))
 
-    pub queries-all : length t4 / 4 ≤ q → (T : Tables) → QueryReads T conditions reach t4 c
+    pub queries-all : length queries / 4 ≤ q → (T : Tables) → QueryReads T conditions reach queries c
         → numbers ≡ written (table (queryCount T) (newQuery T c)) lent
-    queries-all h T R = numbering-all S h T R (ap (λ (t : List ℕ). length t / 4) (R .queries))
+    queries-all h T R = numbering-all S h T R (ap (λ (t : List ℕ). length t / 4) (R .queriesAre))

@@ -5,14 +5,15 @@ use mathlib.Core.Bool.{Bool, true, false, cond, not}
 use mathlib.Core.List.{List, [], _∷_}
 use native.Mathlib.Omega.{arith}
 use lib.ListN.{length, getD}
-use Rattle.sets.specs.Lists.{table, concat}
-use Rattle.sets.specs.Writing.{Written}
+use Rattle.sets.specs.Lists.{concat}
+use Rattle.sets.specs.Writing.{WrittenAt}
 use Rattle.sets.proofs.WritingLaws.{same-length, same-written, same-room}
 use Rattle.sets.proofs.WritingLaws.{Writing, writing-none, writing-room, writing-more, writing-all}
 use Rattle.report.specs.Tables.{Tables, word, allZero, unused, comparisonOf, comparison, expressionCount}
-use Rattle.report.specs.Configuring.{isComparisonChoice, comparisonKept, newComparison, comparisonFormOf, configured}
+use Rattle.report.specs.Operands.{comparisonOperands, isChoice}
+use Rattle.report.specs.Configuring.{comparisonKept, newComparison, comparisonFormOf, configured}
+use Rattle.report.specs.Formed.{OperandsBelow}
 use Rattle.report.specs.declared.Comparison.{Comparison}
-use Rattle.report.proofs.FormFacts.{ComparisonBelow}
 use Rattle.report.proofs.FormedFacts.{comparison-at, comparison-operands}
 use Rattle.kept_forms.specs.Numbering.{comparisonForms, ComparisonFormReads, ComparisonFormWritable}
 use Rattle.kept_forms.specs.FormWords.{comparisonWords, ComparisonSmall, ComparisonWritable}
@@ -39,9 +40,10 @@ comparison-of-small (suc (suc (suc (suc (suc (suc zero)))))) o a b c h = compari
 comparison-of-small (suc (suc (suc (suc (suc (suc (suc zero))))))) o a b c h = comparison-whole (o ∷ []) (Comparison.Choice a b c) tt
 comparison-of-small (suc (suc (suc (suc (suc (suc (suc (suc kind)))))))) o a b c h = tt
 
-comparison-small : (t3 : List ℕ) (f : ℕ) → ((i : ℕ) → getD t3 i 0 < 65536) → ComparisonSmall (comparison t3 f)
-comparison-small t3 f words =
-    comparison-of-small (getD t3 (f * 5) 0) (word t3 5 f 1) (word t3 5 f 2) (word t3 5 f 3) (word t3 5 f 4)
+comparison-small : (comparisons : List ℕ) (f : ℕ) → ((i : ℕ) → getD comparisons i 0 < 65536) → ComparisonSmall (comparison comparisons f)
+comparison-small comparisons f words =
+    comparison-of-small (getD comparisons (f * 5) 0) (word comparisons 5 f 1) (word comparisons 5 f 2) (word comparisons 5 f 3)
+    (word comparisons 5 f 4)
     (words (f * 5 + 1), words (f * 5 + 2), words (f * 5 + 3))
 
 -- what a comparison writes: a choice nothing, any other its words
@@ -50,7 +52,8 @@ module _ (T : Tables) (c : ℕ) where
   comparisonPart f = cond (comparisonKept T c f) (comparisonFormOf T c (comparison (T .comparisons) f)) []
 
   comparison-words : (numbers : List ℕ) (f : ℕ) → ((j : ℕ) → j < f → getD numbers j 0 ≡ newComparison T c j) → (y : Comparison)
-      → ComparisonBelow f y → cond (not (isComparisonChoice T c y)) (comparisonFormOf T c y) [] ≡ comparisonWords numbers y
+      → OperandsBelow f (comparisonOperands y)
+      → cond (not (isChoice (comparisonOperands y))) (comparisonFormOf T c y) [] ≡ comparisonWords numbers y
   comparison-words numbers f each Comparison.Malformed l = refl
   comparison-words numbers f each Comparison.Never l = refl
   comparison-words numbers f each Comparison.Always l = refl
@@ -66,55 +69,57 @@ pub comparisons-configured : (T : Tables) (c : ℕ) → configured T c .comparis
 unfolding configured comparisonForms
 comparisons-configured T c = refl
 
-module _ {T : Tables} {c : ℕ} {t3 numbers : List ℕ} (R : ComparisonFormReads T c t3 numbers) where
+module _ {T : Tables} {c : ℕ} {comparisons numbers : List ℕ} (R : ComparisonFormReads T c comparisons numbers) where
   -- it is what they write one after another
-  comparison-text : comparisonForms T c ≡ concat (length t3 / 5) (comparisonPart T c)
+  comparison-text : comparisonForms T c ≡ concat (length comparisons / 5) (comparisonPart T c)
   unfolding comparisonForms
-  comparison-text = ap (λ (t : List ℕ). concat (length t / 5) (comparisonPart T c)) (sym (R .comparisons))
+  comparison-text = ap (λ (t : List ℕ). concat (length t / 5) (comparisonPart T c)) (sym (R .comparisonsAre))
 
-  module _ {f : ℕ} (h : f < length t3 / 5) {x : Comparison} (e : x ≡ comparison t3 f) where
+  module _ {f : ℕ} (h : f < length comparisons / 5) {x : Comparison} (e : x ≡ comparison comparisons f) where
     part-is : comparisonPart T c f ≡ comparisonWords numbers x
     part-is =
-        let k = comparison-in (R .comparisons) f h in
+        let k = comparison-in (R .comparisonsAre) f h in
         comparison-words T c numbers f (λ j l. R .numbered .each j (omega arith)) (comparison (T .comparisons) f)
         (comparison-operands (R .formed) f k)
-        ∙ ap (comparisonWords numbers) (sym (comparison-is (R .comparisons) f e))
+        ∙ ap (comparisonWords numbers) (sym (comparison-is (R .comparisonsAre) f e))
 
 -- ---- the loop over the comparisons
 
 -- what those below f write stands at the front, up to p: for all tables that are read
-pub record ComparisonWriting (t3 numbers first out : List ℕ) (f p : ℕ) : Type 0 where
-  pub each : (T : Tables) (c : ℕ) → ComparisonFormReads T c t3 numbers → Writing (comparisonPart T c) (length t3 / 5) first 0 out f p
+pub record ComparisonWriting (comparisons numbers first out : List ℕ) (f p : ℕ) : Type 0 where
+  pub each : (T : Tables) (c : ℕ) → ComparisonFormReads T c comparisons numbers
+      → Writing (comparisonPart T c) (length comparisons / 5) first 0 out f p
 
-module _ {t3 numbers first : List ℕ} where
-  pub comparison-forms-none : ComparisonWriting t3 numbers first first 0 0
+module _ {comparisons numbers first : List ℕ} where
+  pub comparison-forms-none : ComparisonWriting comparisons numbers first first 0 0
   comparison-forms-none = record { each = λ T c R. writing-none }
 
-  module _ {out : List ℕ} {f p : ℕ} (S : ComparisonWriting t3 numbers first out f p) where
-    module _ (h : f < length t3 / 5) {x : Comparison} (e : x ≡ comparison t3 f) where
-      pub comparison-forms-read : ((i : ℕ) → getD t3 i 0 < 65536) → ComparisonFormWritable t3 numbers first → ComparisonWritable numbers x out p
+  module _ {out : List ℕ} {f p : ℕ} (S : ComparisonWriting comparisons numbers first out f p) where
+    module _ (h : f < length comparisons / 5) {x : Comparison} (e : x ≡ comparison comparisons f) where
+      pub comparison-forms-read : ((i : ℕ) → getD comparisons i 0 < 65536) → ComparisonFormWritable comparisons numbers first
+          → ComparisonWritable numbers x out p
       comparison-forms-read words A =
           let R = A .reads in
-          let n = comparison-in (R .comparisons) f h in
+          let n = comparison-in (R .comparisonsAre) f h in
           record {
             attributes = A .tables .attributes;
             expressions = expressionCount (A .tables);
             form = f;
-            lower = rw (comparison-is (R .comparisons) f e) (comparison-at (R .formed) f n);
+            lower = rw (comparison-is (R .comparisonsAre) f e) (comparison-at (R .formed) f n);
             below = let m = R .numbered .room in omega arith;
-            small = rw e (comparison-small t3 f words);
+            small = rw e (comparison-small comparisons f words);
             room =
                 same-room (part-is R h e)
                 (writing-room (S .each (A .tables) (A .configuration) R) (same-room (comparison-text R) (A .room)) h);
           }
 
-      pub comparison-forms-more : {o : List ℕ} {q : ℕ} → Written (comparisonWords numbers x) out p o q
-          → ComparisonWriting t3 numbers first o (f + 1) q
+      pub comparison-forms-more : {o : List ℕ} {q : ℕ} → WrittenAt (comparisonWords numbers x) out p o q
+          → ComparisonWriting comparisons numbers first o (f + 1) q
       comparison-forms-more w = record { each = λ T c R. writing-more (S .each T c R) h (same-written (part-is R h e) w) }
 
-    pub comparison-forms-long : ComparisonFormWritable t3 numbers first → length out ≡ length first
+    pub comparison-forms-long : ComparisonFormWritable comparisons numbers first → length out ≡ length first
     comparison-forms-long A = same-length (S .each (A .tables) (A .configuration) (A .reads) .written)
 
-    pub comparison-forms-all : length t3 / 5 ≤ f → (T : Tables) (c : ℕ) → ComparisonFormReads T c t3 numbers
-        → Written (comparisonForms T c) first 0 out p
+    pub comparison-forms-all : length comparisons / 5 ≤ f → (T : Tables) (c : ℕ) → ComparisonFormReads T c comparisons numbers
+        → WrittenAt (comparisonForms T c) first 0 out p
     comparison-forms-all h T c R = same-written (comparison-text R) (writing-all (S .each T c R) h)

@@ -6,10 +6,10 @@ use mathlib.Core.List.{List, [], _∷_}
 use lib.ListN.{length, getD}
 use Rattle.sets.specs.Writing.{Room}
 use Rattle.report.specs.Tables.{Tables, expressionCount, comparisonCount, projectStart}
-use Rattle.report.specs.Configuring.{newRelation, keptLength}
+use Rattle.report.specs.Configuring.{comparisonWordsOf, queryWordsOf, newRelation, keptLength}
+use Rattle.report.specs.Formed.{ComparisonLower, QueryLower}
 use Rattle.report.specs.declared.Comparison.{Comparison}
 use Rattle.report.specs.declared.Query.{Query}
-use Rattle.report.proofs.FormFacts.{ComparisonLower, QueryLower}
 use Rattle.kept_lists.specs.Keeping.{AtReads}
 
 -- ---- the number of one form
@@ -22,7 +22,7 @@ pub record TakenRead (conditions : List ℕ) (c : ℕ) (numbers : List ℕ) (e b
   pub second : d < length numbers
 
 -- x may stand as comparison f of tables T
-pub record ComparisonAt (T : Tables) (f : ℕ) (conditions : List ℕ) (c : ℕ) (x : Comparison) : Type 0 where
+pub record ComparisonTargetAt (T : Tables) (f : ℕ) (conditions : List ℕ) (c : ℕ) (x : Comparison) : Type 0 where
   pub reads : AtReads T conditions c
   pub lower : ComparisonLower (T .attributes) (expressionCount T) f x
 
@@ -30,12 +30,12 @@ pub record ComparisonAt (T : Tables) (f : ℕ) (conditions : List ℕ) (c : ℕ)
 pub record SomeComparison (conditions : List ℕ) (c : ℕ) (numbers : List ℕ) (kept : ℕ) (x : Comparison) : Type 0 where
   pub tables : Tables
   pub form : ℕ
-  pub at : ComparisonAt tables form conditions c x
+  pub at : ComparisonTargetAt tables form conditions c x
   pub below : form ≤ length numbers
   pub few : kept < 65536
 
 -- x may stand as query form q of tables T
-pub record QueryAt (T : Tables) (q : ℕ) (conditions : List ℕ) (c : ℕ) (x : Query) : Type 0 where
+pub record QueryTargetAt (T : Tables) (q : ℕ) (conditions : List ℕ) (c : ℕ) (x : Query) : Type 0 where
   pub reads : AtReads T conditions c
   pub lower : QueryLower T q x
 
@@ -43,7 +43,7 @@ pub record QueryAt (T : Tables) (q : ℕ) (conditions : List ℕ) (c : ℕ) (x :
 pub record SomeQuery (conditions : List ℕ) (c : ℕ) (numbers : List ℕ) (kept : ℕ) (x : Query) : Type 0 where
   pub tables : Tables
   pub form : ℕ
-  pub at : QueryAt tables form conditions c x
+  pub at : QueryTargetAt tables form conditions c x
   pub below : form ≤ length numbers
   pub few : kept < 65536
 
@@ -51,15 +51,7 @@ pub record SomeQuery (conditions : List ℕ) (c : ℕ) (numbers : List ℕ) (kep
 
 -- where `numbers` has the new numbers of lower ones
 abbrev pub comparisonWords : List ℕ → Comparison → List ℕ
-comparisonWords numbers Comparison.Malformed = []
-comparisonWords numbers Comparison.Never = 0 ∷ 0 ∷ 0 ∷ 0 ∷ 0 ∷ []
-comparisonWords numbers Comparison.Always = 1 ∷ 0 ∷ 0 ∷ 0 ∷ 0 ∷ []
-comparisonWords numbers (Comparison.Constant o a b) = 2 ∷ o ∷ a ∷ b ∷ 0 ∷ []
-comparisonWords numbers (Comparison.Attribute o a b) = 3 ∷ o ∷ a ∷ b ∷ 0 ∷ []
-comparisonWords numbers (Comparison.Not a) = 4 ∷ 0 ∷ getD numbers a 0 ∷ 0 ∷ 0 ∷ []
-comparisonWords numbers (Comparison.And a b) = 5 ∷ 0 ∷ getD numbers a 0 ∷ getD numbers b 0 ∷ 0 ∷ []
-comparisonWords numbers (Comparison.Or a b) = 6 ∷ 0 ∷ getD numbers a 0 ∷ getD numbers b 0 ∷ 0 ∷ []
-comparisonWords numbers (Comparison.Choice a b d) = []
+comparisonWords numbers = comparisonWordsOf (λ k. getD numbers k 0)
 
 -- the numbers are words, and there is room for them
 pub record AtomWritable (kind o a b : ℕ) (out : List ℕ) (at : ℕ) : Type 0 where
@@ -98,42 +90,36 @@ pub record ComparisonWritable (numbers : List ℕ) (x : Comparison) (out : List 
 
 -- ---- the words of one query form
 
--- of tables T at c, a project's list starting at `start`, where `comparisons` and `queries` have the new numbers
-abbrev pub queryWords : Tables → (c start : ℕ) → (comparisons queries : List ℕ) → Query → List ℕ
-queryWords T c start comparisons queries Query.Malformed = []
-queryWords T c start comparisons queries Query.Empty = 0 ∷ 0 ∷ 0 ∷ 0 ∷ []
-queryWords T c start comparisons queries (Query.Relation a) = 1 ∷ newRelation T c a ∷ 0 ∷ 0 ∷ []
-queryWords T c start comparisons queries (Query.Select a b) = 2 ∷ getD comparisons a 0 ∷ getD queries b 0 ∷ 0 ∷ []
-queryWords T c start comparisons queries (Query.Project a b) = 3 ∷ keptLength T c start a ∷ getD queries b 0 ∷ 0 ∷ []
-queryWords T c start comparisons queries (Query.Choice a b d) = []
-queryWords T c start comparisons queries (Query.Product a b) = 5 ∷ getD queries a 0 ∷ getD queries b 0 ∷ 0 ∷ []
-queryWords T c start comparisons queries (Query.Union a b) = 6 ∷ getD queries a 0 ∷ getD queries b 0 ∷ 0 ∷ []
-queryWords T c start comparisons queries (Query.Intersection a b) = 7 ∷ getD queries a 0 ∷ getD queries b 0 ∷ 0 ∷ []
+-- of tables T at c, a project's list starting at `start`, where `comparisonNumbers` and `queryNumbers` have the new numbers
+abbrev pub queryWords : Tables → (c start : ℕ) → (comparisonNumbers queryNumbers : List ℕ) → Query → List ℕ
+queryWords T c start comparisonNumbers queryNumbers =
+    queryWordsOf (newRelation T c) (λ k. getD comparisonNumbers k 0) (λ k. getD queryNumbers k 0) (keptLength T c start)
 
 -- b has a number, and there is room for it after a
-pub record OverWritable (queries : List ℕ) (kind a b : ℕ) (out : List ℕ) (at : ℕ) : Type 0 where
-  pub second : b < length queries
-  pub room : Room (kind ∷ a ∷ getD queries b 0 ∷ 0 ∷ []) out at
+pub record OverWritable (queryNumbers : List ℕ) (kind a b : ℕ) (out : List ℕ) (at : ℕ) : Type 0 where
+  pub second : b < length queryNumbers
+  pub room : Room (kind ∷ a ∷ getD queryNumbers b 0 ∷ 0 ∷ []) out at
 
 -- a and b have numbers, and there is room for them
-pub record PairWritable (queries : List ℕ) (kind a b : ℕ) (out : List ℕ) (at : ℕ) : Type 0 where
-  pub first : a < length queries
-  pub second : b < length queries
-  pub room : Room (kind ∷ getD queries a 0 ∷ getD queries b 0 ∷ 0 ∷ []) out at
+pub record QueryPairWritable (queryNumbers : List ℕ) (kind a b : ℕ) (out : List ℕ) (at : ℕ) : Type 0 where
+  pub first : a < length queryNumbers
+  pub second : b < length queryNumbers
+  pub room : Room (kind ∷ getD queryNumbers a 0 ∷ getD queryNumbers b 0 ∷ 0 ∷ []) out at
 
 -- x may stand as query form q of tables T, whose tables 1 and 2 can be read
-pub record FormAt (T : Tables) (q : ℕ) (conditions t1 t2 : List ℕ) (c start : ℕ) (x : Query) : Type 0 where
-  pub stands : QueryAt T q conditions c x
-  pub entries : t1 ≡ T .entries
-  pub relations : t2 ≡ T .relations
+pub record FormAt (T : Tables) (q : ℕ) (conditions entries relations : List ℕ) (c start : ℕ) (x : Query) : Type 0 where
+  pub stands : QueryTargetAt T q conditions c x
+  pub entriesAre : entries ≡ T .entries
+  pub relationsAre : relations ≡ T .relations
   pub starts : start ≡ projectStart T q
 
 -- the comparisons, and the forms below it, have numbers, and there is room for its words if it is kept
-pub record SomeForm (keep : Bool) (conditions t1 t2 : List ℕ) (c start : ℕ) (comparisons queries : List ℕ) (x : Query) (out : List ℕ) (at : ℕ)
+pub record SomeForm (keep : Bool) (conditions entries relations : List ℕ) (c start : ℕ) (comparisonNumbers queryNumbers : List ℕ) (x : Query)
+    (out : List ℕ) (at : ℕ)
     : Type 0 where
   pub tables : Tables
   pub form : ℕ
-  pub stands : FormAt tables form conditions t1 t2 c start x
-  pub compared : comparisonCount tables ≤ length comparisons
-  pub below : form ≤ length queries
-  pub room : Room (cond keep (queryWords tables c start comparisons queries x) []) out at
+  pub stands : FormAt tables form conditions entries relations c start x
+  pub compared : comparisonCount tables ≤ length comparisonNumbers
+  pub below : form ≤ length queryNumbers
+  pub room : Room (cond keep (queryWords tables c start comparisonNumbers queryNumbers x) []) out at

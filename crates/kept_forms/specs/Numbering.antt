@@ -4,13 +4,12 @@ use mathlib.Core.Path.{_≡_}
 use mathlib.Core.List.{List}
 use lib.ListN.{length, getD}
 use Rattle.sets.specs.Lists.{kept}
-use Rattle.sets.specs.Rows.{rowOf}
+use Rattle.sets.specs.Rows.{rowOf, RowsAre}
 use Rattle.sets.specs.Writing.{Room}
 use Rattle.report.specs.Tables.{Tables, comparison, query, relationCount, comparisonCount, queryCount, relationStart}
 use Rattle.report.specs.Typing.{reached}
 use Rattle.report.specs.Configuring.{comparisonKept, queryKept, newComparison, newQuery, comparisonFormOf, queryFormOf}
-use Rattle.report.proofs.Formed.{Formed}
-use Rattle.attribute_rows.specs.AttributeRows.{RowsAre}
+use Rattle.report.specs.Formed.{Formed}
 use Rattle.kept_lists.specs.Keeping.{AtReads}
 
 -- ---- what is written, of tables T at configuration c: parts of `configured`
@@ -23,55 +22,57 @@ module _ (T : Tables) (c : ℕ) where
   queryForms = kept (queryKept T c) (λ q. queryFormOf T c q (query (T .queries) q)) (queryCount T)
 
 -- the first `count` numbers of a list are those of f
-pub record Numbered (count : ℕ) (f : ℕ → ℕ) (numbers : List ℕ) : Type 0 where
+pub record NumbersAre (count : ℕ) (f : ℕ → ℕ) (numbers : List ℕ) : Type 0 where
   pub room : count ≤ length numbers
   pub each : (k : ℕ) → k < count → getD numbers k 0 ≡ f k
 
 -- ---- what each function reads of tables T; `..Numberable`, `..Writable`: there are such tables, and room for what is written
 
 -- table 3, at a configuration
-pub record ComparisonReads (T : Tables) (conditions t3 : List ℕ) (c : ℕ) : Type 0 where
+pub record ComparisonReads (T : Tables) (conditions comparisons : List ℕ) (c : ℕ) : Type 0 where
   pub reads : AtReads T conditions c
-  pub comparisons : t3 ≡ T .comparisons
+  pub comparisonsAre : comparisons ≡ T .comparisons
 
-pub record ComparisonNumberable (conditions t3 : List ℕ) (c : ℕ) (numbers : List ℕ) : Type 0 where
+pub record ComparisonNumberable (conditions comparisons : List ℕ) (c : ℕ) (numbers : List ℕ) : Type 0 where
   pub tables : Tables
-  pub reads : ComparisonReads tables conditions t3 c
-  pub room : length t3 / 5 ≤ length numbers
+  pub reads : ComparisonReads tables conditions comparisons c
+  pub room : length comparisons / 5 ≤ length numbers
 
 -- table 3, and the new numbers at a configuration
-pub record ComparisonFormReads (T : Tables) (c : ℕ) (t3 numbers : List ℕ) : Type 0 where
+pub record ComparisonFormReads (T : Tables) (c : ℕ) (comparisons numbers : List ℕ) : Type 0 where
   pub formed : Formed T
-  pub comparisons : t3 ≡ T .comparisons
-  pub numbered : Numbered (comparisonCount T) (newComparison T c) numbers
+  pub comparisonsAre : comparisons ≡ T .comparisons
+  pub numbered : NumbersAre (comparisonCount T) (newComparison T c) numbers
 
-pub record ComparisonFormWritable (t3 numbers out : List ℕ) : Type 0 where
+pub record ComparisonFormWritable (comparisons numbers out : List ℕ) : Type 0 where
   pub tables : Tables
   pub configuration : ℕ
-  pub reads : ComparisonFormReads tables configuration t3 numbers
+  pub reads : ComparisonFormReads tables configuration comparisons numbers
   pub room : Room (comparisonForms tables configuration) out 0
 
 -- table 4, at a configuration, with the configurations that reach each form
-pub record QueryReads (T : Tables) (conditions reach t4 : List ℕ) (c : ℕ) : Type 0 where
+pub record QueryReads (T : Tables) (conditions reach queries : List ℕ) (c : ℕ) : Type 0 where
   pub reads : AtReads T conditions c
-  pub reaching : RowsAre (queryCount T) (λ q. rowOf 16 (λ d. reached T d q)) reach
-  pub queries : t4 ≡ T .queries
+  pub reaching : RowsAre 16 (queryCount T) (λ q. rowOf 16 (λ d. reached T d q)) reach
+  pub queriesAre : queries ≡ T .queries
 
-pub record QueryNumberable (conditions reach t4 : List ℕ) (c : ℕ) (numbers : List ℕ) : Type 0 where
+pub record QueryNumberable (conditions reach queries : List ℕ) (c : ℕ) (numbers : List ℕ) : Type 0 where
   pub tables : Tables
-  pub reads : QueryReads tables conditions reach t4 c
-  pub room : length t4 / 4 ≤ length numbers
+  pub reads : QueryReads tables conditions reach queries c
+  pub room : length queries / 4 ≤ length numbers
 
 -- besides, tables 1 and 2, where the lists of the project forms start, and the new numbers
-pub record FormReads (T : Tables) (conditions reach t1 t2 t4 : List ℕ) (first c : ℕ) (comparisons queries : List ℕ) : Type 0 where
-  pub reads : QueryReads T conditions reach t4 c
-  pub entries : t1 ≡ T .entries
-  pub relations : t2 ≡ T .relations
+pub record QueryFormReads (T : Tables) (conditions reach entries relations queries : List ℕ) (first c : ℕ)
+    (comparisonNumbers queryNumbers : List ℕ) : Type 0 where
+  pub reads : QueryReads T conditions reach queries c
+  pub entriesAre : entries ≡ T .entries
+  pub relationsAre : relations ≡ T .relations
   pub begins : first ≡ relationStart (T .relations) (relationCount T)
-  pub newComparisons : Numbered (comparisonCount T) (newComparison T c) comparisons
-  pub newQueries : Numbered (queryCount T) (newQuery T c) queries
+  pub comparisonsNumbered : NumbersAre (comparisonCount T) (newComparison T c) comparisonNumbers
+  pub queriesNumbered : NumbersAre (queryCount T) (newQuery T c) queryNumbers
 
-pub record FormWritable (conditions reach t1 t2 t4 : List ℕ) (first c : ℕ) (comparisons queries out : List ℕ) : Type 0 where
+pub record QueryFormWritable (conditions reach entries relations queries : List ℕ) (first c : ℕ)
+    (comparisonNumbers queryNumbers out : List ℕ) : Type 0 where
   pub tables : Tables
-  pub reads : FormReads tables conditions reach t1 t2 t4 first c comparisons queries
+  pub reads : QueryFormReads tables conditions reach entries relations queries first c comparisonNumbers queryNumbers
   pub room : Room (queryForms tables c) out 0

@@ -14,17 +14,17 @@ ghost use Prim.Native.Nat.{ℕ};
 ghost use lib.ListN.{getD};
 ghost use Rattle.sets.specs.Lists.{table};
 ghost use Rattle.sets.specs.Rows.{rowBit, rowIn};
-ghost use Rattle.sets.specs.Writing.{Room, Written};
+ghost use Rattle.sets.specs.Writing.{Room, WrittenAt};
 ghost use Rattle.report.specs.Tables.{Tables, comparisonCount, queryCount};
-ghost use Rattle.report.specs.Configuring.{comparisonTargetOf, queryTargetOf, isComparisonChoice, isQueryChoice};
-ghost use Rattle.report.specs.Configuring.{newRelation, keptLength, newComparison, newQuery, written};
-ghost use Rattle.kept_lists.specs.Keeping.{ListReads, ListReadable, PresentReads, PresentReadable};
+ghost use Rattle.report.specs.Operands.{comparisonOperands, queryOperands, isChoice};
+ghost use Rattle.report.specs.Configuring.{targetOf, newRelation, keptLength, newComparison, newQuery, written};
+ghost use Rattle.kept_lists.specs.Keeping.{KeptListReads, KeptListReadable, PresentReads, PresentReadable};
 ghost use Rattle.kept_forms.specs.Numbering.{comparisonForms, ComparisonReads, ComparisonNumberable, QueryReads, QueryNumberable};
 ghost use Rattle.kept_forms.specs.Numbering.{ComparisonFormReads, ComparisonFormWritable};
-ghost use Rattle.kept_forms.specs.Numbering.{queryForms, FormReads, FormWritable};
+ghost use Rattle.kept_forms.specs.Numbering.{queryForms, QueryFormReads, QueryFormWritable};
 ghost use Rattle.kept_forms.specs.FormWords.{AtomWritable, BothWritable, ComparisonWritable};
-ghost use Rattle.kept_forms.specs.FormWords.{OverWritable, PairWritable, queryWords, FormAt, SomeForm};
-ghost use Rattle.kept_forms.specs.FormWords.{TakenRead, ComparisonAt, SomeComparison, QueryAt, SomeQuery, comparisonWords};
+ghost use Rattle.kept_forms.specs.FormWords.{OverWritable, QueryPairWritable, queryWords, FormAt, SomeForm};
+ghost use Rattle.kept_forms.specs.FormWords.{TakenRead, ComparisonTargetAt, SomeComparison, QueryTargetAt, SomeQuery, comparisonWords};
 
 // Where expression e holds at c number b of the list, elsewhere number d.
 fn number_taken(conditions: &[u64], c: usize, numbers: &[u16], e: usize, b: usize, d: usize) -> u16
@@ -47,8 +47,8 @@ fn comparison_number(
 ) -> u16
     requires { ⌜ SomeComparison (now conditions) c (now numbers) kept x ⌝ }
     ensures { λ r.
-        ⌜ ((T : Tables) (f : ℕ) → ComparisonAt T f (now (conditions .entry)) c x
-        → r ≡ comparisonTargetOf T c (λ k. getD (now (numbers .entry)) k 0) kept x) ⌝ }
+        ⌜ ((T : Tables) (f : ℕ) → ComparisonTargetAt T f (now (conditions .entry)) c x
+        → r ≡ targetOf T c (λ k. getD (now (numbers .entry)) k 0) kept (comparisonOperands x)) ⌝ }
 {
     let own = kept as u16;
     if let Comparison::Choice(e, b, d) = x {
@@ -60,7 +60,7 @@ fn comparison_number(
 
 // How many comparisons are kept of one: of a choice none.
 fn comparison_kept(x: Comparison) -> usize
-    ensures { λ r. ⌜ ((T : Tables) (c : ℕ) → r ≡ cond (not (isComparisonChoice T c x)) 1 0) ⌝ }
+    ensures { λ r. ⌜ r ≡ cond (not (isChoice (comparisonOperands x))) 1 0 ⌝ }
 {
     if let Comparison::Choice(_, _, _) = x {
         0
@@ -70,17 +70,17 @@ fn comparison_kept(x: Comparison) -> usize
 }
 
 // The new number of what each comparison leads to at c, into `numbers`: a choice has that of the alternative it takes.
-pub fn number_comparisons(t3: &[u16], conditions: &[u64], c: usize, numbers: &mut [u16])
-    requires { ⌜ ComparisonNumberable (now conditions) (now t3) c (now numbers) ⌝ }
+pub fn number_comparisons(comparisons: &[u16], conditions: &[u64], c: usize, numbers: &mut [u16])
+    requires { ⌜ ComparisonNumberable (now conditions) (now comparisons) c (now numbers) ⌝ }
     ensures { λ _.
-        ⌜ ((T : Tables) → ComparisonReads T (now (conditions .entry)) (now (t3 .entry)) c
+        ⌜ ((T : Tables) → ComparisonReads T (now (conditions .entry)) (now (comparisons .entry)) c
         → now (numbers .exit) ≡ written (table (comparisonCount T) (newComparison T c)) (now (numbers .entry))) ⌝ }
 {
-    let count = t3.len() / 5;
+    let count = comparisons.len() / 5;
     let mut kept = 0;
     let mut f = 0;
     while f < count {
-        let x = comparison_at(t3, f);
+        let x = comparison_at(comparisons, f);
         let n = comparison_number(x, conditions, c, &*numbers, kept);
         numbers[f] = n;
         kept += comparison_kept(x);
@@ -92,8 +92,8 @@ pub fn number_comparisons(t3: &[u16], conditions: &[u64], c: usize, numbers: &mu
 fn query_number(x: Query, conditions: &[u64], c: usize, numbers: &[u16], kept: usize) -> u16
     requires { ⌜ SomeQuery (now conditions) c (now numbers) kept x ⌝ }
     ensures { λ r.
-        ⌜ ((T : Tables) (q : ℕ) → QueryAt T q (now (conditions .entry)) c x
-        → r ≡ queryTargetOf T c (λ k. getD (now (numbers .entry)) k 0) kept x) ⌝ }
+        ⌜ ((T : Tables) (q : ℕ) → QueryTargetAt T q (now (conditions .entry)) c x
+        → r ≡ targetOf T c (λ k. getD (now (numbers .entry)) k 0) kept (queryOperands x)) ⌝ }
 {
     let own = kept as u16;
     if let Query::Choice(e, b, d) = x {
@@ -105,7 +105,7 @@ fn query_number(x: Query, conditions: &[u64], c: usize, numbers: &[u16], kept: u
 
 // How many query forms are kept of one: of a choice, or of one that c does not reach, none.
 fn query_kept(x: Query, reached: bool) -> usize
-    ensures { λ r. ⌜ ((T : Tables) (c : ℕ) → r ≡ cond (reached && not (isQueryChoice T c x)) 1 0) ⌝ }
+    ensures { λ r. ⌜ r ≡ cond (reached && not (isChoice (queryOperands x))) 1 0 ⌝ }
 {
     if let Query::Choice(_, _, _) = x {
         return 0;
@@ -114,17 +114,23 @@ fn query_kept(x: Query, reached: bool) -> usize
 }
 
 // The new number of what each query form leads to at c, into `numbers`: a choice has that of the alternative it takes.
-pub fn number_queries(t4: &[u16], conditions: &[u64], reach: &[u64], c: usize, numbers: &mut [u16])
-    requires { ⌜ QueryNumberable (now conditions) (now reach) (now t4) c (now numbers) ⌝ }
+pub fn number_queries(
+    queries: &[u16],
+    conditions: &[u64],
+    reach: &[u64],
+    c: usize,
+    numbers: &mut [u16],
+)
+    requires { ⌜ QueryNumberable (now conditions) (now reach) (now queries) c (now numbers) ⌝ }
     ensures { λ _.
-        ⌜ ((T : Tables) → QueryReads T (now (conditions .entry)) (now (reach .entry)) (now (t4 .entry)) c
+        ⌜ ((T : Tables) → QueryReads T (now (conditions .entry)) (now (reach .entry)) (now (queries .entry)) c
         → now (numbers .exit) ≡ written (table (queryCount T) (newQuery T c)) (now (numbers .entry))) ⌝ }
 {
-    let count = t4.len() / 4;
+    let count = queries.len() / 4;
     let mut kept = 0;
     let mut q = 0;
     while q < count {
-        let x = query_at(t4, q);
+        let x = query_at(queries, q);
         let n = query_number(x, conditions, c, &*numbers, kept);
         numbers[q] = n;
         kept += query_kept(x, row_has(reach, q, c));
@@ -135,7 +141,7 @@ pub fn number_queries(t4: &[u16], conditions: &[u64], reach: &[u64], c: usize, n
 // Writes words.
 fn put_words(out: &mut [u16], at: usize, words: &[u16]) -> usize
     requires { ⌜ Room (now words) (now out) at ⌝ }
-    ensures { λ r. ⌜ Written (now (words .entry)) (now (out .entry)) at (now (out .exit)) r ⌝ }
+    ensures { λ r. ⌜ WrittenAt (now (words .entry)) (now (out .entry)) at (now (out .exit)) r ⌝ }
 {
     let mut i = 0;
     while i < words.len() {
@@ -148,7 +154,7 @@ fn put_words(out: &mut [u16], at: usize, words: &[u16]) -> usize
 // Writes a comparison of the kind, with its operator and two more words.
 fn put_comparison(out: &mut [u16], at: usize, kind: u16, o: u16, a: u16, b: u16) -> usize
     requires { ⌜ Room (kind ∷ o ∷ a ∷ b ∷ 0 ∷ []) (now out) at ⌝ }
-    ensures { λ r. ⌜ Written (kind ∷ o ∷ a ∷ b ∷ 0 ∷ []) (now (out .entry)) at (now (out .exit)) r ⌝ }
+    ensures { λ r. ⌜ WrittenAt (kind ∷ o ∷ a ∷ b ∷ 0 ∷ []) (now (out .entry)) at (now (out .exit)) r ⌝ }
 {
     put_words(out, at, &[kind, o, a, b, 0])
 }
@@ -156,7 +162,7 @@ fn put_comparison(out: &mut [u16], at: usize, kind: u16, o: u16, a: u16, b: u16)
 // Writes a comparison of an attribute with a constant or an attribute.
 fn put_atom(out: &mut [u16], at: usize, kind: u16, o: usize, a: usize, b: usize) -> usize
     requires { ⌜ AtomWritable kind o a b (now out) at ⌝ }
-    ensures { λ r. ⌜ Written (kind ∷ o ∷ a ∷ b ∷ 0 ∷ []) (now (out .entry)) at (now (out .exit)) r ⌝ }
+    ensures { λ r. ⌜ WrittenAt (kind ∷ o ∷ a ∷ b ∷ 0 ∷ []) (now (out .entry)) at (now (out .exit)) r ⌝ }
 {
     put_comparison(out, at, kind, o as u16, a as u16, b as u16)
 }
@@ -165,7 +171,7 @@ fn put_atom(out: &mut [u16], at: usize, kind: u16, o: usize, a: usize, b: usize)
 fn put_both(out: &mut [u16], at: usize, kind: u16, numbers: &[u16], a: usize, b: usize) -> usize
     requires { ⌜ BothWritable (now numbers) kind a b (now out) at ⌝ }
     ensures { λ r.
-        ⌜ Written (kind ∷ 0 ∷ getD (now (numbers .entry)) a 0 ∷ getD (now (numbers .entry)) b 0 ∷ 0 ∷ []) (now (out .entry)) at
+        ⌜ WrittenAt (kind ∷ 0 ∷ getD (now (numbers .entry)) a 0 ∷ getD (now (numbers .entry)) b 0 ∷ 0 ∷ []) (now (out .entry)) at
         (now (out .exit)) r ⌝ }
 {
     put_comparison(out, at, kind, 0, numbers[a], numbers[b])
@@ -174,7 +180,7 @@ fn put_both(out: &mut [u16], at: usize, kind: u16, numbers: &[u16], a: usize, b:
 // Writes a comparison that is no choice, with the new numbers of its operands.
 fn write_comparison(x: Comparison, numbers: &[u16], out: &mut [u16], at: usize) -> usize
     requires { ⌜ ComparisonWritable (now numbers) x (now out) at ⌝ }
-    ensures { λ r. ⌜ Written (comparisonWords (now (numbers .entry)) x) (now (out .entry)) at (now (out .exit)) r ⌝ }
+    ensures { λ r. ⌜ WrittenAt (comparisonWords (now (numbers .entry)) x) (now (out .entry)) at (now (out .exit)) r ⌝ }
 {
     match x {
         Comparison::Malformed => at,
@@ -190,17 +196,17 @@ fn write_comparison(x: Comparison, numbers: &[u16], out: &mut [u16], at: usize) 
 }
 
 // Writes every comparison that is no choice; `numbers` has the new numbers.
-pub fn write_comparisons(t3: &[u16], numbers: &[u16], out: &mut [u16]) -> usize
-    requires { ⌜ ComparisonFormWritable (now t3) (now numbers) (now out) ⌝ }
+pub fn write_comparisons(comparisons: &[u16], numbers: &[u16], out: &mut [u16]) -> usize
+    requires { ⌜ ComparisonFormWritable (now comparisons) (now numbers) (now out) ⌝ }
     ensures { λ r.
-        ⌜ ((T : Tables) (c : ℕ) → ComparisonFormReads T c (now (t3 .entry)) (now (numbers .entry))
-        → Written (comparisonForms T c) (now (out .entry)) 0 (now (out .exit)) r) ⌝ }
+        ⌜ ((T : Tables) (c : ℕ) → ComparisonFormReads T c (now (comparisons .entry)) (now (numbers .entry))
+        → WrittenAt (comparisonForms T c) (now (out .entry)) 0 (now (out .exit)) r) ⌝ }
 {
-    let count = t3.len() / 5;
+    let count = comparisons.len() / 5;
     let mut p = 0;
     let mut f = 0;
     while f < count {
-        let x = comparison_at(t3, f);
+        let x = comparison_at(comparisons, f);
         p = write_comparison(x, numbers, &mut *out, p);
         f += 1;
     }
@@ -208,78 +214,88 @@ pub fn write_comparisons(t3: &[u16], numbers: &[u16], out: &mut [u16]) -> usize
 }
 
 // The new number of relation a, as a word.
-fn relation_word(t2: &[u16], conditions: &[u64], c: usize, a: usize) -> u16
-    requires { ⌜ PresentReadable (now conditions) (now t2) c a ⌝ }
-    ensures { λ r. ⌜ ((T : Tables) → PresentReads T (now (conditions .entry)) (now (t2 .entry)) c → r ≡ newRelation T c a) ⌝ }
+fn relation_word(relations: &[u16], conditions: &[u64], c: usize, a: usize) -> u16
+    requires { ⌜ PresentReadable (now conditions) (now relations) c a ⌝ }
+    ensures { λ r. ⌜ ((T : Tables) → PresentReads T (now (conditions .entry)) (now (relations .entry)) c → r ≡ newRelation T c a) ⌝ }
 {
-    new_relation(t2, conditions, c, a) as u16
+    new_relation(relations, conditions, c, a) as u16
 }
 
 // How many of the `count` entries from `start` on hold at c, as a word.
-fn length_word(t1: &[u16], conditions: &[u64], c: usize, start: usize, count: usize) -> u16
-    requires { ⌜ ListReadable (now conditions) (now t1) c start count ⌝ }
-    ensures { λ r. ⌜ ((T : Tables) → ListReads T (now (conditions .entry)) (now (t1 .entry)) c start count → r ≡ keptLength T c start count) ⌝ }
+fn length_word(entries: &[u16], conditions: &[u64], c: usize, start: usize, count: usize) -> u16
+    requires { ⌜ KeptListReadable (now conditions) (now entries) c start count ⌝ }
+    ensures { λ r. ⌜ ((T : Tables) → KeptListReads T (now (conditions .entry)) (now (entries .entry)) c start count → r ≡ keptLength T c start count)
+        ⌝ }
 {
-    kept_length(t1, conditions, c, start, count) as u16
+    kept_length(entries, conditions, c, start, count) as u16
 }
 
 // Writes a query form of the kind, with two words.
 fn put_query(out: &mut [u16], at: usize, kind: u16, a: u16, b: u16) -> usize
     requires { ⌜ Room (kind ∷ a ∷ b ∷ 0 ∷ []) (now out) at ⌝ }
-    ensures { λ r. ⌜ Written (kind ∷ a ∷ b ∷ 0 ∷ []) (now (out .entry)) at (now (out .exit)) r ⌝ }
+    ensures { λ r. ⌜ WrittenAt (kind ∷ a ∷ b ∷ 0 ∷ []) (now (out .entry)) at (now (out .exit)) r ⌝ }
 {
     put_words(out, at, &[kind, a, b, 0])
 }
 
 // Writes a query form over a lower one, with its new number.
-fn put_over(out: &mut [u16], at: usize, kind: u16, a: u16, queries: &[u16], b: usize) -> usize
-    requires { ⌜ OverWritable (now queries) kind a b (now out) at ⌝ }
-    ensures { λ r. ⌜ Written (kind ∷ a ∷ getD (now (queries .entry)) b 0 ∷ 0 ∷ []) (now (out .entry)) at (now (out .exit)) r ⌝ }
+fn put_over(out: &mut [u16], at: usize, kind: u16, a: u16, query_numbers: &[u16], b: usize) -> usize
+    requires { ⌜ OverWritable (now «query_numbers») kind a b (now out) at ⌝ }
+    ensures { λ r. ⌜ WrittenAt (kind ∷ a ∷ getD (now («query_numbers» .entry)) b 0 ∷ 0 ∷ []) (now (out .entry)) at (now (out .exit)) r ⌝ }
 {
-    put_query(out, at, kind, a, queries[b])
+    put_query(out, at, kind, a, query_numbers[b])
 }
 
 // Writes a query form over two lower ones, with their new numbers.
-fn put_pair(out: &mut [u16], at: usize, kind: u16, queries: &[u16], a: usize, b: usize) -> usize
-    requires { ⌜ PairWritable (now queries) kind a b (now out) at ⌝ }
+fn put_pair(
+    out: &mut [u16],
+    at: usize,
+    kind: u16,
+    query_numbers: &[u16],
+    a: usize,
+    b: usize,
+) -> usize
+    requires { ⌜ QueryPairWritable (now «query_numbers») kind a b (now out) at ⌝ }
     ensures { λ r.
-        ⌜ Written (kind ∷ getD (now (queries .entry)) a 0 ∷ getD (now (queries .entry)) b 0 ∷ 0 ∷ []) (now (out .entry)) at
+        ⌜ WrittenAt (kind ∷ getD (now («query_numbers» .entry)) a 0 ∷ getD (now («query_numbers» .entry)) b 0 ∷ 0 ∷ []) (now (out .entry)) at
         (now (out .exit)) r ⌝ }
 {
-    put_over(out, at, kind, queries[a], queries, b)
+    put_over(out, at, kind, query_numbers[a], query_numbers, b)
 }
 
 // Writes a query form that is no choice, with the new numbers of what it refers to; a project's list starts at `start`.
 fn write_query(
     x: Query,
-    t1: &[u16],
-    t2: &[u16],
+    entries: &[u16],
+    relations: &[u16],
     conditions: &[u64],
     c: usize,
     start: usize,
-    comparisons: &[u16],
-    queries: &[u16],
+    comparison_numbers: &[u16],
+    query_numbers: &[u16],
     out: &mut [u16],
     at: usize,
 ) -> usize
-    requires { ⌜ SomeForm true (now conditions) (now t1) (now t2) c start (now comparisons) (now queries) x (now out) at ⌝ }
+    requires { ⌜ SomeForm true (now conditions) (now entries) (now relations) c start (now «comparison_numbers») (now «query_numbers») x (now out) at
+        ⌝ }
     ensures { λ r.
-        ⌜ ((T : Tables) (q : ℕ) → FormAt T q (now (conditions .entry)) (now (t1 .entry)) (now (t2 .entry)) c start x
-        → Written (queryWords T c start (now (comparisons .entry)) (now (queries .entry)) x) (now (out .entry)) at (now (out .exit)) r) ⌝ }
+        ⌜ ((T : Tables) (q : ℕ) → FormAt T q (now (conditions .entry)) (now (entries .entry)) (now (relations .entry)) c start x
+        → WrittenAt (queryWords T c start (now («comparison_numbers» .entry)) (now («query_numbers» .entry)) x) (now (out .entry)) at
+        (now (out .exit)) r) ⌝ }
 {
     match x {
         Query::Malformed => at,
         Query::Empty => put_query(out, at, 0, 0, 0),
-        Query::Relation(a) => put_query(out, at, 1, relation_word(t2, conditions, c, a), 0),
-        Query::Select(a, b) => put_over(out, at, 2, comparisons[a], queries, b),
+        Query::Relation(a) => put_query(out, at, 1, relation_word(relations, conditions, c, a), 0),
+        Query::Select(a, b) => put_over(out, at, 2, comparison_numbers[a], query_numbers, b),
         Query::Project(n, b) => {
-            let kept = length_word(t1, conditions, c, start, n);
-            put_over(out, at, 3, kept, queries, b)
+            let kept = length_word(entries, conditions, c, start, n);
+            put_over(out, at, 3, kept, query_numbers, b)
         }
         Query::Choice(_, _, _) => at,
-        Query::Product(a, b) => put_pair(out, at, 5, queries, a, b),
-        Query::Union(a, b) => put_pair(out, at, 6, queries, a, b),
-        Query::Intersection(a, b) => put_pair(out, at, 7, queries, a, b),
+        Query::Product(a, b) => put_pair(out, at, 5, query_numbers, a, b),
+        Query::Union(a, b) => put_pair(out, at, 6, query_numbers, a, b),
+        Query::Intersection(a, b) => put_pair(out, at, 7, query_numbers, a, b),
     }
 }
 
@@ -287,32 +303,34 @@ fn write_query(
 fn write_reached(
     reached: bool,
     x: Query,
-    t1: &[u16],
-    t2: &[u16],
+    entries: &[u16],
+    relations: &[u16],
     conditions: &[u64],
     c: usize,
     start: usize,
-    comparisons: &[u16],
-    queries: &[u16],
+    comparison_numbers: &[u16],
+    query_numbers: &[u16],
     out: &mut [u16],
     at: usize,
 ) -> usize
-    requires { ⌜ SomeForm reached (now conditions) (now t1) (now t2) c start (now comparisons) (now queries) x (now out) at ⌝ }
+    requires { ⌜ SomeForm reached (now conditions) (now entries) (now relations) c start (now «comparison_numbers») (now «query_numbers») x
+        (now out) at ⌝ }
     ensures { λ r.
-        ⌜ ((T : Tables) (q : ℕ) → FormAt T q (now (conditions .entry)) (now (t1 .entry)) (now (t2 .entry)) c start x
-        → Written (cond reached (queryWords T c start (now (comparisons .entry)) (now (queries .entry)) x) []) (now (out .entry)) at
+        ⌜ ((T : Tables) (q : ℕ) → FormAt T q (now (conditions .entry)) (now (entries .entry)) (now (relations .entry)) c start x
+        → WrittenAt (cond reached (queryWords T c start (now («comparison_numbers» .entry)) (now («query_numbers» .entry)) x) [])
+        (now (out .entry)) at
         (now (out .exit)) r) ⌝ }
 {
     if reached {
         return write_query(
             x,
-            t1,
-            t2,
+            entries,
+            relations,
             conditions,
             c,
             start,
-            comparisons,
-            queries,
+            comparison_numbers,
+            query_numbers,
             out,
             at,
         );
@@ -322,41 +340,43 @@ fn write_reached(
 
 // Writes the query forms that are no choice and that c reaches; the lists of project forms lie from `first` on.
 pub fn write_queries(
-    t1: &[u16],
-    t2: &[u16],
-    t4: &[u16],
+    entries: &[u16],
+    relations: &[u16],
+    queries: &[u16],
     conditions: &[u64],
     reach: &[u64],
     c: usize,
     first: usize,
-    comparisons: &[u16],
-    queries: &[u16],
+    comparison_numbers: &[u16],
+    query_numbers: &[u16],
     out: &mut [u16],
 ) -> usize
-    requires { ⌜ FormWritable (now conditions) (now reach) (now t1) (now t2) (now t4) first c (now comparisons) (now queries) (now out) ⌝ }
+    requires { ⌜ QueryFormWritable (now conditions) (now reach) (now entries) (now relations) (now queries) first c (now «comparison_numbers»)
+        (now «query_numbers») (now out) ⌝ }
     ensures { λ r.
         ⌜ ((T : Tables)
-        → FormReads T (now (conditions .entry)) (now (reach .entry)) (now (t1 .entry)) (now (t2 .entry)) (now (t4 .entry)) first c
-        (now (comparisons .entry)) (now (queries .entry))
-        → Written (queryForms T c) (now (out .entry)) 0 (now (out .exit)) r) ⌝ }
+        → QueryFormReads T (now (conditions .entry)) (now (reach .entry)) (now (entries .entry)) (now (relations .entry))
+        (now (queries .entry)) first c
+        (now («comparison_numbers» .entry)) (now («query_numbers» .entry))
+        → WrittenAt (queryForms T c) (now (out .entry)) 0 (now (out .exit)) r) ⌝ }
 {
-    let count = t4.len() / 4;
+    let count = queries.len() / 4;
     let mut start = first;
     let mut p = 0;
     let mut q = 0;
     while q < count {
-        let x = query_at(t4, q);
+        let x = query_at(queries, q);
         let reached = row_has(reach, q, c);
         p = write_reached(
             reached,
             x,
-            t1,
-            t2,
+            entries,
+            relations,
             conditions,
             c,
             start,
-            comparisons,
-            queries,
+            comparison_numbers,
+            query_numbers,
             &mut *out,
             p,
         );

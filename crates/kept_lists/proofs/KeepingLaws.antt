@@ -9,14 +9,13 @@ use native.Mathlib.Omega.{arith}
 use borrow.Author.Tests.{lt-ltb}
 use lib.ListN.{length}
 use lib.Pow.{pow-mono}
-use Rattle.sets.specs.Rows.{rowBit, rowOf, rowIn}
+use Rattle.sets.specs.Rows.{rowBit, rowOf, rowIn, RowsAre}
 use Rattle.sets.specs.Search.{countBelow}
 use Rattle.sets.proofs.RowLaws.{rowBit-rowOf, bit-within}
 use Rattle.report.specs.Tables.{Tables, entryExpression, relationExpression, expressionCount, entryCount, relationCount, queryCount}
 use Rattle.report.specs.Typing.{at, present, reached}
 use Rattle.report.proofs.FormedFacts.{entry-expression, relation-expression}
-use Rattle.attribute_rows.specs.AttributeRows.{RowsAre}
-use Rattle.kept_lists.specs.Keeping.{AtReads, ListReads, ListReadable, PresentReads, PresentReadable}
+use Rattle.kept_lists.specs.Keeping.{AtReads, KeptListReads, KeptListReadable, PresentReads, PresentReadable}
 
 -- ---- what holds at c
 
@@ -33,7 +32,7 @@ module _ {T : Tables} {conditions : List ℕ} {c : ℕ} (R : AtReads T condition
     holds-at = ap (λ (l : List ℕ). rowBit l c) (R .filled .each e h) ∙ bit-within (T .features) (λ d. at T d e) 16 c (R .inside) narrow
 
   -- a query form has a reach row, and the row has c where c reaches the form
-  module _ {reach : List ℕ} (W : RowsAre (queryCount T) (λ q. rowOf 16 (λ d. reached T d q)) reach) {q : ℕ} (h : q < queryCount T) where
+  module _ {reach : List ℕ} (W : RowsAre 16 (queryCount T) (λ q. rowOf 16 (λ d. reached T d q)) reach) {q : ℕ} (h : q < queryCount T) where
     pub reach-row : (q * 16 + 16 ≤ length reach) × (c < 1024)
     reach-row = (let m = W .room in omega arith, narrow)
 
@@ -42,16 +41,16 @@ module _ {T : Tables} {conditions : List ℕ} {c : ℕ} (R : AtReads T condition
 
 -- ---- one entry, one relation
 
-module _ {T : Tables} {conditions t1 : List ℕ} {c k : ℕ} (R : ListReads T conditions t1 c k 1) where
+module _ {T : Tables} {conditions entries : List ℕ} {c k : ℕ} (R : KeptListReads T conditions entries c k 1) where
   entry-in : k < entryCount T
   entry-in = let l = R .lies in omega arith
 
-  pub entry-read : k < length t1 / 2
-  entry-read = rw (R .entries) entry-in
+  pub entry-read : k < length entries / 2
+  entry-read = rw (R .entriesAre) entry-in
 
-  module _ {x : ℕ} (e : x ≡ entryExpression t1 k) where
+  module _ {x : ℕ} (e : x ≡ entryExpression entries k) where
     expressed : x ≡ entryExpression (T .entries) k
-    expressed = e ∙ ap (λ (t : List ℕ). entryExpression t k) (R .entries)
+    expressed = e ∙ ap (λ (t : List ℕ). entryExpression t k) (R .entriesAre)
 
     pub entry-rowed : (x * 16 + 16 ≤ length conditions) × (c < 1024)
     entry-rowed = (rw expressed (rowed (R .reads) _ (entry-expression (R .reads .filled .formed) k entry-in)), narrow (R .reads))
@@ -61,13 +60,13 @@ module _ {T : Tables} {conditions t1 : List ℕ} {c k : ℕ} (R : ListReads T co
         p ∙ ap (λ (y : ℕ). rowBit (rowIn 16 conditions y) c) expressed
         ∙ holds-at (R .reads) _ (entry-expression (R .reads .filled .formed) k entry-in)
 
-module _ {T : Tables} {conditions t2 : List ℕ} {c r : ℕ} (R : PresentReads T conditions t2 c) (h : r < length t2 / 2) where
+module _ {T : Tables} {conditions relations : List ℕ} {c r : ℕ} (R : PresentReads T conditions relations c) (h : r < length relations / 2) where
   relation-in : r < relationCount T
-  relation-in = rw (R .relations) at h
+  relation-in = rw (R .relationsAre) at h
 
-  module _ {x : ℕ} (e : x ≡ relationExpression t2 r) where
+  module _ {x : ℕ} (e : x ≡ relationExpression relations r) where
     conditioned : x ≡ relationExpression (T .relations) r
-    conditioned = e ∙ ap (λ (t : List ℕ). relationExpression t r) (R .relations)
+    conditioned = e ∙ ap (λ (t : List ℕ). relationExpression t r) (R .relationsAre)
 
     pub relation-rowed : (x * 16 + 16 ≤ length conditions) × (c < 1024)
     relation-rowed = (rw conditioned (rowed (R .reads) _ (relation-expression (R .reads .filled .formed) r relation-in)), narrow (R .reads))
@@ -79,28 +78,30 @@ module _ {T : Tables} {conditions t2 : List ℕ} {c r : ℕ} (R : PresentReads T
         ∙ ap (λ (t : Bool). t && at T c (relationExpression (T .relations) r)) (sym (lt-ltb r (relationCount T) relation-in))
 
 -- relation r can be asked for
-pub relation-read : {conditions t2 : List ℕ} {c r : ℕ} → PresentReadable conditions t2 c (r + 1) → r < length t2 / 2
-relation-read A = rw (A .reads .relations) (let l = A .few in omega arith)
+pub relation-read : {conditions relations : List ℕ} {c r : ℕ} → PresentReadable conditions relations c (r + 1) → r < length relations / 2
+relation-read A = rw (A .reads .relationsAre) (let l = A .few in omega arith)
 
 -- ---- parts of what can be read
 
-pub each-entry : {T : Tables} {conditions t1 : List ℕ} {c start count : ℕ} → ListReads T conditions t1 c start count → (i : ℕ) → i < count
-    → ListReads T conditions t1 c (start + i) 1
-each-entry R i h = record { reads = R .reads; entries = R .entries; lies = let l = R .lies in omega arith }
+pub each-entry : {T : Tables} {conditions entries : List ℕ} {c start count : ℕ} → KeptListReads T conditions entries c start count → (i : ℕ)
+    → i < count
+    → KeptListReads T conditions entries c (start + i) 1
+each-entry R i h = record { reads = R .reads; entriesAre = R .entriesAre; lies = let l = R .lies in omega arith }
 
-pub some-entry : {conditions t1 : List ℕ} {c start count : ℕ} → ListReadable conditions t1 c start count → (i : ℕ) → i < count
-    → ListReadable conditions t1 c (start + i) 1
+pub some-entry : {conditions entries : List ℕ} {c start count : ℕ} → KeptListReadable conditions entries c start count → (i : ℕ) → i < count
+    → KeptListReadable conditions entries c (start + i) 1
 some-entry A i h = record { tables = A .tables; reads = each-entry (A .reads) i h }
 
 -- a list is short, and so is table 2
-pub list-short : {T : Tables} {conditions t1 : List ℕ} {c start count : ℕ} → ListReads T conditions t1 c start count → start + count ≤ 512
+pub list-short : {T : Tables} {conditions entries : List ℕ} {c start count : ℕ} → KeptListReads T conditions entries c start count
+    → start + count ≤ 512
 list-short R = let l = R .lies in let m = R .reads .filled .formed .sized1 .fits in omega arith
 
-pub relations-few : {conditions t2 : List ℕ} {c r : ℕ} → PresentReadable conditions t2 c r → r ≤ 32
+pub relations-few : {conditions relations : List ℕ} {c r : ℕ} → PresentReadable conditions relations c r → r ≤ 32
 relations-few A = let l = A .few in let m = A .reads .reads .filled .formed .sized2 .fits in omega arith
 
-pub some-relation : {conditions t2 : List ℕ} {c r : ℕ} → PresentReadable conditions t2 c r → (i : ℕ) → i < r
-    → PresentReadable conditions t2 c (i + 1)
+pub some-relation : {conditions relations : List ℕ} {c r : ℕ} → PresentReadable conditions relations c r → (i : ℕ) → i < r
+    → PresentReadable conditions relations c (i + 1)
 some-relation A i h = record { tables = A .tables; reads = A .reads; few = let l = A .few in omega arith }
 
 -- ---- a loop that counts, of the numbers below n, those at which the test of all tables that are read holds

@@ -7,7 +7,7 @@ use native.Mathlib.Numerals.{add-one}
 use native.Mathlib.Omega.{arith}
 use lib.ListN.{length}
 use Rattle.sets.specs.Lists.{concat}
-use Rattle.sets.specs.Writing.{Written}
+use Rattle.sets.specs.Writing.{WrittenAt}
 use Rattle.sets.proofs.SearchLaws.{count-le}
 use Rattle.sets.proofs.WritingLaws.{same-room, same-written}
 use Rattle.decoders.specs.Words.{IsWord}
@@ -15,39 +15,39 @@ use Rattle.report.specs.Tables.{Tables, relationLength, relationStart}
 use Rattle.report.specs.Typing.{present}
 use Rattle.report.specs.Configuring.{entryKept, keptLength}
 use Rattle.report.proofs.FormedFacts.{relation-list}
-use Rattle.kept_lists.specs.Keeping.{relationLists, relationForms, ListReads, ListReadable, PresentReads, PresentReadable}
-use Rattle.kept_lists.specs.Keeping.{RelationReads, RelationWritable}
-use Rattle.kept_lists.specs.Steps.{pairIf, listIf, relationListAt, relationFormAt, PairWritable, ListIfWritable}
+use Rattle.kept_lists.specs.Keeping.{relationLists, relationForms, KeptListReads, KeptListReadable, PresentReads, PresentReadable}
+use Rattle.kept_lists.specs.Keeping.{KeptRelationReads, KeptRelationWritable}
+use Rattle.kept_lists.specs.Steps.{pairIf, listIf, relationListAt, relationFormAt, WordPairWritable, ListIfWritable}
 use Rattle.kept_lists.proofs.KeepingLaws.{list-short}
 use Rattle.kept_lists.proofs.StepLaws.{Keeping, keeping-none, keeping-room, keeping-more, keeping-all}
 
 -- ---- what is read of one relation
 
-module _ {T : Tables} {conditions t1 t2 : List ℕ} {c : ℕ} (R : RelationReads T conditions t1 t2 c) where
-  pub reads-present : PresentReads T conditions t2 c
-  reads-present = record { reads = R .reads; relations = R .relations }
+module _ {T : Tables} {conditions entries relations : List ℕ} {c : ℕ} (R : KeptRelationReads T conditions entries relations c) where
+  pub reads-present : PresentReads T conditions relations c
+  reads-present = record { reads = R .reads; relationsAre = R .relationsAre }
 
   -- all the lists, and all the forms
-  all-lists : relationLists T c ≡ concat (length t2 / 2) (relationListAt T c)
+  all-lists : relationLists T c ≡ concat (length relations / 2) (relationListAt T c)
   unfolding relationLists
-  all-lists = ap (λ (t : List ℕ). concat (length t / 2) (relationListAt T c)) (sym (R .relations))
+  all-lists = ap (λ (t : List ℕ). concat (length t / 2) (relationListAt T c)) (sym (R .relationsAre))
 
-  all-forms : relationForms T c ≡ concat (length t2 / 2) (relationFormAt T c)
+  all-forms : relationForms T c ≡ concat (length relations / 2) (relationFormAt T c)
   unfolding relationForms
-  all-forms = ap (λ (t : List ℕ). concat (length t / 2) (relationFormAt T c)) (sym (R .relations))
+  all-forms = ap (λ (t : List ℕ). concat (length t / 2) (relationFormAt T c)) (sym (R .relationsAre))
 
-  module _ {r start : ℕ} (s : start ≡ relationStart t2 r) (h : r < length t2 / 2) {n : ℕ} (e : n ≡ relationLength t2 r) where
+  module _ {r start : ℕ} (s : start ≡ relationStart relations r) (h : r < length relations / 2) {n : ℕ} (e : n ≡ relationLength relations r) where
     starts-at : start ≡ relationStart (T .relations) r
-    starts-at = s ∙ ap (λ (t : List ℕ). relationStart t r) (R .relations)
+    starts-at = s ∙ ap (λ (t : List ℕ). relationStart t r) (R .relationsAre)
 
     is-long : n ≡ relationLength (T .relations) r
-    is-long = e ∙ ap (λ (t : List ℕ). relationLength t r) (R .relations)
+    is-long = e ∙ ap (λ (t : List ℕ). relationLength t r) (R .relationsAre)
 
-    reads-list : ListReads T conditions t1 c start n
+    reads-list : KeptListReads T conditions entries c start n
     reads-list = record {
       reads = R .reads;
-      entries = R .entries;
-      lies = rw (starts-at, is-long) (relation-list (R .reads .filled .formed) r (rw (R .relations) at h) .inside);
+      entriesAre = R .entriesAre;
+      lies = rw (starts-at, is-long) (relation-list (R .reads .filled .formed) r (rw (R .relationsAre) at h) .inside);
     }
 
     -- what relation r writes is what was found of it
@@ -63,39 +63,41 @@ module _ {T : Tables} {conditions t1 t2 : List ℕ} {c : ℕ} (R : RelationReads
 -- ---- the loops
 
 -- what f makes of the relations below r is written, and the list of r starts at `start`
-pub record Relating (f : Tables → ℕ → ℕ → List ℕ) (conditions t1 t2 : List ℕ) (c : ℕ) (first out : List ℕ) (r start p : ℕ) : Type 0 where
-  pub kept : Keeping (λ T. RelationReads T conditions t1 t2 c) (λ T. f T c) (length t2 / 2) first 0 out r p
-  pub starts : start ≡ relationStart t2 r
+pub record Relating (f : Tables → ℕ → ℕ → List ℕ) (conditions entries relations : List ℕ) (c : ℕ) (first out : List ℕ) (r start p : ℕ) : Type 0 where
+  pub kept : Keeping (λ T. KeptRelationReads T conditions entries relations c) (λ T. f T c) (length relations / 2) first 0 out r p
+  pub starts : start ≡ relationStart relations r
 
-pub relating-none : {f : Tables → ℕ → ℕ → List ℕ} {conditions t1 t2 : List ℕ} {c : ℕ} {first : List ℕ}
-    → Relating f conditions t1 t2 c first first 0 0 0
+pub relating-none : {f : Tables → ℕ → ℕ → List ℕ} {conditions entries relations : List ℕ} {c : ℕ} {first : List ℕ}
+    → Relating f conditions entries relations c first first 0 0 0
 relating-none = record { kept = keeping-none; starts = refl }
 
 -- relation r can be asked for
-pub relating-present : {f : Tables → ℕ → List ℕ} {conditions t1 t2 : List ℕ} {c : ℕ} {first : List ℕ} {r : ℕ}
-    → RelationWritable f conditions t1 t2 c first 0 → r < length t2 / 2 → PresentReadable conditions t2 c (r + 1)
-relating-present A h = record { tables = A .tables; reads = reads-present (A .reads); few = let l = rw (A .reads .relations) at h in omega arith }
+pub relating-present : {f : Tables → ℕ → List ℕ} {conditions entries relations : List ℕ} {c : ℕ} {first : List ℕ} {r : ℕ}
+    → KeptRelationWritable f conditions entries relations c first 0 → r < length relations / 2 → PresentReadable conditions relations c (r + 1)
+relating-present A h = record { tables = A .tables; reads = reads-present (A .reads); few = let l = rw (A .reads .relationsAre) at h in omega arith }
 
-module _ {f : Tables → ℕ → ℕ → List ℕ} {conditions t1 t2 : List ℕ} {c : ℕ} {first out : List ℕ} {r start p : ℕ}
-    (S : Relating f conditions t1 t2 c first out r start p) (h : r < length t2 / 2) {n : ℕ} (e : IsWord (relationLength t2 r) n) where
-  pub relating-small : {g : Tables → ℕ → List ℕ} → RelationWritable g conditions t1 t2 c first 0 → start + n ≤ 512
+module _ {f : Tables → ℕ → ℕ → List ℕ} {conditions entries relations : List ℕ} {c : ℕ} {first out : List ℕ} {r start p : ℕ}
+    (S : Relating f conditions entries relations c first out r start p) (h : r < length relations / 2) {n : ℕ}
+    (e : IsWord (relationLength relations r) n) where
+  pub relating-small : {g : Tables → ℕ → List ℕ} → KeptRelationWritable g conditions entries relations c first 0 → start + n ≤ 512
   relating-small A = list-short (reads-list (A .reads) (S .starts) h (e .same))
 
-  pub relating-list : {g : Tables → ℕ → List ℕ} → RelationWritable g conditions t1 t2 c first 0 → ListReadable conditions t1 c start n
+  pub relating-list : {g : Tables → ℕ → List ℕ} → KeptRelationWritable g conditions entries relations c first 0
+      → KeptListReadable conditions entries c start n
   relating-list A = record { tables = A .tables; reads = reads-list (A .reads) (S .starts) h (e .same) }
 
-  relating-more : {o : List ℕ} {q : ℕ} → ((T : Tables) → RelationReads T conditions t1 t2 c → Written (f T c r) out p o q)
-      → Relating f conditions t1 t2 c first o (r + 1) (start + n) q
+  relating-more : {o : List ℕ} {q : ℕ} → ((T : Tables) → KeptRelationReads T conditions entries relations c → WrittenAt (f T c r) out p o q)
+      → Relating f conditions entries relations c first o (r + 1) (start + n) q
   relating-more w = record {
     kept = keeping-more (S .kept) h w;
-    starts = ap₂ _+_ (S .starts) (e .same) ∙ ap (relationStart t2) (sym (add-one r));
+    starts = ap₂ _+_ (S .starts) (e .same) ∙ ap (relationStart relations) (sym (add-one r));
   }
 
-module _ {conditions t1 t2 : List ℕ} {c : ℕ} {first out : List ℕ} {r start p : ℕ} (h : r < length t2 / 2) {n : ℕ}
-    (e : IsWord (relationLength t2 r) n) {b : Bool} (q : (T : Tables) → PresentReads T conditions t2 c → b ≡ present T c r) where
+module _ {conditions entries relations : List ℕ} {c : ℕ} {first out : List ℕ} {r start p : ℕ} (h : r < length relations / 2) {n : ℕ}
+    (e : IsWord (relationLength relations r) n) {b : Bool} (q : (T : Tables) → PresentReads T conditions relations c → b ≡ present T c r) where
   -- the lists
-  module _ (S : Relating relationListAt conditions t1 t2 c first out r start p) where
-    pub lists-room : RelationWritable relationLists conditions t1 t2 c first 0 → ListIfWritable b conditions t1 c start n out p
+  module _ (S : Relating relationListAt conditions entries relations c first out r start p) where
+    pub lists-room : KeptRelationWritable relationLists conditions entries relations c first 0 → ListIfWritable b conditions entries c start n out p
     lists-room A =
         let R = A .reads in
         record {
@@ -107,19 +109,19 @@ module _ {conditions t1 t2 : List ℕ} {c : ℕ} {first out : List ℕ} {r start
         }
 
     pub lists-more : {o : List ℕ} {k : ℕ}
-        → ((T : Tables) → ListReads T conditions t1 c start n → Written (listIf b T c start n) out p o k)
-        → Relating relationListAt conditions t1 t2 c first o (r + 1) (start + n) k
+        → ((T : Tables) → KeptListReads T conditions entries c start n → WrittenAt (listIf b T c start n) out p o k)
+        → Relating relationListAt conditions entries relations c first o (r + 1) (start + n) k
     lists-more w =
         relating-more S h e
         (λ T R. same-written (list-text R (S .starts) h (e .same) (q T (reads-present R))) (w T (reads-list R (S .starts) h (e .same))))
 
   -- the forms
-  module _ (S : Relating relationFormAt conditions t1 t2 c first out r start p) {m : ℕ}
-      (l : (T : Tables) → ListReads T conditions t1 c start n → m ≡ keptLength T c start n) where
-    text : {T : Tables} → RelationReads T conditions t1 t2 c → relationFormAt T c r ≡ pairIf b 0 m
+  module _ (S : Relating relationFormAt conditions entries relations c first out r start p) {m : ℕ}
+      (l : (T : Tables) → KeptListReads T conditions entries c start n → m ≡ keptLength T c start n) where
+    text : {T : Tables} → KeptRelationReads T conditions entries relations c → relationFormAt T c r ≡ pairIf b 0 m
     text {T} R = form-text R (S .starts) h (e .same) (q T (reads-present R)) (l T (reads-list R (S .starts) h (e .same)))
 
-    pub forms-room : RelationWritable relationForms conditions t1 t2 c first 0 → PairWritable b 0 m out p
+    pub forms-room : KeptRelationWritable relationForms conditions entries relations c first 0 → WordPairWritable b 0 m out p
     forms-room A =
         let R = A .reads in
         record {
@@ -132,14 +134,14 @@ module _ {conditions t1 t2 : List ℕ} {c : ℕ} {first out : List ℕ} {r start
           room = same-room (text R) (keeping-room (S .kept) R (same-room (all-forms R) (A .room)) h);
         }
 
-    pub forms-more : {o : List ℕ} {k : ℕ} → Written (pairIf b 0 m) out p o k
-        → Relating relationFormAt conditions t1 t2 c first o (r + 1) (start + n) k
+    pub forms-more : {o : List ℕ} {k : ℕ} → WrittenAt (pairIf b 0 m) out p o k
+        → Relating relationFormAt conditions entries relations c first o (r + 1) (start + n) k
     forms-more w = relating-more S h e (λ T R. same-written (text R) w)
 
-module _ {conditions t1 t2 : List ℕ} {c : ℕ} {first out : List ℕ} {r start p : ℕ} (h : length t2 / 2 ≤ r) (T : Tables)
-    (R : RelationReads T conditions t1 t2 c) where
-  pub lists-all : Relating relationListAt conditions t1 t2 c first out r start p → Written (relationLists T c) first 0 out p
+module _ {conditions entries relations : List ℕ} {c : ℕ} {first out : List ℕ} {r start p : ℕ} (h : length relations / 2 ≤ r) (T : Tables)
+    (R : KeptRelationReads T conditions entries relations c) where
+  pub lists-all : Relating relationListAt conditions entries relations c first out r start p → WrittenAt (relationLists T c) first 0 out p
   lists-all S = same-written (all-lists R) (keeping-all (S .kept) h T R)
 
-  pub forms-all : Relating relationFormAt conditions t1 t2 c first out r start p → Written (relationForms T c) first 0 out p
+  pub forms-all : Relating relationFormAt conditions entries relations c first out r start p → WrittenAt (relationForms T c) first 0 out p
   forms-all S = same-written (all-forms R) (keeping-all (S .kept) h T R)

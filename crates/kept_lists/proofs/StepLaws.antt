@@ -6,13 +6,13 @@ use mathlib.Core.List.{List}
 use native.Mathlib.Omega.{arith}
 use lib.ListN.{length}
 use Rattle.sets.specs.Lists.{concat}
-use Rattle.sets.specs.Writing.{Room, Written}
+use Rattle.sets.specs.Writing.{Room, WrittenAt}
 use Rattle.sets.proofs.WritingLaws.{same-length, same-room, same-written, Writing, writing-none, writing-room, writing-more, writing-all}
 use Rattle.decoders.specs.Words.{IsWord}
 use Rattle.report.specs.Tables.{Tables, entryAttribute, entryExpression}
 use Rattle.report.specs.Typing.{at as holdsAt}
-use Rattle.kept_lists.specs.Keeping.{ListReads, ListWritable}
-use Rattle.kept_lists.specs.Steps.{pairIf, entryAt, PairWritable}
+use Rattle.kept_lists.specs.Keeping.{KeptListReads, KeptListWritable}
+use Rattle.kept_lists.specs.Steps.{pairIf, entryAt, WordPairWritable}
 use Rattle.kept_lists.proofs.KeepingLaws.{each-entry}
 
 -- ---- a loop that writes n blocks, for all tables that are read
@@ -30,11 +30,11 @@ module _ {Reads : Tables → Type 0} {f : Tables → ℕ → List ℕ} {n : ℕ}
     pub keeping-room : {T : Tables} → Reads T → Room (concat n (f T)) first at → k < n → Room (f T k) out p
     keeping-room {T} R = writing-room (S .each T R)
 
-    pub keeping-more : {o : List ℕ} {q : ℕ} → k < n → ((T : Tables) → Reads T → Written (f T k) out p o q)
+    pub keeping-more : {o : List ℕ} {q : ℕ} → k < n → ((T : Tables) → Reads T → WrittenAt (f T k) out p o q)
         → Keeping Reads f n first at o (k + 1) q
     keeping-more h w = record { each = λ T R. writing-more (S .each T R) h (w T R) }
 
-    pub keeping-all : n ≤ k → (T : Tables) → Reads T → Written (concat n (f T)) first at out p
+    pub keeping-all : n ≤ k → (T : Tables) → Reads T → WrittenAt (concat n (f T)) first at out p
     keeping-all h T R = writing-all (S .each T R) h
 
     pub keeping-length : {T : Tables} → Reads T → length out ≡ length first
@@ -43,25 +43,26 @@ module _ {Reads : Tables → Type 0} {f : Tables → ℕ → List ℕ} {n : ℕ}
 -- ---- the loop over a list
 
 -- of the `count` entries from `start` on the first i are written
-abbrev pub Listing : List ℕ → List ℕ → ℕ → ℕ → ℕ → List ℕ → ℕ → List ℕ → ℕ → ℕ → Type 0
-Listing conditions t1 c start count first at out i p =
-    Keeping (λ T. ListReads T conditions t1 c start count) (λ T j. entryAt T c (start + j)) count first at out i p
+abbrev pub EntriesWriting : List ℕ → List ℕ → ℕ → ℕ → ℕ → List ℕ → ℕ → List ℕ → ℕ → ℕ → Type 0
+EntriesWriting conditions entries c start count first at out i p =
+    Keeping (λ T. KeptListReads T conditions entries c start count) (λ T j. entryAt T c (start + j)) count first at out i p
 
 -- what the next entry writes is what was found of it
-module _ {conditions t1 : List ℕ} {c start count : ℕ} {first : List ℕ} {at : ℕ} {out : List ℕ} {i p : ℕ}
-    (S : Listing conditions t1 c start count first at out i p) (h : i < count) {a : ℕ} (e : IsWord (entryAttribute t1 (start + i)) a) {b : Bool}
-    (q : (T : Tables) → ListReads T conditions t1 c (start + i) 1 → b ≡ holdsAt T c (entryExpression (T .entries) (start + i))) where
-  text : {T : Tables} → ListReads T conditions t1 c start count → entryAt T c (start + i) ≡ pairIf b a 0
+module _ {conditions entries : List ℕ} {c start count : ℕ} {first : List ℕ} {at : ℕ} {out : List ℕ} {i p : ℕ}
+    (S : EntriesWriting conditions entries c start count first at out i p) (h : i < count) {a : ℕ} (e : IsWord (entryAttribute entries (start + i)) a)
+    {b : Bool}
+    (q : (T : Tables) → KeptListReads T conditions entries c (start + i) 1 → b ≡ holdsAt T c (entryExpression (T .entries) (start + i))) where
+  text : {T : Tables} → KeptListReads T conditions entries c start count → entryAt T c (start + i) ≡ pairIf b a 0
   text {T} R =
-      let x = e .same ∙ ap (λ (t : List ℕ). entryAttribute t (start + i)) (R .entries) in
+      let x = e .same ∙ ap (λ (t : List ℕ). entryAttribute t (start + i)) (R .entriesAre) in
       sym (ap₂ (λ (t : Bool) (y : ℕ). pairIf t y 0) (q T (each-entry R i h)) x)
 
-  pub listing-room : ListWritable conditions t1 c start count first at → PairWritable b a 0 out p
+  pub listing-room : KeptListWritable conditions entries c start count first at → WordPairWritable b a 0 out p
   listing-room A = record {
     first = e .small;
     second = omega arith;
     room = same-room (text (A .reads)) (keeping-room S (A .reads) (A .room) h);
   }
 
-  pub listing-more : {o : List ℕ} {r : ℕ} → Written (pairIf b a 0) out p o r → Listing conditions t1 c start count first at o (i + 1) r
+  pub listing-more : {o : List ℕ} {r : ℕ} → WrittenAt (pairIf b a 0) out p o r → EntriesWriting conditions entries c start count first at o (i + 1) r
   listing-more w = keeping-more S h (λ T R. same-written (text R) w)

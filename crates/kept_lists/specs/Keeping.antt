@@ -3,14 +3,13 @@ use Prim.Native.Nat.{ℕ, _+_, _<_, _≤_}
 use mathlib.Core.Path.{_≡_}
 use mathlib.Core.List.{List}
 use Rattle.sets.specs.Lists.{kept}
-use Rattle.sets.specs.Rows.{rowOf}
+use Rattle.sets.specs.Rows.{rowOf, RowsAre}
 use Rattle.sets.specs.Writing.{Room}
 use Rattle.report.specs.Tables.{Tables, query, entryCount, relationCount, queryCount, relationStart}
 use Rattle.report.specs.Expressions.{configurations}
 use Rattle.report.specs.Typing.{present, reached}
 use Rattle.report.specs.Configuring.{queryKept, keptList, relationList, projectListOf, relationForm}
-use Rattle.conditions.specs.Conditions.{Filled}
-use Rattle.attribute_rows.specs.AttributeRows.{RowsAre}
+use Rattle.conditions.specs.Conditions.{ExpressionsFilled}
 
 -- ---- what is written, of tables T at configuration c: parts of `configured`
 
@@ -31,55 +30,55 @@ module _ (T : Tables) (c : ℕ) where
 
 -- the expression rows of tables that have passed the form checks, and a configuration of their features
 pub record AtReads (T : Tables) (conditions : List ℕ) (c : ℕ) : Type 0 where
-  pub filled : Filled T conditions
+  pub filled : ExpressionsFilled T conditions
   pub inside : c < configurations T
 
 -- besides, a list in table 1
-pub record ListReads (T : Tables) (conditions t1 : List ℕ) (c start count : ℕ) : Type 0 where
+pub record KeptListReads (T : Tables) (conditions entries : List ℕ) (c start count : ℕ) : Type 0 where
   pub reads : AtReads T conditions c
-  pub entries : t1 ≡ T .entries
+  pub entriesAre : entries ≡ T .entries
   pub lies : start + count ≤ entryCount T
 
-pub record ListReadable (conditions t1 : List ℕ) (c start count : ℕ) : Type 0 where
+pub record KeptListReadable (conditions entries : List ℕ) (c start count : ℕ) : Type 0 where
   pub tables : Tables
-  pub reads : ListReads tables conditions t1 c start count
+  pub reads : KeptListReads tables conditions entries c start count
 
-pub record ListWritable (conditions t1 : List ℕ) (c start count : ℕ) (out : List ℕ) (at : ℕ) : Type 0 where
+pub record KeptListWritable (conditions entries : List ℕ) (c start count : ℕ) (out : List ℕ) (at : ℕ) : Type 0 where
   pub tables : Tables
-  pub reads : ListReads tables conditions t1 c start count
+  pub reads : KeptListReads tables conditions entries c start count
   pub room : Room (keptList tables c start count) out at
 
 -- table 2, of which relation r may be asked for, or the number of those below it
-pub record PresentReads (T : Tables) (conditions t2 : List ℕ) (c : ℕ) : Type 0 where
+pub record PresentReads (T : Tables) (conditions relations : List ℕ) (c : ℕ) : Type 0 where
   pub reads : AtReads T conditions c
-  pub relations : t2 ≡ T .relations
+  pub relationsAre : relations ≡ T .relations
 
-pub record PresentReadable (conditions t2 : List ℕ) (c bound : ℕ) : Type 0 where
+pub record PresentReadable (conditions relations : List ℕ) (c bound : ℕ) : Type 0 where
   pub tables : Tables
-  pub reads : PresentReads tables conditions t2 c
+  pub reads : PresentReads tables conditions relations c
   pub few : bound ≤ relationCount tables
 
 -- tables 1 and 2
-pub record RelationReads (T : Tables) (conditions t1 t2 : List ℕ) (c : ℕ) : Type 0 where
+pub record KeptRelationReads (T : Tables) (conditions entries relations : List ℕ) (c : ℕ) : Type 0 where
   pub reads : AtReads T conditions c
-  pub entries : t1 ≡ T .entries
-  pub relations : t2 ≡ T .relations
+  pub entriesAre : entries ≡ T .entries
+  pub relationsAre : relations ≡ T .relations
 
 -- with room for the text that f makes of them
-pub record RelationWritable (f : Tables → ℕ → List ℕ) (conditions t1 t2 : List ℕ) (c : ℕ) (out : List ℕ) (at : ℕ) : Type 0 where
+pub record KeptRelationWritable (f : Tables → ℕ → List ℕ) (conditions entries relations : List ℕ) (c : ℕ) (out : List ℕ) (at : ℕ) : Type 0 where
   pub tables : Tables
-  pub reads : RelationReads tables conditions t1 t2 c
+  pub reads : KeptRelationReads tables conditions entries relations c
   pub room : Room (f tables c) out at
 
 -- tables 1 and 4, the configurations that reach each form, and where the lists of the project forms start
-pub record ProjectReads (T : Tables) (conditions reach t1 t4 : List ℕ) (first c : ℕ) : Type 0 where
+pub record ProjectReads (T : Tables) (conditions reach entries queries : List ℕ) (first c : ℕ) : Type 0 where
   pub reads : AtReads T conditions c
-  pub reaching : RowsAre (queryCount T) (λ q. rowOf 16 (λ d. reached T d q)) reach
-  pub entries : t1 ≡ T .entries
-  pub queries : t4 ≡ T .queries
+  pub reaching : RowsAre 16 (queryCount T) (λ q. rowOf 16 (λ d. reached T d q)) reach
+  pub entriesAre : entries ≡ T .entries
+  pub queriesAre : queries ≡ T .queries
   pub begins : first ≡ relationStart (T .relations) (relationCount T)
 
-pub record ProjectWritable (conditions reach t1 t4 : List ℕ) (first c : ℕ) (out : List ℕ) (at : ℕ) : Type 0 where
+pub record ProjectWritable (conditions reach entries queries : List ℕ) (first c : ℕ) (out : List ℕ) (at : ℕ) : Type 0 where
   pub tables : Tables
-  pub reads : ProjectReads tables conditions reach t1 t4 first c
+  pub reads : ProjectReads tables conditions reach entries queries first c
   pub room : Room (projectLists tables c) out at

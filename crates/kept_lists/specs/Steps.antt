@@ -6,7 +6,7 @@ use Rattle.sets.specs.Writing.{Room}
 use Rattle.report.specs.Tables.{Tables, entryAttribute, entryExpression, query}
 use Rattle.report.specs.Typing.{at, present}
 use Rattle.report.specs.Configuring.{queryKept, keptList, relationList, projectListOf, relationForm}
-use Rattle.kept_lists.specs.Keeping.{ListReads}
+use Rattle.kept_lists.specs.Keeping.{KeptListReads}
 
 -- two words; a list of table 1
 abbrev pub pairIf : Bool → ℕ → ℕ → List ℕ
@@ -34,13 +34,13 @@ module _ (T : Tables) (c : ℕ) where
 -- ---- what the functions that write one block ask for
 
 -- two words of a table, and room for them if they are kept
-pub record PairWritable (keep : Bool) (x y : ℕ) (out : List ℕ) (at : ℕ) : Type 0 where
+pub record WordPairWritable (keep : Bool) (x y : ℕ) (out : List ℕ) (at : ℕ) : Type 0 where
   pub first : x < 65536
   pub second : y < 65536
   pub room : Room (pairIf keep x y) out at
 
 -- a list of table 1, and room for its kept entries if it is kept
-pub record ListIfWritable (keep : Bool) (conditions t1 : List ℕ) (c start count : ℕ) (out : List ℕ) (at : ℕ) : Type 0 where
+pub record ListIfWritable (keep : Bool) (conditions entries : List ℕ) (c start count : ℕ) (out : List ℕ) (at : ℕ) : Type 0 where
   pub tables : Tables
-  pub reads : ListReads tables conditions t1 c start count
+  pub reads : KeptListReads tables conditions entries c start count
   pub room : Room (listIf keep tables c start count) out at

@@ -11,14 +11,14 @@ ghost use mathlib.Core.Bool.{cond};
 ghost use Prim.Native.Nat.{_+_, _*_, _<_, _≤_};
 ghost use lib.ListN.{length};
 ghost use Rattle.sets.specs.Rows.{rowBit, rowIn};
-ghost use Rattle.sets.specs.Writing.{Written};
+ghost use Rattle.sets.specs.Writing.{WrittenAt};
 ghost use Rattle.report.specs.Tables.{Tables, entryExpression};
 ghost use Rattle.report.specs.Typing.{at, present};
 ghost use Rattle.report.specs.Configuring.{keptLength, keptList, newRelation};
 ghost use Rattle.kept_lists.specs.Keeping.{relationLists, projectLists, relationForms};
-ghost use Rattle.kept_lists.specs.Keeping.{ListReads, ListReadable, ListWritable, PresentReads, PresentReadable};
-ghost use Rattle.kept_lists.specs.Keeping.{RelationReads, RelationWritable, ProjectReads, ProjectWritable};
-ghost use Rattle.kept_lists.specs.Steps.{pairIf, listIf, PairWritable, ListIfWritable};
+ghost use Rattle.kept_lists.specs.Keeping.{KeptListReads, KeptListReadable, KeptListWritable, PresentReads, PresentReadable};
+ghost use Rattle.kept_lists.specs.Keeping.{KeptRelationReads, KeptRelationWritable, ProjectReads, ProjectWritable};
+ghost use Rattle.kept_lists.specs.Steps.{pairIf, listIf, WordPairWritable, ListIfWritable};
 
 // Configuration c is in row x of the rows: expression x holds there, or form x is reached.
 pub fn row_has(rows: &[u64], x: usize, c: usize) -> bool
@@ -40,23 +40,30 @@ fn more_if(n: usize, test: bool) -> usize
 }
 
 // Entry k holds at c.
-fn entry_holds(t1: &[u16], conditions: &[u64], c: usize, k: usize) -> bool
-    requires { ⌜ ListReadable (now conditions) (now t1) c k 1 ⌝ }
+fn entry_holds(entries: &[u16], conditions: &[u64], c: usize, k: usize) -> bool
+    requires { ⌜ KeptListReadable (now conditions) (now entries) c k 1 ⌝ }
     ensures { λ b.
-        ⌜ ((T : Tables) → ListReads T (now (conditions .entry)) (now (t1 .entry)) c k 1 → b ≡ at T c (entryExpression (T .entries) k)) ⌝ }
+        ⌜ ((T : Tables) → KeptListReads T (now (conditions .entry)) (now (entries .entry)) c k 1 → b ≡ at T c (entryExpression (T .entries) k)) ⌝ }
 {
-    row_has(conditions, entry_expression(t1, k), c)
+    row_has(conditions, entry_expression(entries, k), c)
 }
 
 // How many of the `count` entries from `start` on hold at c.
-pub fn kept_length(t1: &[u16], conditions: &[u64], c: usize, start: usize, count: usize) -> usize
-    requires { ⌜ ListReadable (now conditions) (now t1) c start count ⌝ }
-    ensures { λ r. ⌜ ((T : Tables) → ListReads T (now (conditions .entry)) (now (t1 .entry)) c start count → r ≡ keptLength T c start count) ⌝ }
+pub fn kept_length(
+    entries: &[u16],
+    conditions: &[u64],
+    c: usize,
+    start: usize,
+    count: usize,
+) -> usize
+    requires { ⌜ KeptListReadable (now conditions) (now entries) c start count ⌝ }
+    ensures { λ r. ⌜ ((T : Tables) → KeptListReads T (now (conditions .entry)) (now (entries .entry)) c start count → r ≡ keptLength T c start count)
+        ⌝ }
 {
     let mut kept = 0;
     let mut i = 0;
     while i < count {
-        let holds = entry_holds(t1, conditions, c, start + i);
+        let holds = entry_holds(entries, conditions, c, start + i);
         kept = more_if(kept, holds);
         i += 1;
     }
@@ -65,8 +72,8 @@ pub fn kept_length(t1: &[u16], conditions: &[u64], c: usize, start: usize, count
 
 // Writes x and y, if they are kept.
 fn write_pair(keep: bool, x: usize, y: usize, out: &mut [u16], at: usize) -> usize
-    requires { ⌜ PairWritable keep x y (now out) at ⌝ }
-    ensures { λ r. ⌜ Written (pairIf keep x y) (now (out .entry)) at (now (out .exit)) r ⌝ }
+    requires { ⌜ WordPairWritable keep x y (now out) at ⌝ }
+    ensures { λ r. ⌜ WrittenAt (pairIf keep x y) (now (out .entry)) at (now (out .exit)) r ⌝ }
 {
     if keep {
         out[at] = x as u16;
@@ -77,8 +84,8 @@ fn write_pair(keep: bool, x: usize, y: usize, out: &mut [u16], at: usize) -> usi
 }
 
 // Writes the `count` entries from `start` on that hold at c, their expression made 0.
-pub fn write_list(
-    t1: &[u16],
+fn write_list(
+    entries: &[u16],
     conditions: &[u64],
     c: usize,
     start: usize,
@@ -86,17 +93,17 @@ pub fn write_list(
     out: &mut [u16],
     at: usize,
 ) -> usize
-    requires { ⌜ ListWritable (now conditions) (now t1) c start count (now out) at ⌝ }
+    requires { ⌜ KeptListWritable (now conditions) (now entries) c start count (now out) at ⌝ }
     ensures { λ r.
-        ⌜ ((T : Tables) → ListReads T (now (conditions .entry)) (now (t1 .entry)) c start count
-        → Written (keptList T c start count) (now (out .entry)) at (now (out .exit)) r) ⌝ }
+        ⌜ ((T : Tables) → KeptListReads T (now (conditions .entry)) (now (entries .entry)) c start count
+        → WrittenAt (keptList T c start count) (now (out .entry)) at (now (out .exit)) r) ⌝ }
 {
     let mut p = at;
     let mut i = 0;
     while i < count {
         let k = start + i;
-        let a = entry_attribute(t1, k);
-        let holds = entry_holds(t1, conditions, c, k);
+        let a = entry_attribute(entries, k);
+        let holds = entry_holds(entries, conditions, c, k);
         p = write_pair(holds, a, 0, &mut *out, p);
         i += 1;
     }
@@ -106,7 +113,7 @@ pub fn write_list(
 // Writes that list, if it is kept.
 fn write_list_if(
     keep: bool,
-    t1: &[u16],
+    entries: &[u16],
     conditions: &[u64],
     c: usize,
     start: usize,
@@ -114,34 +121,34 @@ fn write_list_if(
     out: &mut [u16],
     at: usize,
 ) -> usize
-    requires { ⌜ ListIfWritable keep (now conditions) (now t1) c start count (now out) at ⌝ }
+    requires { ⌜ ListIfWritable keep (now conditions) (now entries) c start count (now out) at ⌝ }
     ensures { λ r.
-        ⌜ ((T : Tables) → ListReads T (now (conditions .entry)) (now (t1 .entry)) c start count
-        → Written (listIf keep T c start count) (now (out .entry)) at (now (out .exit)) r) ⌝ }
+        ⌜ ((T : Tables) → KeptListReads T (now (conditions .entry)) (now (entries .entry)) c start count
+        → WrittenAt (listIf keep T c start count) (now (out .entry)) at (now (out .exit)) r) ⌝ }
 {
     if keep {
-        return write_list(t1, conditions, c, start, count, out, at);
+        return write_list(entries, conditions, c, start, count, out, at);
     }
     at
 }
 
 // Relation r is present at c.
-fn is_present(t2: &[u16], conditions: &[u64], c: usize, r: usize) -> bool
-    requires { ⌜ PresentReadable (now conditions) (now t2) c (r + 1) ⌝ }
-    ensures { λ b. ⌜ ((T : Tables) → PresentReads T (now (conditions .entry)) (now (t2 .entry)) c → b ≡ present T c r) ⌝ }
+fn is_present(relations: &[u16], conditions: &[u64], c: usize, r: usize) -> bool
+    requires { ⌜ PresentReadable (now conditions) (now relations) c (r + 1) ⌝ }
+    ensures { λ b. ⌜ ((T : Tables) → PresentReads T (now (conditions .entry)) (now (relations .entry)) c → b ≡ present T c r) ⌝ }
 {
-    row_has(conditions, relation_expression(t2, r), c)
+    row_has(conditions, relation_expression(relations, r), c)
 }
 
 // The new number of relation r: how many below it are present at c.
-pub fn new_relation(t2: &[u16], conditions: &[u64], c: usize, r: usize) -> usize
-    requires { ⌜ PresentReadable (now conditions) (now t2) c r ⌝ }
-    ensures { λ k. ⌜ ((T : Tables) → PresentReads T (now (conditions .entry)) (now (t2 .entry)) c → k ≡ newRelation T c r) ⌝ }
+pub fn new_relation(relations: &[u16], conditions: &[u64], c: usize, r: usize) -> usize
+    requires { ⌜ PresentReadable (now conditions) (now relations) c r ⌝ }
+    ensures { λ k. ⌜ ((T : Tables) → PresentReads T (now (conditions .entry)) (now (relations .entry)) c → k ≡ newRelation T c r) ⌝ }
 {
     let mut kept = 0;
     let mut i = 0;
     while i < r {
-        let present = is_present(t2, conditions, c, i);
+        let present = is_present(relations, conditions, c, i);
         kept = more_if(kept, present);
         i += 1;
     }
@@ -150,25 +157,25 @@ pub fn new_relation(t2: &[u16], conditions: &[u64], c: usize, r: usize) -> usize
 
 // Writes the lists of the relations that are present at c.
 pub fn write_relation_lists(
-    t1: &[u16],
-    t2: &[u16],
+    entries: &[u16],
+    relations: &[u16],
     conditions: &[u64],
     c: usize,
     out: &mut [u16],
 ) -> usize
-    requires { ⌜ RelationWritable relationLists (now conditions) (now t1) (now t2) c (now out) 0 ⌝ }
+    requires { ⌜ KeptRelationWritable relationLists (now conditions) (now entries) (now relations) c (now out) 0 ⌝ }
     ensures { λ r.
-        ⌜ ((T : Tables) → RelationReads T (now (conditions .entry)) (now (t1 .entry)) (now (t2 .entry)) c
-        → Written (relationLists T c) (now (out .entry)) 0 (now (out .exit)) r) ⌝ }
+        ⌜ ((T : Tables) → KeptRelationReads T (now (conditions .entry)) (now (entries .entry)) (now (relations .entry)) c
+        → WrittenAt (relationLists T c) (now (out .entry)) 0 (now (out .exit)) r) ⌝ }
 {
-    let count = t2.len() / 2;
+    let count = relations.len() / 2;
     let mut start = 0;
     let mut p = 0;
     let mut r = 0;
     while r < count {
-        let n = relation_length(t2, r);
-        let present = is_present(t2, conditions, c, r);
-        p = write_list_if(present, t1, conditions, c, start, n, &mut *out, p);
+        let n = relation_length(relations, r);
+        let present = is_present(relations, conditions, c, r);
+        p = write_list_if(present, entries, conditions, c, start, n, &mut *out, p);
         start += n;
         r += 1;
     }
@@ -177,25 +184,25 @@ pub fn write_relation_lists(
 
 // Writes the relations that are present at c: expression 0, and how many of its entries are kept.
 pub fn write_relation_forms(
-    t1: &[u16],
-    t2: &[u16],
+    entries: &[u16],
+    relations: &[u16],
     conditions: &[u64],
     c: usize,
     out: &mut [u16],
 ) -> usize
-    requires { ⌜ RelationWritable relationForms (now conditions) (now t1) (now t2) c (now out) 0 ⌝ }
+    requires { ⌜ KeptRelationWritable relationForms (now conditions) (now entries) (now relations) c (now out) 0 ⌝ }
     ensures { λ r.
-        ⌜ ((T : Tables) → RelationReads T (now (conditions .entry)) (now (t1 .entry)) (now (t2 .entry)) c
-        → Written (relationForms T c) (now (out .entry)) 0 (now (out .exit)) r) ⌝ }
+        ⌜ ((T : Tables) → KeptRelationReads T (now (conditions .entry)) (now (entries .entry)) (now (relations .entry)) c
+        → WrittenAt (relationForms T c) (now (out .entry)) 0 (now (out .exit)) r) ⌝ }
 {
-    let count = t2.len() / 2;
+    let count = relations.len() / 2;
     let mut start = 0;
     let mut p = 0;
     let mut r = 0;
     while r < count {
-        let n = relation_length(t2, r);
-        let present = is_present(t2, conditions, c, r);
-        let kept = kept_length(t1, conditions, c, start, n);
+        let n = relation_length(relations, r);
+        let present = is_present(relations, conditions, c, r);
+        let kept = kept_length(entries, conditions, c, start, n);
         p = write_pair(present, 0, kept, &mut *out, p);
         start += n;
         r += 1;
@@ -205,8 +212,8 @@ pub fn write_relation_forms(
 
 // Writes the lists of the project forms that c reaches, which lie from `first` on. Another form has no entries, so its list is written as none.
 pub fn write_project_lists(
-    t1: &[u16],
-    t4: &[u16],
+    entries: &[u16],
+    queries: &[u16],
     conditions: &[u64],
     reach: &[u64],
     c: usize,
@@ -214,20 +221,20 @@ pub fn write_project_lists(
     out: &mut [u16],
     at: usize,
 ) -> usize
-    requires { ⌜ ProjectWritable (now conditions) (now reach) (now t1) (now t4) first c (now out) at ⌝ }
+    requires { ⌜ ProjectWritable (now conditions) (now reach) (now entries) (now queries) first c (now out) at ⌝ }
     ensures { λ r.
-        ⌜ ((T : Tables) → ProjectReads T (now (conditions .entry)) (now (reach .entry)) (now (t1 .entry)) (now (t4 .entry)) first c
-        → Written (projectLists T c) (now (out .entry)) at (now (out .exit)) r) ⌝ }
+        ⌜ ((T : Tables) → ProjectReads T (now (conditions .entry)) (now (reach .entry)) (now (entries .entry)) (now (queries .entry)) first c
+        → WrittenAt (projectLists T c) (now (out .entry)) at (now (out .exit)) r) ⌝ }
 {
-    let count = t4.len() / 4;
+    let count = queries.len() / 4;
     let mut start = first;
     let mut p = at;
     let mut q = 0;
     while q < count {
-        let x = query_at(t4, q);
+        let x = query_at(queries, q);
         let n = project_length(x);
         let reached = row_has(reach, q, c);
-        p = write_list_if(reached, t1, conditions, c, start, n, &mut *out, p);
+        p = write_list_if(reached, entries, conditions, c, start, n, &mut *out, p);
         start += n;
         q += 1;
     }

@@ -1,16 +1,17 @@
--- What the column rows show at one configuration, found from the highest attribute down; and the lines that follow from it.
-use Prim.Native.Nat.{ℕ, suc, _+_, _-_, _*_, _/_, _%_, _^_, _≤_, _<_}
+-- What the column rows show at one configuration, found attribute by attribute; and the lines that follow from it.
+use Prim.Native.Nat.{ℕ, _+_, _-_, _*_, _/_, _%_, _^_, _≤_, _<_}
 use mathlib.Core.Path.{_≡_, refl, sym, ap, ap₂, _∙_}
-use mathlib.Core.Bool.{Bool, true, false, cond}
+use mathlib.Core.Bool.{Bool, true, false, cond, _&&_}
 use mathlib.Core.List.{List, [], _++_}
-use native.Mathlib.Nat.{mod-lt}
 use native.Mathlib.Omega.{arith}
+use borrow.Author.Tests.{le-ltb}
+use lib.Bits.{bitOr}
+use lib.Dec.{ltb}
 use lib.ListN.{getD}
-use lib.Pow.{pow-mono}
 use Rattle.sets.specs.Lists.{concat}
-use Rattle.sets.specs.Bits.{bit, digit, bitsOf}
+use Rattle.sets.specs.Bits.{bit}
 use Rattle.sets.specs.Rows.{rowBit, rowIn}
-use Rattle.sets.proofs.BitLaws.{digit-eqb, bitsOf-lt, bitsOf-same}
+use Rattle.sets.proofs.BitLaws.{bit-none, one-more, all-below}
 use Rattle.sets.proofs.ListLaws.{table-at}
 use Rattle.report.specs.ColumnRows.{shown}
 use Rattle.report.specs.Text.{bytes, line}
@@ -18,51 +19,35 @@ use Rattle.printing.specs.Lines.{configurationLine, configurationText, a
 
 -- ---- what the rows show at c
 
--- the set of those attributes from a on that the rows show, with attribute a as bit 0
-pub record Showing (rows : List ℕ) (c bits a : ℕ) : Type 0 where
+-- of the attributes below a those that the rows show have been found
+pub record Showing (rows : List ℕ) (c found a : ℕ) : Type 0 where
   pub most : a ≤ 64
-  pub has : bits ≡ bitsOf (64 - a) (λ j. rowBit (rowIn 16 rows (a + j)) c)
+  pub has : (i : ℕ) → bit found i ≡ (ltb i a && rowBit (rowIn 16 rows i) c)
 
 module _ (rows : List ℕ) (c : ℕ) where
   -- the bit of row a for c, as it is read
-  row-digit : (a : ℕ) → c < 1024 → getD rows (a * 16 + c / 64) 0 / 2 ^ (c % 64) % 2 ≡ digit (rowBit (rowIn 16 rows a) c)
-  row-digit a h =
-      sym (digit-eqb _ (mod-lt (getD rows (a * 16 + c / 64) 0 / 2 ^ (c % 64)) (omega arith)))
-      ∙ ap (λ (w : ℕ). digit (bit w (c % 64))) (sym (table-at 16 (λ i. getD rows (a * 16 + i) 0) 0 (c / 64) (omega arith)))
+  row-bit : (a : ℕ) → c < 1024 → bit (getD rows (a * 16 + c / 64) 0) (c % 64) ≡ rowBit (rowIn 16 rows a) c
+  row-bit a h = ap (λ (w : ℕ). bit w (c % 64)) (sym (table-at 16 (λ i. getD rows (a * 16 + i) 0) 0 (c / 64) (omega arith)))
 
-  pub showing-none : Showing rows c 0 64
-  unfolding bitsOf
-  showing-none = record { most = omega arith; has = refl }
+  pub showing-none : {found : ℕ} → found ≡ 0 → Showing rows c found 0
+  showing-none e = record {
+    most = omega arith;
+    has = λ i. ap (λ (x : ℕ). bit x i) e ∙ bit-none i ∙ sym (ap (λ (t : Bool). t && rowBit (rowIn 16 rows i) c) (le-ltb i 0 (omega arith)));
+  }
 
-  -- there is room for one bit more
-  pub showing-fits : {bits a : ℕ} → Showing rows c bits a → 0 < a → bits * 2 + 1 < 2 ^ 64
-  showing-fits {bits} {a} s h =
-      omega (arith, s .has, bitsOf-lt (64 - a) (λ j. rowBit (rowIn 16 rows (a + j)) c), pow-mono {i = 64 - a} {j = 63} (omega arith))
+  pub showing-more : {found a : ℕ} → Showing rows c found a → a < 64 → c < 1024
+      → {next : ℕ} → next ≡ cond (bit (getD rows (a * 16 + c / 64) 0) (c % 64)) (bitOr found (2 ^ a)) found → Showing rows c next (a + 1)
+  showing-more {found} {a} s h l e = record {
+    most = omega arith;
+    has = λ i.
+        ap (λ (x : ℕ). bit x i) (e ∙ ap (λ (t : Bool). cond t (bitOr found (2 ^ a)) found) (row-bit a l))
+        ∙ one-more (λ j. rowBit (rowIn 16 rows j) c) a i found (s .has i);
+  }
 
-  pub showing-more : {bits a : ℕ} → Showing rows c bits a → 0 < a → c < 1024
-      → Showing rows c (bits * 2 + getD rows ((a - 1) * 16 + c / 64) 0 / 2 ^ (c % 64) % 2) (a - 1)
-  unfolding bitsOf
-  showing-more {bits} {a} s h l =
-      let b = a - 1 in
-      let e : 64 - b ≡ suc (64 - a) = omega (arith, s .most) in
-      let z : b + 0 ≡ b = omega arith in
-      record {
-        most = omega (arith, s .most);
-        has =
-            ap₂ (λ (x y : ℕ). x * 2 + y)
-            (s .has
-            ∙ bitsOf-same (64 - a) (λ j. rowBit (rowIn 16 rows (a + j)) c) (λ j. rowBit (rowIn 16 rows (b + suc j)) c)
-            (λ j k. let n : a + j ≡ b + suc j = omega arith in ap (λ (i : ℕ). rowBit (rowIn 16 rows i) c) n))
-            (row-digit b l ∙ ap (λ (i : ℕ). digit (rowBit (rowIn 16 rows i) c)) (sym z))
-            ∙ ap (λ (k : ℕ). bitsOf k (λ j. rowBit (rowIn 16 rows (b + j)) c)) (sym e);
-      }
-
-  pub showing-all : {bits a : ℕ} → Showing rows c bits a → a ≤ 0 → bits ≡ shown rows c
-  showing-all {bits} {a} s h =
-      let e : 64 - a ≡ 64 = omega arith in
-      s .has ∙ ap (λ (k : ℕ). bitsOf k (λ j. rowBit (rowIn 16 rows (a + j)) c)) e
-      ∙ bitsOf-same 64 (λ j. rowBit (rowIn 16 rows (a + j)) c) (λ j. rowBit (rowIn 16 rows j) c)
-      (λ j k. let n : a + j ≡ j = omega arith in ap (λ (i : ℕ). rowBit (rowIn 16 rows i) c) n)
+  pub showing-all : {found a : ℕ} → Showing rows c found a → 64 ≤ a → found ≡ shown rows c
+  showing-all {found} {a} s h =
+      let e : a ≡ 64 = omega (arith, s .most) in
+      all-below (λ j. rowBit (rowIn 16 rows j) c) 64 found (λ i. s .has i ∙ ap (λ (k : ℕ). ltb i k && rowBit (rowIn 16 rows i) c) e)
 
 -- ---- the line of a configuration, by whether it is permitted
 

@@ -1,4 +1,4 @@
--- That the lines written are the print of document 01, and how many bytes a print has at most.
+-- That the lines written are the print of docs/FORMAT.md, and how many bytes a print has at most.
 use Prim.Native.Nat.{ℕ, zero, suc, _+_, _*_, _^_, _≤_, _<_}
 use mathlib.Core.Path.{_≡_, refl, sym, ap, _∙_}
 use mathlib.Core.Bool.{Bool, true, false, cond}
@@ -19,9 +19,9 @@ use Rattle.report.specs.Typing.{setOf}
 use Rattle.report.specs.ColumnRows.{columnRows, shown}
 use Rattle.report.specs.Text.{bytes, decimal, line}
 use Rattle.report.specs.Print.{atLine, printAnswer}
+use Rattle.report.specs.Formed.{Formed}
 use Rattle.report.specs.declared.Refusal.{Refusal}
 use Rattle.report.specs.declared.Verdict.{Verdict}
-use Rattle.report.proofs.Formed.{Formed}
 use Rattle.report.proofs.TextLaws.{decimal-length}
 use Rattle.report.proofs.TypingLaws.{shown-columns}
 use Rattle.printing.specs.Lines.{refusalLine, unreadLine, memberText, membersText, configurationLine, configurationText, acceptedText}

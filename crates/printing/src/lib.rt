@@ -6,14 +6,14 @@ use report::Refusal;
 use sets::AttributeSet;
 ghost use Prim.Native.Nat.{_<_};
 ghost use mathlib.Core.List.{_∷_};
-ghost use Rattle.sets.specs.Writing.{Room, Written};
+ghost use Rattle.sets.specs.Writing.{Room, WrittenAt};
 ghost use Rattle.report.specs.Text.{decimal};
 ghost use Rattle.printing.specs.Lines.{refusalLine, unreadLine, memberText, membersText, configurationLine};
 
 // A text.
-pub fn put_bytes(out: &mut [u8], at: usize, text: &[u8]) -> usize
+fn put_bytes(out: &mut [u8], at: usize, text: &[u8]) -> usize
     requires { ⌜ Room (now text) (now out) at ⌝ }
-    ensures { λ r. ⌜ Written (now (text .entry)) (now (out .entry)) at (now (out .exit)) r ⌝ }
+    ensures { λ r. ⌜ WrittenAt (now (text .entry)) (now (out .entry)) at (now (out .exit)) r ⌝ }
 {
     let mut i = 0;
     while i < text.len() {
@@ -24,9 +24,9 @@ pub fn put_bytes(out: &mut [u8], at: usize, text: &[u8]) -> usize
 }
 
 // A number in decimal.
-pub fn put_decimal(out: &mut [u8], at: usize, n: u64) -> usize
+fn put_decimal(out: &mut [u8], at: usize, n: u64) -> usize
     requires { ⌜ Room (decimal n) (now out) at ⌝ }
-    ensures { λ r. ⌜ Written (decimal n) (now (out .entry)) at (now (out .exit)) r ⌝ }
+    ensures { λ r. ⌜ WrittenAt (decimal n) (now (out .entry)) at (now (out .exit)) r ⌝ }
 {
     if n < 10 {
         out[at] = 48 + n as u8;
@@ -38,9 +38,9 @@ pub fn put_decimal(out: &mut [u8], at: usize, n: u64) -> usize
 }
 
 // A space and a number.
-pub fn put_spaced(out: &mut [u8], at: usize, n: u64) -> usize
+fn put_spaced(out: &mut [u8], at: usize, n: u64) -> usize
     requires { ⌜ Room (32 ∷ decimal n) (now out) at ⌝ }
-    ensures { λ r. ⌜ Written (32 ∷ decimal n) (now (out .entry)) at (now (out .exit)) r ⌝ }
+    ensures { λ r. ⌜ WrittenAt (32 ∷ decimal n) (now (out .entry)) at (now (out .exit)) r ⌝ }
 {
     out[at] = 32;
     put_decimal(out, at + 1, n)
@@ -49,7 +49,7 @@ pub fn put_spaced(out: &mut [u8], at: usize, n: u64) -> usize
 // The line of a refusal.
 pub fn put_refused(out: &mut [u8], at: usize, f: Refusal) -> usize
     requires { ⌜ Room (refusalLine f) (now out) at ⌝ }
-    ensures { λ r. ⌜ Written (refusalLine f) (now (out .entry)) at (now (out .exit)) r ⌝ }
+    ensures { λ r. ⌜ WrittenAt (refusalLine f) (now (out .entry)) at (now (out .exit)) r ⌝ }
 {
     let p0 = put_bytes(out, at, b"(refused");
     let p1 = put_spaced(out, p0, f.number);
@@ -62,7 +62,7 @@ pub fn put_refused(out: &mut [u8], at: usize, f: Refusal) -> usize
 // The line of a file whose line n cannot be read.
 pub fn put_unread(out: &mut [u8], at: usize, n: u64) -> usize
     requires { ⌜ Room (unreadLine n) (now out) at ⌝ }
-    ensures { λ r. ⌜ Written (unreadLine n) (now (out .entry)) at (now (out .exit)) r ⌝ }
+    ensures { λ r. ⌜ WrittenAt (unreadLine n) (now (out .entry)) at (now (out .exit)) r ⌝ }
 {
     let p0 = put_bytes(out, at, b"(unread");
     let p1 = put_spaced(out, p0, n);
@@ -72,7 +72,7 @@ pub fn put_unread(out: &mut [u8], at: usize, n: u64) -> usize
 // Attribute a after a space, where it is in the set.
 fn put_member(out: &mut [u8], at: usize, s: AttributeSet, a: usize) -> usize
     requires { ⌜ (a < 64) × Room (memberText (s .bits) a) (now out) at ⌝ }
-    ensures { λ r. ⌜ Written (memberText (s .bits) a) (now (out .entry)) at (now (out .exit)) r ⌝ }
+    ensures { λ r. ⌜ WrittenAt (memberText (s .bits) a) (now (out .entry)) at (now (out .exit)) r ⌝ }
 {
     if s.has(a) {
         return put_spaced(out, at, a as u64);
@@ -81,9 +81,9 @@ fn put_member(out: &mut [u8], at: usize, s: AttributeSet, a: usize) -> usize
 }
 
 // The members of a set of attributes, each after a space.
-pub fn put_members(out: &mut [u8], at: usize, s: AttributeSet) -> usize
+fn put_members(out: &mut [u8], at: usize, s: AttributeSet) -> usize
     requires { ⌜ Room (membersText (s .bits)) (now out) at ⌝ }
-    ensures { λ r. ⌜ Written (membersText (s .bits)) (now (out .entry)) at (now (out .exit)) r ⌝ }
+    ensures { λ r. ⌜ WrittenAt (membersText (s .bits)) (now (out .entry)) at (now (out .exit)) r ⌝ }
 {
     let mut p = at;
     let mut a = 0;
@@ -95,9 +95,9 @@ pub fn put_members(out: &mut [u8], at: usize, s: AttributeSet) -> usize
 }
 
 // The line of configuration c, which has the attributes of the set.
-pub fn put_at_line(out: &mut [u8], at: usize, c: u64, s: AttributeSet) -> usize
+fn put_at_line(out: &mut [u8], at: usize, c: u64, s: AttributeSet) -> usize
     requires { ⌜ Room (configurationLine c (s .bits)) (now out) at ⌝ }
-    ensures { λ r. ⌜ Written (configurationLine c (s .bits)) (now (out .entry)) at (now (out .exit)) r ⌝ }
+    ensures { λ r. ⌜ WrittenAt (configurationLine c (s .bits)) (now (out .entry)) at (now (out .exit)) r ⌝ }
 {
     let p0 = put_bytes(out, at, b"(at");
     let p1 = put_spaced(out, p0, c);

@@ -11,11 +11,11 @@ use Rattle.sets.proofs.RowLaws.{rowBit-rowOf, rowBit-none, rowOf-same, within-i
 use Rattle.report.specs.Tables.{Tables, queryCount, report}
 use Rattle.report.specs.Expressions.{configurations, permitted}
 use Rattle.report.specs.Typing.{leads, reached}
-use Rattle.report.proofs.Formed.{Formed}
+use Rattle.report.specs.Formed.{Formed}
 use Rattle.report.proofs.FormedFacts.{report-in, counts}
 use Rattle.report.proofs.TypingLaws.{permitted-within}
-use Rattle.conditions.specs.Conditions.{Filled}
-use Rattle.reach.specs.Reach.{Reads, Ready, Walked}
+use Rattle.conditions.specs.Conditions.{ExpressionsFilled}
+use Rattle.reach.specs.Reach.{WalkReads, WalkReady, Walked}
 use Rattle.reach.proofs.JoinLaws.{joined-row}
 
 -- ---- what is reached is permitted, and so a configuration of the features
@@ -51,23 +51,23 @@ fresh-none (suc n) zero = refl
 fresh-none (suc n) (suc i) = fresh-none n i
 
 -- expression rows, table 4 and the permitted configurations of the same tables can be read
-module _ {T : Tables} {t4 conditions reach : List ℕ} (F : Filled T conditions) (queries : t4 ≡ T .queries)
+module _ {T : Tables} {queries conditions reach : List ℕ} (F : ExpressionsFilled T conditions) (queriesAre : queries ≡ T .queries)
     (permits : reach ≡ rowOf 16 (permitted T))
   where
-    pub reads-permitted : Reads T t4 conditions reach
+    pub reads-permitted : WalkReads T queries conditions reach
     reads-permitted = record {
       filled = F;
-      queries = queries;
+      queriesAre = queriesAre;
       among = λ c l e. permitted-within T c (sym (ap (λ (r : List ℕ). rowBit r c) permits ∙ rowBit-rowOf 16 (permitted T) c l) ∙ e);
     }
 
     module _ {form : ℕ} (last : form ≡ report T) (out : List ℕ) (room : queryCount T * 16 ≤ length out) where
       -- the walk may start at the report
-      pub ready-report : Ready t4 conditions reach out form
+      pub ready-report : WalkReady queries conditions reach out form
       ready-report = record { tables = T; reads = reads-permitted; inside = let i = report-in (F .formed) in omega arith; room = room }
 
       -- and over rows that have no configuration it leaves in row x those that reach form x
-      pub walk-reached : ((i : ℕ) → getD out i 0 ≡ 0) → (after : List ℕ) → Walked t4 conditions form reach out after
+      pub walk-reached : ((i : ℕ) → getD out i 0 ≡ 0) → (after : List ℕ) → Walked queries conditions form reach out after
           → (x : ℕ) → x < queryCount T → rowIn 16 after x ≡ rowOf 16 (λ c. reached T c x)
       unfolding reached
       walk-reached none after W x h =

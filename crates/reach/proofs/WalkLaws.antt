@@ -9,76 +9,37 @@ use lib.ListN.{length}
 use Rattle.sets.specs.Rows.{rowBit, rowIntersect, rowMinus, rowIn, within}
 use Rattle.sets.proofs.RowLaws.{rowBit-rowOf, within-in, rowBit-intersect, rowBit-minus}
 use Rattle.report.specs.Tables.{Tables, query, queryCount, expressionCount}
+use Rattle.report.specs.Operands.{queryOperands}
 use Rattle.report.specs.Expressions.{holds}
-use Rattle.report.specs.Typing.{taken, passesOn, leads}
-use Rattle.report.specs.declared.Query.{Query}
-use Rattle.report.proofs.FormFacts.{QueryLower}
-use Rattle.report.proofs.FormedFacts.{query-at}
+use Rattle.report.specs.Typing.{onward, leads}
+use Rattle.report.specs.Formed.{OperandsFree}
+use Rattle.report.specs.declared.Operands.{Operands}
+use Rattle.report.proofs.FormedFacts.{operands-at}
 use Rattle.report.proofs.StepLaws.{leads-in}
-use Rattle.reach.specs.declared.Operands.{Operands}
-use Rattle.reach.specs.Reach.{joined, operandsOf, Reads, Ready}
+use Rattle.reach.specs.Reach.{joined, WalkReads, WalkReady}
 use Rattle.reach.proofs.JoinLaws.{join-join, join-same}
-
--- ---- what a form passes its configurations on to
-
-module _ (T : Tables) where
-  -- c is passed on to a marked form
-  abbrev pub onward : ℕ → (ℕ → Bool) → Operands → Bool
-  onward c marked Operands.Nothing = false
-  onward c marked (Operands.One b) = marked b
-  onward c marked (Operands.Both a b) = marked a || marked b
-  onward c marked (Operands.Choice e b d) = marked (taken T c e b d)
-
-  pub passes-operands : (c : ℕ) (marked : ℕ → Bool) (x : Query) → passesOn T c marked x ≡ onward c marked (operandsOf x)
-  passes-operands c marked Query.Malformed = refl
-  passes-operands c marked Query.Empty = refl
-  passes-operands c marked (Query.Relation a) = refl
-  passes-operands c marked (Query.Select a b) = refl
-  passes-operands c marked (Query.Project a b) = refl
-  passes-operands c marked (Query.Choice e b d) = refl
-  passes-operands c marked (Query.Product a b) = refl
-  passes-operands c marked (Query.Union a b) = refl
-  passes-operands c marked (Query.Intersection a b) = refl
-
-  -- the operands of form q are lower, the expression of a choice is in table 0
-  abbrev pub OperandsLower : ℕ → Operands → Type 0
-  OperandsLower q Operands.Nothing = Unit {0}
-  OperandsLower q (Operands.One b) = b < q
-  OperandsLower q (Operands.Both a b) = (a < q) × (b < q)
-  OperandsLower q (Operands.Choice e b d) = (e < expressionCount T) × (b < q) × (d < q)
-
-  pub operands-lower : (q : ℕ) (x : Query) → QueryLower T q x → OperandsLower q (operandsOf x)
-  operands-lower q Query.Malformed l = tt
-  operands-lower q Query.Empty l = tt
-  operands-lower q (Query.Relation a) l = tt
-  operands-lower q (Query.Select a b) l = l .1 .lower
-  operands-lower q (Query.Project a b) l = l .1 .lower
-  operands-lower q (Query.Choice e b d) l = (l .0, l .1 .first .lower, l .1 .second .lower)
-  operands-lower q (Query.Product a b) l = (l .first .lower, l .second .lower)
-  operands-lower q (Query.Union a b) l = (l .first .lower, l .second .lower)
-  operands-lower q (Query.Intersection a b) l = (l .first .lower, l .second .lower)
 
 -- ---- what is read, at a lower form and with fewer configurations
 
 -- of a row that has no more configurations the walk reads the same
-reads-less : {T : Tables} {t4 conditions reach : List ℕ} (less : List ℕ) → ((c : ℕ) → c < 1024 → rowBit less c ≡ true → rowBit reach c ≡ true)
-    → Reads T t4 conditions reach → Reads T t4 conditions less
-reads-less less h S = record { filled = S .filled; queries = S .queries; among = λ c l e. S .among c l (h c l e) }
+reads-less : {T : Tables} {queries conditions reach : List ℕ} (less : List ℕ) → ((c : ℕ) → c < 1024 → rowBit less c ≡ true → rowBit reach c ≡ true)
+    → WalkReads T queries conditions reach → WalkReads T queries conditions less
+reads-less less h S = record { filled = S .filled; queriesAre = S .queriesAre; among = λ c l e. S .among c l (h c l e) }
 
-module _ {T : Tables} {t4 conditions reach : List ℕ} (less other : List ℕ) where
-  pub reads-intersect : less ≡ rowIntersect 16 reach other → Reads T t4 conditions reach → Reads T t4 conditions less
+module _ {T : Tables} {queries conditions reach : List ℕ} (less other : List ℕ) where
+  pub reads-intersect : less ≡ rowIntersect 16 reach other → WalkReads T queries conditions reach → WalkReads T queries conditions less
   reads-intersect e =
       reads-less less (λ c l g. and-eq-true-iff (rowBit reach c) (rowBit other c) .0
       (sym (ap (λ (r : List ℕ). rowBit r c) e ∙ rowBit-intersect 16 reach other c l) ∙ g) .0)
 
-  pub reads-minus : less ≡ rowMinus 16 reach other → Reads T t4 conditions reach → Reads T t4 conditions less
+  pub reads-minus : less ≡ rowMinus 16 reach other → WalkReads T queries conditions reach → WalkReads T queries conditions less
   reads-minus e =
       reads-less less (λ c l g. and-eq-true-iff (rowBit reach c) (not (rowBit other c)) .0
       (sym (ap (λ (r : List ℕ). rowBit r c) e ∙ rowBit-minus 16 reach other c l) ∙ g) .0)
 
 -- the walk may go on at a lower form
-pub ready-lower : {t4 conditions reach out : List ℕ} {q : ℕ} (less after : List ℕ) (j : ℕ) → (K : Ready t4 conditions reach out q)
-    → Reads (K .tables) t4 conditions less → length after ≡ length out → j < q → Ready t4 conditions less after j
+pub ready-lower : {queries conditions reach out : List ℕ} {q : ℕ} (less after : List ℕ) (j : ℕ) → (K : WalkReady queries conditions reach out q)
+    → WalkReads (K .tables) queries conditions less → length after ≡ length out → j < q → WalkReady queries conditions less after j
 ready-lower less after j K S e h = record {
   tables = K .tables;
   reads = S;
@@ -87,8 +48,8 @@ ready-lower less after j K S e h = record {
 }
 
 -- the form is one of table 4, and so of any tables that are read
-pub inside-words : {t4 conditions reach out : List ℕ} {q : ℕ} → Ready t4 conditions reach out q → q < length t4 / 4
-inside-words K = let l = K .inside in let e = ap length (K .reads .queries) in omega arith
+pub inside-words : {queries conditions reach out : List ℕ} {q : ℕ} → WalkReady queries conditions reach out q → q < length queries / 4
+inside-words K = let l = K .inside in let e = ap length (K .reads .queriesAre) in omega arith
 
 -- ---- what the walk leaves
 
@@ -118,21 +79,20 @@ parts at b d true true t = refl
 parts at b d true false true = sym (or-last (at b))
 parts at b d true false false = refl
 
-module _ {T : Tables} {t4 conditions reach : List ℕ} (S : Reads T t4 conditions reach) (q : ℕ) (inside : q < length t4 / 4) where
+module _ {T : Tables} {queries conditions reach : List ℕ} (S : WalkReads T queries conditions reach) (q : ℕ) (inside : q < length queries / 4) where
   inside-any : q < queryCount T
-  inside-any = let e = ap length (S .queries) in omega arith
+  inside-any = let e = ap length (S .queriesAre) in omega arith
 
-  module _ (to : Operands) (e : to ≡ operandsOf (query t4 q)) where
-    is : operandsOf (query (T .queries) q) ≡ to
-    is = ap (λ (l : List ℕ). operandsOf (query l q)) (sym (S .queries)) ∙ sym e
+  module _ (to : Operands) (e : to ≡ queryOperands (query queries q)) where
+    is : queryOperands (query (T .queries) q) ≡ to
+    is = ap (λ (l : List ℕ). queryOperands (query l q)) (sym (S .queriesAre)) ∙ sym e
 
-    pub lower : OperandsLower T q to
-    lower = subst (OperandsLower T q) is (operands-lower T q (query (T .queries) q) (query-at (S .filled .formed) q inside-any))
+    pub free : OperandsFree (expressionCount T) (T .queries) q to
+    free = subst (OperandsFree (expressionCount T) (T .queries) q) is (operands-at (S .filled .formed) q inside-any)
 
     rule : (c x : ℕ) → leads T c x q ≡ (eqb x q || onward T c (leads T c x) to)
     rule c x =
-        leads-in (S .filled .formed) c q inside-any x
-        ∙ ap (λ (b : Bool). eqb x q || b) (passes-operands T c (leads T c x) (query (T .queries) q) ∙ ap (onward T c (leads T c x)) is)
+        leads-in (S .filled .formed) c q inside-any x ∙ ap (λ (b : Bool). eqb x q || b) (ap (onward T c (leads T c x)) is)
 
   module _ (out : List ℕ) where
     abbrev own : List ℕ
@@ -142,18 +102,18 @@ module _ {T : Tables} {t4 conditions reach : List ℕ} (S : Reads T t4 condition
     led = joined out reach (λ c x. leads T c x q)
 
     -- nothing
-    pub walk-nothing : Operands.Nothing ≡ operandsOf (query t4 q) → own ≡ led
+    pub walk-nothing : Operands.Nothing ≡ queryOperands (query queries q) → own ≡ led
     walk-nothing e =
         join-same out reach (λ c x. eqb x q) (λ c x. leads T c x q) (λ c x l. or-last (eqb x q) ∙ sym (rule Operands.Nothing e c x))
 
     -- one operand
-    pub walk-one : (b : ℕ) → Operands.One b ≡ operandsOf (query t4 q) → joined own reach (λ c x. leads T c x b) ≡ led
+    pub walk-one : (b : ℕ) → Operands.One b ≡ queryOperands (query queries q) → joined own reach (λ c x. leads T c x b) ≡ led
     walk-one b e =
         join-join out reach reach reach (λ c x. eqb x q) (λ c x. leads T c x b) (λ c x. leads T c x q)
         (λ c x l. both (rowBit reach c) (eqb x q) (leads T c x b) ∙ ap (λ (t : Bool). rowBit reach c && t) (sym (rule (Operands.One b) e c x)))
 
     -- two operands
-    pub walk-both : (a b : ℕ) → Operands.Both a b ≡ operandsOf (query t4 q)
+    pub walk-both : (a b : ℕ) → Operands.Both a b ≡ queryOperands (query queries q)
         → joined (joined own reach (λ c x. leads T c x a)) reach (λ c x. leads T c x b) ≡ led
     walk-both a b e =
         ap (λ (w : List ℕ). joined w reach (λ c x. leads T c x b))
@@ -164,7 +124,7 @@ module _ {T : Tables} {t4 conditions reach : List ℕ} (S : Reads T t4 condition
         ∙ ap (λ (t : Bool). rowBit reach c && t) (sym (rule (Operands.Both a b) e c x)))
 
     -- a choice on expression e, whose row is `row`
-    module _ (e b d : ℕ) (is-choice : Operands.Choice e b d ≡ operandsOf (query t4 q)) (row ins outs : List ℕ) (read : row ≡ rowIn 16 conditions e)
+    module _ (e b d : ℕ) (is-choice : Operands.Choice e b d ≡ queryOperands (query queries q)) (row ins outs : List ℕ) (read : row ≡ rowIn 16 conditions e)
         (in-is : ins ≡ rowIntersect 16 reach row) (out-is : outs ≡ rowMinus 16 reach row)
       where
         abbrev at : ℕ → Bool
@@ -172,7 +132,7 @@ module _ {T : Tables} {t4 conditions reach : List ℕ} (S : Reads T t4 condition
 
         row-bit : (c : ℕ) → c < 1024 → rowBit row c ≡ within (T .features) at c
         row-bit c l =
-            ap (λ (r : List ℕ). rowBit r c) (read ∙ S .filled .each e (lower (Operands.Choice e b d) is-choice .0))
+            ap (λ (r : List ℕ). rowBit r c) (read ∙ S .filled .each e (free (Operands.Choice e b d) is-choice .0))
             ∙ rowBit-rowOf 16 (within (T .features) at) c l
 
         -- among the configurations of `reach` the row has just those at which e holds

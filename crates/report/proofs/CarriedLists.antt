@@ -13,8 +13,7 @@ use Rattle.report.specs.Tables.{Tables, entryAttribute, entryExpression,
 use Rattle.report.specs.Typing.{at, listed}
 use Rattle.report.specs.Configuring.{entryKept, keptLength, keptList}
 use Rattle.report.specs.ConfiguredReport.{keptAttributes}
-use Rattle.report.proofs.Formed.{Formed}
-use Rattle.report.proofs.FormFacts.{ListIn}
+use Rattle.report.specs.Formed.{Formed, ListIn}
 use Rattle.report.proofs.FormedFacts.{entry-attribute}
 use Rattle.report.proofs.KeptForms.{kept-all, forms-length, first-word}
 

@@ -1,4 +1,4 @@
--- H1 to H10: each case of the list gives what document 01 says. By computation.
+-- H1 to H10: each case of the list gives what docs/FORMAT.md says. By computation.
 use Prim.Native.Nat.{ℕ, zero, suc, _+_, _*_, _%_, _^_}
 use native.Mathlib.Nat.{zero-div}
 use lib.Dec.{eqb}
@@ -14,7 +14,9 @@ use Rattle.report.specs.Typing.{names, setOf, leads, reached, listed, fa
 use Rattle.report.specs.ColumnRows.{hasColumn, columnRows}
 use Rattle.report.specs.Configuring.{comparisonTarget, queryTarget, configured}
 use Rattle.report.specs.FormChecks.{formCheck, expressionsCheck, entriesCheck, relationsCheck, comparisonsCheck, queriesCheck, untakenCheck}
-use Rattle.report.specs.Checks.{Call, answer, typingCheck}
+use Rattle.report.specs.Verdicts.{_gives_, firstOf}
+use Rattle.report.specs.Checks.{typingCheck}
+use Rattle.report.specs.Calls.{answer}
 use Rattle.report.specs.Text.{decimal, numbersIn}
 use Rattle.report.specs.HarbourFile.{linesOf, fileLines, fileOf}
 use Rattle.report.specs.Print.{print}
@@ -22,7 +24,7 @@ use Rattle.report.specs.Examples.{Case, Outcome, outcomeOr, outcomeBy, o
 
 -- to unfold this is to unfold all that an outcome is computed with
 unfoldable pub computed : Unit {0}
-unfolding bitsOf holds permitted names setOf leads reached listed faults columnRows comparisonTarget queryTarget configured formCheck expressionsCheck entriesCheck relationsCheck comparisonsCheck queriesCheck untakenCheck typingCheck answer decimal numbersIn linesOf fileLines fileOf print
+unfolding bitsOf holds permitted names setOf leads reached listed faults columnRows comparisonTarget queryTarget configured formCheck expressionsCheck entriesCheck relationsCheck comparisonsCheck queriesCheck untakenCheck typingCheck _gives_ firstOf answer decimal numbersIn linesOf fileLines fileOf print
 computed = tt
 
 -- ---- the column rows, each configuration's set worked out once
@@ -74,6 +76,6 @@ shared-hold : map (λ (e : Example). outcomeBy sharedRows (e .of)) examples ≡ 
 unfolding computed sharedRows
 shared-hold = refl
 
--- each of H1 to H10 gives what document 01 says
+-- each of H1 to H10 gives what docs/FORMAT.md says
 pub examples-hold : map (λ (e : Example). outcome (e .of)) examples ≡ map (λ (e : Example). e .gives) examples
 examples-hold = ap (λ (o : Case → Outcome). map (λ (e : Example). o (e .of)) examples) (sym outcome-shared) ∙ shared-hold

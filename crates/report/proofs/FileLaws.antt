@@ -11,8 +11,8 @@ use lib.ListN.{length, getD, List·getD-eq-default, List·getD-map}
 use lib.Dec.{leb, ltb, eqb}
 use borrow.Author.Tests.{lt-ltb, le-ltb, ltb-true, leb-true, le-leb, lt-leb, leb-false, eq-eqb, eqb-true, not-true, not-false}
 use Rattle.sets.specs.declared.Found.{Found}
-use Rattle.sets.specs.Search.{lowest, allBelow, countBelow}
-use Rattle.sets.proofs.SearchLaws.{First, lowest-nothing, nothing-lowest, lowest-at, at-lowest, all-at, at-all}
+use Rattle.sets.specs.Search.{lowest, allBelow, countBelow, First}
+use Rattle.sets.proofs.SearchLaws.{lowest-nothing, nothing-lowest, lowest-at, at-lowest, all-at, at-all}
 use Rattle.sets.proofs.ListLaws.{kept-length}
 use Rattle.report.specs.Tables.{Tables, shapeOf}
 use Rattle.report.specs.Text.{line, same, numbersIn}

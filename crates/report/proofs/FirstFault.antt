@@ -1,5 +1,5 @@
--- "First fault first": the answer of a call is the first of document 01's conditions that holds, in the order in which the checks run
--- (specs/Conditions); it accepts exactly when none holds.
+-- "First fault first": the answer of any call is the first of its conditions that holds, in the order in which the checks run (specs/Conditions,
+-- specs/Calls); it accepts exactly when none holds.
 use Prim.Native.Nat.{ℕ, zero, suc, _+_, _-_, _^_, _≤_, _<_}
 use mathlib.Core.Path.{_≡_, refl, sym, ap, ap₂, _∙_, fun-ext}
 use mathlib.Core.Logic.{_↔_, ⊎-elim}
@@ -7,7 +7,7 @@ use mathlib.Core.Bool.{Bool, true, false, _&&_, not, false≢true}
 use mathlib.Core.List.{List, [], _∷_, _++_}
 use native.Mathlib.Nat.{add-zero, add-suc, suc-add, zero-add, le-refl, not-suc-le-zero, le-of-suc-le-suc}
 use native.Mathlib.Omega.{arith}
-use borrow.Author.Tests.{eq-eqb, ne-eqb}
+use borrow.Author.Tests.{eq-eqb, ne-eqb, le-ltb, ltb-false}
 use lib.ListN.{length, getD}
 use lib.Dec.{leb, ltb, eqb}
 use Rattle.sets.specs.declared.Found.{Found}
@@ -19,9 +19,11 @@ use Rattle.report.specs.Tables.{expressionCount, entryCount, relationCou
 use Rattle.report.specs.Expressions.{configurations, permitted}
 use Rattle.report.specs.Typing.{reached, faults, fails}
 use Rattle.report.specs.Verdicts.{refusal, refuseIf, refuseAt, orElse, firstFrom}
+use Rattle.report.specs.Verdicts.{Condition, _gives_, each, firstOf, condition, NoneHolds, Foremost}
 use Rattle.report.specs.FormChecks.{formCheck, lengthFits, lengthsCheck, expressionsCheck, entriesCheck, relationsCheck, comparisonsCheck, queriesCheck, untakenCheck}
-use Rattle.report.specs.Checks.{Call, answer, ruleNumber, somewhere, absentEverywhere, apartEverywhere, modelCheck, relationCheck, schemaCheck, modelAndSchemaCheck, typingAt, typingCheck, rowsLentCheck, permittedCheck, roomCheck, beforeTyping, afterTyping}
-use Rattle.report.specs.Conditions.{Condition, _gives_, each, firstOf, formConditions, relationConditions, schemaConditions, typingConditions, conditions}
+use Rattle.report.specs.Checks.{ruleNumber, somewhere, absentEverywhere, apartEverywhere, modelCheck, relationCheck, schemaCheck, modelAndSchemaCheck, typingAt, typingCheck}
+use Rattle.report.specs.Conditions.{formConditions, relationConditions, schemaConditions, typingConditions}
+use Rattle.report.specs.Calls.{Call, conditions, beforeTyping, answer, Sound, permittedCondition, roomConditions, configuring}
 use Rattle.report.specs.declared.Refusal.{Refusal}
 use Rattle.report.specs.declared.Verdict.{Verdict}
 use Rattle.sets.proofs.SearchLaws.{lowest-nothing, nothing-lowest, lowest-at}
@@ -32,15 +34,15 @@ use Rattle.report.proofs.VerdictLaws.{or-else-assoc, or-else-accepted, 
 
 -- ---- the first of a list
 
-first-none : firstOf [] ≡ Verdict.Accepted
+pub first-none : firstOf [] ≡ Verdict.Accepted
 unfolding firstOf
 first-none = refl
 
-first-one : (b : Bool) (r : Refusal) → firstOf (b gives r) ≡ refuseIf b r
+pub first-one : (b : Bool) (r : Refusal) → firstOf (b gives r) ≡ refuseIf b r
 unfolding firstOf _gives_
 first-one b r = or-else-accepted (refuseIf b r)
 
-first-append : (xs ys : List Condition) → firstOf (xs ++ ys) ≡ orElse (firstOf xs) (firstOf ys)
+pub first-append : (xs ys : List Condition) → firstOf (xs ++ ys) ≡ orElse (firstOf xs) (firstOf ys)
 unfolding firstOf
 first-append [] ys = refl
 first-append (x ∷ xs) ys =
@@ -151,53 +153,35 @@ module _ (T : Tables) (narrow : (c q : ℕ) → q < queryCount T → faults T c 
   unfolding typingCheck typingConditions
   first-typing = first-concat (queryCount T) _ ∙ first-same _ (typingAt T) (queryCount T) 0 (λ q l h. first-at q (omega arith))
 
--- ---- the answers of both calls
+-- ---- the answer of a call
 
-pub first-room : (T : Tables) (r1 r2 r3 r4 : ℕ)
-    → roomCheck T (0 ∷ r1 ∷ r2 ∷ r3 ∷ r4 ∷ [])
-    ≡ orElse (refuseIf (ltb r1 (length (T .entries))) (refusal 21 1 0 0))
-    (orElse (refuseIf (ltb r2 (length (T .relations))) (refusal 21 2 0 0))
-    (orElse (refuseIf (ltb r3 (length (T .comparisons))) (refusal 21 3 0 0)) (refuseIf (ltb r4 (length (T .queries))) (refusal 21 4 0 0))))
-first-room T r1 r2 r3 r4 =
-    first-search (λ t. refusal 21 t 0 0) (λ t. ltb (getD (0 ∷ r1 ∷ r2 ∷ r3 ∷ r4 ∷ []) t 0) (length (getD (words T) t []))) 4 1
-    ∙ simp or-else-accepted
+-- its checks before typing, typing, and those after it
+first-call : (T : Tables) (call : Call)
+    → firstOf (conditions T call) ≡ orElse (beforeTyping T call) (orElse (firstOf (typingConditions T)) (firstOf (call .afterTyping T)))
+first-call T call = simp (first-append, first-form, first-schema, or-else-assoc)
 
--- a call's checks before typing, typing, and those after it
-first-call : (T : Tables) (call : Call) → firstOf (conditions T call) ≡ orElse (beforeTyping T call) (orElse (firstOf (typingConditions T)) (afterTyping T call))
-first-call T (Call.check room) = simp (first-append, first-one, first-form, first-schema, or-else-assoc, or-else-accepted)
-first-call T (Call.configure c r1 r2 r3 r4) =
-    simp (first-append, first-one, first-form, first-schema, or-else-assoc)
-    (ap (λ (v : Verdict). orElse (formCheck T) (orElse (modelCheck T) (orElse (schemaCheck T) (orElse (firstOf (typingConditions T)) (orElse (permittedCheck T c) v)))))
-    (sym (first-room T r1 r2 r3 r4)))
+-- the answer, check by check
+pub answer-run : (T : Tables) (call : Call)
+    → answer T call
+    ≡ orElse (formCheck T)
+    (orElse (firstOf (call .beforeModel T))
+    (orElse (modelCheck T) (orElse (schemaCheck T) (orElse (typingCheck T) (firstOf (call .afterTyping T))))))
+unfolding answer
+answer-run T call = simp or-else-assoc
 
-form-first : (T : Tables) (call : Call) (r : Refusal) → formCheck T ≡ Verdict.Refused r → beforeTyping T call ≡ Verdict.Refused r
-form-first T (Call.check room) r e = then-refused _ e
-form-first T (Call.configure c r1 r2 r3 r4) r e = then-refused _ e
-
--- the answer of a call is the first of document 01's conditions that holds
+-- the answer of a call is the first of its conditions that holds
 pub answer-first : (T : Tables) (call : Call) → answer T call ≡ firstOf (conditions T call)
 unfolding answer
 answer-first T call = go (formCheck T) refl
   where
     go : (v : Verdict) → formCheck T ≡ v → answer T call ≡ firstOf (conditions T call)
     go Verdict.Accepted e =
-        ap (λ (v : Verdict). orElse (beforeTyping T call) (orElse v (afterTyping T call))) (sym (first-typing T (faults-narrow (formed T e))))
+        ap (λ (v : Verdict). orElse (beforeTyping T call) (orElse v (firstOf (call .afterTyping T)))) (sym (first-typing T (faults-narrow (formed T e))))
         ∙ sym (first-call T call)
-    go (Verdict.Refused r) e = then-refused _ (form-first T call r e) ∙ sym (first-call T call ∙ then-refused _ (form-first T call r e))
+    go (Verdict.Refused r) e =
+        let before = then-refused {a = formCheck T} _ e in then-refused _ before ∙ sym (first-call T call ∙ then-refused _ before)
 
 -- ---- and what 'first' says: the least in the order of the list
-
--- the condition at a place of the list
-abbrev pub condition : List Condition → ℕ → Condition
-condition xs k = getD xs k (record { holds = false; gives = refusal 0 0 0 0 })
-
--- the refusal is that of a condition that holds, and no condition before it holds
-pub record Foremost (xs : List Condition) (r : Refusal) : Type 0 where
-  pub at : ℕ
-  pub below : at < length xs
-  pub holds : condition xs at .holds ≡ true
-  pub refuses : condition xs at .gives ≡ r
-  pub before : (j : ℕ) → j < at → condition xs j .holds ≡ false
 
 -- what is known of the later conditions, where the first does not hold
 later : {x : Condition} {xs : List Condition} {r : Refusal} → x .holds ≡ false → Foremost xs r → Foremost (x ∷ xs) r
@@ -247,18 +231,18 @@ foremost-first (x ∷ xs) r f = go (f .at) refl (foremost-first xs r)
           before = λ j l. f .before (suc j) (omega arith);
         })
 
-pub none-holds : (xs : List Condition) → firstOf xs ≡ Verdict.Accepted → (k : ℕ) → condition xs k .holds ≡ false
+pub none-holds : (xs : List Condition) → firstOf xs ≡ Verdict.Accepted → NoneHolds xs
 unfolding firstOf
 none-holds [] e k = refl
 none-holds (x ∷ xs) e zero = if-accepted (x .holds) (x .gives) (both-accepted (refuseIf (x .holds) (x .gives)) (firstOf xs) e .0)
 none-holds (x ∷ xs) e (suc k) = none-holds xs (both-accepted (refuseIf (x .holds) (x .gives)) (firstOf xs) e .1) k
 
-pub holds-none : (xs : List Condition) → ((k : ℕ) → condition xs k .holds ≡ false) → firstOf xs ≡ Verdict.Accepted
+pub holds-none : (xs : List Condition) → NoneHolds xs → firstOf xs ≡ Verdict.Accepted
 unfolding firstOf
 holds-none [] h = refl
 holds-none (x ∷ xs) h = accepted-both (accepted-if (x .gives) (h 0)) (holds-none xs (λ k. h (suc k)))
 
--- ---- "first fault first", for both calls
+-- ---- "first fault first", for any call
 
 -- a call refuses exactly by the first of the conditions that hold
 pub refused-foremost : (T : Tables) (call : Call) (r : Refusal) → (answer T call ≡ Verdict.Refused r) ↔ Foremost (conditions T call) r
@@ -268,8 +252,55 @@ refused-foremost T call r = (
 )
 
 -- and accepts exactly where none holds
-pub accepted-none : (T : Tables) (call : Call) → (answer T call ≡ Verdict.Accepted) ↔ ((k : ℕ) → condition (conditions T call) k .holds ≡ false)
+pub accepted-none : (T : Tables) (call : Call) → (answer T call ≡ Verdict.Accepted) ↔ NoneHolds (conditions T call)
 accepted-none T call = (
   λ e. none-holds (conditions T call) (sym (answer-first T call) ∙ e),
   λ h. answer-first T call ∙ holds-none (conditions T call) h,
 )
+
+-- ---- "sound in form and schema"
+
+-- 1 to 10 and 12 to 14 accept exactly the tables that are sound
+pub sound-accepted : (T : Tables) → Sound T ↔ (orElse (formCheck T) (modelAndSchemaCheck T) ≡ Verdict.Accepted)
+sound-accepted T = (λ s. sym early ∙ holds-none xs s, λ e. none-holds xs (early ∙ e))
+  where
+    xs : List Condition
+    xs = formConditions T ++ schemaConditions T
+
+    early : firstOf xs ≡ orElse (formCheck T) (modelAndSchemaCheck T)
+    early = first-append (formConditions T) (schemaConditions T) ∙ ap₂ orElse (first-form T) (first-schema T)
+
+-- ---- configuring's own conditions, one after another
+
+module _ (T : Tables) (r1 r2 r3 r4 : ℕ) where
+  pub first-room : firstOf (roomConditions r1 r2 r3 r4 T)
+      ≡ orElse (refuseIf (ltb r1 (length (T .entries))) (refusal 21 1 0 0))
+      (orElse (refuseIf (ltb r2 (length (T .relations))) (refusal 21 2 0 0))
+      (orElse (refuseIf (ltb r3 (length (T .comparisons))) (refusal 21 3 0 0)) (refuseIf (ltb r4 (length (T .queries))) (refusal 21 4 0 0))))
+  first-room = simp (first-append, first-one, or-else-assoc)
+
+  -- 21 accepts exactly where each table lent for writing is as long as its source
+  pub room-fits : (firstOf (roomConditions r1 r2 r3 r4 T) ≡ Verdict.Accepted)
+      ↔ ((length (T .entries) ≤ r1) × (length (T .relations) ≤ r2) × (length (T .comparisons) ≤ r3) × (length (T .queries) ≤ r4))
+  room-fits = (
+    λ e.
+        let a = both-accepted _ _ (sym first-room ∙ e) in
+        let b = both-accepted _ _ (a .1) in
+        let c = both-accepted _ _ (b .1) in
+        (fits _ r1 _ (a .0), fits _ r2 _ (b .0), fits _ r3 _ (c .0), fits _ r4 _ (c .1)),
+    λ h.
+        first-room
+        ∙ accepted-both (accepted-if _ (le-ltb r1 _ (h .0)))
+        (accepted-both (accepted-if _ (le-ltb r2 _ (h .1)))
+        (accepted-both (accepted-if _ (le-ltb r3 _ (h .2))) (accepted-if _ (le-ltb r4 _ (h .3))))),
+  )
+    where
+      fits : (n r : ℕ) (x : Refusal) → refuseIf (ltb r n) x ≡ Verdict.Accepted → n ≤ r
+      fits n r x e = ltb-false r n (if-accepted (ltb r n) x e)
+
+pub first-own : (T : Tables) (c r1 r2 r3 r4 : ℕ)
+    → firstOf (configuring c r1 r2 r3 r4 .afterTyping T)
+    ≡ orElse (refuseIf (not (permitted T c)) (refusal 20 0 0 c)) (firstOf (roomConditions r1 r2 r3 r4 T))
+first-own T c r1 r2 r3 r4 =
+    first-append (permittedCondition c T) (roomConditions r1 r2 r3 r4 T)
+    ∙ ap (λ (v : Verdict). orElse v (firstOf (roomConditions r1 r2 r3 r4 T))) (first-one _ _)

@@ -9,11 +9,11 @@ use lib.Dec.{ltb, eqb}
 use Rattle.sets.specs.Search.{someBelow}
 use Rattle.sets.proofs.SearchLaws.{none-some}
 use Rattle.report.specs.Tables.{Tables, entryAttribute, query, expressionCount, relationCount, comparisonCount}
-use Rattle.report.specs.FormChecks.{expressionFits, comparisonFits, isOperand, free, freePair, listFits, queryFitsIn}
+use Rattle.report.specs.FormChecks.{expressionFits, comparisonFits, isOperand, takenBelow, free, freePair, listFits, queryFitsIn}
+use Rattle.report.specs.Formed.{ExpressionLower, ComparisonLower, ListIn, Free, FreePair, QueryLower}
 use Rattle.report.specs.declared.Expression.{Expression}
 use Rattle.report.specs.declared.Comparison.{Comparison}
 use Rattle.report.specs.declared.Query.{Query}
-use Rattle.report.proofs.FormFacts.{ExpressionLower, ComparisonLower, ListIn, Free, FreePair, QueryLower}
 
 lower-both : {a b f : ℕ} → (a < f) × (b < f) → (ltb a f && ltb b f) ≡ true
 lower-both {a} {b} {f} l = ap₂ _&&_ (lt-ltb a f (l .0)) (lt-ltb b f (l .1))
@@ -51,10 +51,10 @@ list-fits {entries} {start} {count} l =
 
 module _ {queries : List ℕ} {q : ℕ} where
   -- one operand, and two
-  pub free-fits : {x : ℕ} → Free queries q x → free queries q x ≡ true
+  pub free-fits : {x : ℕ} → Free queries q x → free (takenBelow queries q) q x ≡ true
   free-fits {x} l = ap₂ _&&_ (lt-ltb x q (l .lower)) (ap not (none-some (λ p. isOperand x (query queries p)) q (l .untaken)))
 
-  pub pair-fits : {x y : ℕ} → FreePair queries q x y → freePair queries q x y ≡ true
+  pub pair-fits : {x y : ℕ} → FreePair queries q x y → freePair (takenBelow queries q) q x y ≡ true
   pair-fits {x} {y} l = ap₂ _&&_ (ap₂ _&&_ (free-fits (l .first)) (free-fits (l .second))) (ap not (ne-eqb x y (l .apart)))
 
 -- one query form

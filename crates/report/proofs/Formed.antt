@@ -1,5 +1,5 @@
--- Tables that checks 1 to 10 accept: what each check has found to hold. Everything after the form checks relies on this record.
-use Prim.Native.Nat.{ℕ, zero, suc, _-_, _/_, _%_, _<_, _≤_}
+-- The form checks accept just the tables that are Formed (specs/Formed). Everything after the form checks relies on that record.
+use Prim.Native.Nat.{ℕ, zero, suc, _-_, _/_, _%_, _<_}
 use mathlib.Core.Path.{_≡_, ap, ap₂}
 use mathlib.Core.Bool.{Bool, true, _&&_, not, and-eq-true-iff}
 use mathlib.Core.List.{[]}
@@ -13,35 +13,12 @@ use Rattle.report.specs.Tables.{Tables, Shape, shapeOf, shapes, words, e
 use Rattle.report.specs.Verdicts.{refusal, refuseIf, refuseAt}
 use Rattle.report.specs.FormChecks.{lengthFits, expressionOk, entryOk, relationOk, comparisonOk, queryOk, takenBelow, listsEnd}
 use Rattle.report.specs.FormChecks.{lengthsCheck, expressionsCheck, entriesCheck, relationsCheck, comparisonsCheck, queriesCheck, untakenCheck, formCheck}
+use Rattle.report.specs.Formed.{Sized, Formed}
 use Rattle.report.specs.declared.Refusal.{Refusal}
 use Rattle.report.specs.declared.Verdict.{Verdict}
 use Rattle.report.proofs.VerdictLaws.{both-accepted, accepted-both, if-accepted, accepted-if, at-accepted, first-accepted, accepted-first}
 
--- a table of `count` words: a whole number of forms, and as many as its range allows
-pub record Sized (s : Shape) (count : ℕ) : Type 0 where
-  pub whole : count % s .width ≡ 0
-  pub enough : s .least ≤ count / s .width
-  pub fits : count / s .width ≤ s .most
-
--- tables of which none of the conditions 1 to 10 holds
-pub record Formed (T : Tables) : Type 0 where
-  pub few : T .features ≤ 10
-  pub narrow : T .attributes ≤ 64
-  pub sized0 : Sized (shapeOf 3 1 256) (length (T .expressions))
-  pub sized1 : Sized (shapeOf 2 0 512) (length (T .entries))
-  pub sized2 : Sized (shapeOf 2 0 32) (length (T .relations))
-  pub sized3 : Sized (shapeOf 5 0 256) (length (T .comparisons))
-  pub sized4 : Sized (shapeOf 4 1 256) (length (T .queries))
-  pub expressionsOk : (f : ℕ) → f < expressionCount T → expressionOk T f ≡ true
-  pub modelIn : T .model < expressionCount T
-  pub entriesOk : (i : ℕ) → i < entryCount T → entryOk T i ≡ true
-  pub relationsOk : (r : ℕ) → r < relationCount T → relationOk T r ≡ true
-  pub comparisonsOk : (f : ℕ) → f < comparisonCount T → comparisonOk T f ≡ true
-  pub queriesOk : (q : ℕ) → q < queryCount T → queryOk T q ≡ true
-  pub allTaken : (q : ℕ) → q < queryCount T - 1 → takenBelow (T .queries) (queryCount T) q ≡ true
-  pub allUsed : entryCount T ≤ listsEnd T
-
--- that is what the test of a length says, and no less
+-- Sized is what the test of a length says, and no less
 pub sized : (s : Shape) (count : ℕ) → lengthFits s count ≡ true → Sized s count
 sized s count e =
     let p = and-eq-true-iff _ (leb (count / s .width) (s .most)) .0 e in

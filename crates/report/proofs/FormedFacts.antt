@@ -13,11 +13,12 @@ use Rattle.sets.proofs.SearchLaws.{some-at}
 use Rattle.report.specs.Tables.{Tables, entryAttribute, entryExpression, relationExpression, relationLength, expression, comparison, query}
 use Rattle.report.specs.Tables.{expressionCount, entryCount, relationCount, comparisonCount, queryCount, report}
 use Rattle.report.specs.Tables.{relationStart, projectLength, projectedBefore, projectStart}
-use Rattle.report.specs.FormChecks.{isOperand, listFits, listsEnd}
+use Rattle.report.specs.Operands.{comparisonOperands, queryOperands}
+use Rattle.report.specs.FormChecks.{isOperand, listFits, relationsEnd, listsEnd}
+use Rattle.report.specs.Formed.{Formed, ExpressionLower, ComparisonLower, OperandsBelow, ListIn, Free, OperandsFree, QueryLower}
 use Rattle.report.specs.declared.Query.{Query}
-use Rattle.report.proofs.Formed.{Formed}
-use Rattle.report.proofs.FormFacts.{ExpressionLower, expression-lower, ComparisonLower, comparison-lower, ComparisonBelow, comparison-below}
-use Rattle.report.proofs.FormFacts.{QueryLower, query-lower, QueryBelow, query-below, ListIn, list-in, operand-free}
+use Rattle.report.proofs.FormFacts.{expression-lower, comparison-lower, comparison-below, list-in, query-lower}
+use Rattle.report.proofs.FormFacts.{operands-free, among-free, free-below, Listing, project, unlisted, listing}
 
 -- lists start one after another, those of the relations
 pub relation-starts : (relations : List ℕ) (r s : ℕ) → r ≤ s → relationStart relations r ≤ relationStart relations s
@@ -73,12 +74,18 @@ module _ {T : Tables} (F : Formed T) where
   pub query-at : (q : ℕ) → q < queryCount T → QueryLower T q (query (T .queries) q)
   query-at q h = query-lower T q (query (T .queries) q) (F .queriesOk q h)
 
+  -- the operands of a query form are free for it
+  pub operands-at : (q : ℕ) → q < queryCount T → OperandsFree (expressionCount T) (T .queries) q (queryOperands (query (T .queries) q))
+  operands-at q h =
+      operands-free (expressionCount T) (relationCount T) (comparisonCount T) (T .entries) (relationsEnd T) (T .queries) q (query (T .queries) q)
+      (F .queriesOk q h)
+
   -- the operands of a comparison, and of a query form, are lower
-  pub comparison-operands : (f : ℕ) → f < comparisonCount T → ComparisonBelow f (comparison (T .comparisons) f)
+  pub comparison-operands : (f : ℕ) → f < comparisonCount T → OperandsBelow f (comparisonOperands (comparison (T .comparisons) f))
   comparison-operands f h = comparison-below (T .attributes) (expressionCount T) f (comparison (T .comparisons) f) (comparison-at f h)
 
-  pub query-operands : (q : ℕ) → q < queryCount T → QueryBelow q (query (T .queries) q)
-  query-operands q h = query-below T q (query (T .queries) q) (query-at q h)
+  pub query-operands : (q : ℕ) → q < queryCount T → OperandsBelow q (queryOperands (query (T .queries) q))
+  query-operands q h = free-below (expressionCount T) (T .queries) q (queryOperands (query (T .queries) q)) (operands-at q h)
 
   -- ---- entries and relations
 
@@ -116,15 +123,11 @@ module _ {T : Tables} (F : Formed T) where
   relation-within (suc r) h = relation-list r h .inside
 
   project-next : (q : ℕ) (x : Query) → QueryLower T q x → projectStart T q ≤ entryCount T → projectStart T q + projectLength x ≤ entryCount T
-  project-next q Query.Malformed l h = absurd l
-  project-next q Query.Empty l h = omega arith
-  project-next q (Query.Relation a) l h = omega arith
-  project-next q (Query.Select a b) l h = omega arith
-  project-next q (Query.Project a b) l h = l .0 .inside
-  project-next q (Query.Choice a b d) l h = omega arith
-  project-next q (Query.Product a b) l h = omega arith
-  project-next q (Query.Union a b) l h = omega arith
-  project-next q (Query.Intersection a b) l h = omega arith
+  project-next q x l h = go (listing x)
+    where
+      go : Listing x → projectStart T q + projectLength x ≤ entryCount T
+      go (project a b e) = rw e ((rw e at l) .0 .inside)
+      go (unlisted e) = omega arith
 
   pub project-within : (q : ℕ) → q ≤ queryCount T → projectStart T q ≤ entryCount T
   project-within zero h = let r = relation-within (relationCount T) (le-refl _) in omega arith
@@ -132,15 +135,22 @@ module _ {T : Tables} (F : Formed T) where
       let n = project-next q (query (T .queries) q) (query-at q h) (project-within q (omega arith)) in
       omega arith
 
+  -- and end there
+  pub project-inside : (q : ℕ) → q < queryCount T → projectStart T q + projectLength (query (T .queries) q) ≤ entryCount T
+  project-inside q h = let n = project-within (suc q) h in omega arith
+
   -- the lists take all the entries, and no more
   pub lists-end : listsEnd T ≡ entryCount T
   lists-end = let l = project-within (queryCount T) (le-refl _) in let u = F .allUsed in omega arith
 
   -- ---- operands
 
+  operand-free : (q x : ℕ) → q < queryCount T → isOperand x (query (T .queries) q) ≡ true → Free (T .queries) q x
+  operand-free q x h o = among-free (expressionCount T) (T .queries) q (queryOperands (query (T .queries) q)) (operands-at q h) x o
+
   -- an operand is lower
   pub operand-lower : (q x : ℕ) → q < queryCount T → isOperand x (query (T .queries) q) ≡ true → x < q
-  operand-lower q x h o = operand-free T q (query (T .queries) q) (query-at q h) x o .lower
+  operand-lower q x h o = operand-free q x h o .lower
 
   -- no form is an operand of two
   pub operand-once : (p q x : ℕ) → p < queryCount T → q < queryCount T → isOperand x (query (T .queries) p) ≡ true
@@ -148,7 +158,7 @@ module _ {T : Tables} (F : Formed T) where
   operand-once p q x h k o r = let a = apart p q k o r in let b = apart q p h r o in omega arith
     where
       apart : (p q : ℕ) → q < queryCount T → isOperand x (query (T .queries) p) ≡ true → isOperand x (query (T .queries) q) ≡ true → p < q → ⊥
-      apart p q k o r l = false≢true (sym (operand-free T q (query (T .queries) q) (query-at q k) x r .untaken p l) ∙ o)
+      apart p q k o r l = false≢true (sym (operand-free q x k r .untaken p l) ∙ o)
 
   -- each form but the last is an operand of exactly one
   pub taken-once : (x : ℕ) → x < report T → Taken T x

@@ -5,21 +5,23 @@ use mathlib.Core.Path.{_≡_, refl, ap}
 use mathlib.Core.Bool.{true, false}
 use mathlib.Core.List.{[], _∷_}
 use mathlib.Core.Option.{none, some}
-use lib.Dec.{lit≤}
 use Rattle.report.specs.Tables.{Tables, tablesOf}
 use Rattle.report.specs.Expressions.{permitted}
 use Rattle.report.specs.Typing.{present, reached, fails}
 use Rattle.report.specs.PlainAlgebra.{PlainComparison, PlainQuery, Schema, passes, columns}
 use Rattle.report.specs.ConfiguredReport.{plainComparisonAt, keptAttributes, plainQueryAt, configuredReport, configuredSchema}
 use Rattle.report.specs.Verdicts.{refusal}
-use Rattle.report.specs.Checks.{Call, answer, Sound, isTypingFault}
+use Rattle.report.specs.Checks.{isTypingFault}
+use Rattle.report.specs.Calls.{answer, Sound, checking, configuring}
+use Rattle.report.specs.TypingFaults.{Broken, Named}
 use Rattle.report.specs.Examples.{h1, harbour, h1Expressions, h1Entries, h1Queries, guarded}
 use Rattle.report.specs.declared.Verdict.{Verdict}
 use Rattle.report.proofs.ExamplesHold.{computed}
+use Rattle.report.proofs.FirstFault.{sound-accepted}
 use Rattle.report.proofs.TreeLaws.{report-passes}
 use Rattle.report.proofs.TypingLaws.{permitted-within}
 use Rattle.report.proofs.Refusing.{sound-formed, check-gets, configure-gets, check-early, accepted-exactly}
-use Rattle.report.proofs.Refusing.{Broken, Named, refused-broken, refused-named, never-refused}
+use Rattle.report.proofs.Refusing.{checking-own, configuring-own, refused-broken, refused-named, never-refused}
 
 -- ---- plain trees, under a schema whose relation 0 has attributes 0 and 1
 
@@ -44,9 +46,9 @@ plain-breaks = (refl, refl, refl, refl, refl)
 
 pub h1-sound : Sound (h1 2)
 unfolding computed
-h1-sound = refl
+h1-sound = sound-accepted (h1 2) .1 refl
 
-pub h1-accepted : answer (h1 2) (Call.check 1024) ≡ Verdict.Accepted
+pub h1-accepted : answer (h1 2) (checking 1024) ≡ Verdict.Accepted
 unfolding computed
 h1-accepted = refl
 
@@ -59,8 +61,8 @@ pub h1-passes : (c : ℕ) → permitted (h1 2) c ≡ true → passes (configured
 h1-passes c p =
     report-passes (sound-formed (h1 2) h1-sound) c p .1 (λ q h. accepted-exactly (h1 2) h1-sound .0 h1-accepted c q (permitted-within (h1 2) c p) h)
 
-pub h1-never : (c r1 r2 r3 r4 : ℕ) → isTypingFault (answer (h1 2) (Call.configure c r1 r2 r3 r4)) ≡ false
-h1-never c r1 r2 r3 r4 = never-refused (h1 2) h1-sound (Call.configure c r1 r2 r3 r4) (configure-gets (h1 2) h1-sound c r1 r2 r3 r4) h1-passes
+pub h1-never : (c r1 r2 r3 r4 : ℕ) → isTypingFault (answer (h1 2) (configuring c r1 r2 r3 r4)) ≡ false
+h1-never c r1 r2 r3 r4 = never-refused (h1 2) h1-sound (configuring-own c r1 r2 r3 r4) (configure-gets (h1 2) h1-sound c r1 r2 r3 r4) h1-passes
 
 -- ---- H2: sound, and refused for a typing fault by both calls; so its report breaks a rule somewhere: at 1, where the form named fails
 
@@ -69,23 +71,23 @@ h2 = harbour 2 h1Expressions (h1Entries 1) h1Queries
 
 pub h2-sound : Sound h2
 unfolding computed
-h2-sound = refl
+h2-sound = sound-accepted h2 .1 refl
 
-pub h2-refused : answer h2 (Call.check 1024) ≡ Verdict.Refused (refusal 17 1 2 1)
+pub h2-refused : answer h2 (checking 1024) ≡ Verdict.Refused (refusal 17 1 2 1)
 unfolding computed
 h2-refused = refl
 
-h2-fault : isTypingFault (answer h2 (Call.check 1024)) ≡ true
+h2-fault : isTypingFault (answer h2 (checking 1024)) ≡ true
 h2-fault = ap isTypingFault h2-refused
 
 pub h2-broken : Broken h2
-h2-broken = refused-broken h2 h2-sound (Call.check 1024) (check-gets h2 h2-sound 1024 .1 refl) .0 h2-fault
+h2-broken = refused-broken h2 h2-sound (checking-own 1024) (check-gets h2 h2-sound 1024 .1 refl) .0 h2-fault
 
-pub h2-named : Named h2 (Call.check 1024)
-h2-named = refused-named h2 h2-sound (Call.check 1024) (check-gets h2 h2-sound 1024 .1 refl) h2-fault
+pub h2-named : Named h2 (checking 1024)
+h2-named = refused-named h2 h2-sound (checking-own 1024) (check-gets h2 h2-sound 1024 .1 refl) h2-fault
 
-pub h2-configure : (c r1 r2 r3 r4 : ℕ) → isTypingFault (answer h2 (Call.configure c r1 r2 r3 r4)) ≡ true
-h2-configure c r1 r2 r3 r4 = refused-broken h2 h2-sound (Call.configure c r1 r2 r3 r4) (configure-gets h2 h2-sound c r1 r2 r3 r4) .1 h2-broken
+pub h2-configure : (c r1 r2 r3 r4 : ℕ) → isTypingFault (answer h2 (configuring c r1 r2 r3 r4)) ≡ true
+h2-configure c r1 r2 r3 r4 = refused-broken h2 h2-sound (configuring-own c r1 r2 r3 r4) (configure-gets h2 h2-sound c r1 r2 r3 r4) .1 h2-broken
 
 pub h2-fails : (fails h2 1 1 ≡ true) × (fails h2 0 1 ≡ false)
 unfolding computed
@@ -101,19 +103,19 @@ h2-tree = (refl, refl)
 abbrev h8 : Tables
 h8 = harbour 2 (0 ∷ 0 ∷ 0 ∷ 2 ∷ 0 ∷ 0 ∷ 2 ∷ 1 ∷ 0 ∷ []) (h1Entries 2) h1Queries
 
-h8-refused : answer h8 (Call.check 1024) ≡ Verdict.Refused (refusal 12 0 0 0)
+h8-refused : answer h8 (checking 1024) ≡ Verdict.Refused (refusal 12 0 0 0)
 unfolding computed
 h8-refused = refl
 
 pub h8-unsound : Sound h8 → ⊥
-h8-unsound = check-early h8 .0 (refusal 12 0 0 0, h8-refused, lit≤ tt)
+h8-unsound = check-early h8 .0 (refusal 12 0 0 0, h8-refused, refl)
 
 -- ---- a relation that is absent at 0, under a choice that does not take it there: accepted. A form that is not reached breaks nothing
 
 abbrev untaken : Tables
 untaken = guarded (0 ∷ 0 ∷ []) 1
 
-pub untaken-accepted : answer untaken (Call.check 1024) ≡ Verdict.Accepted
+pub untaken-accepted : answer untaken (checking 1024) ≡ Verdict.Accepted
 unfolding computed
 untaken-accepted = refl
 
@@ -125,6 +127,6 @@ untaken-absent = (refl, refl, refl)
 abbrev unguarded : Tables
 unguarded = tablesOf 1 2 0 (1 ∷ 0 ∷ 0 ∷ 2 ∷ 0 ∷ 0 ∷ []) (0 ∷ 0 ∷ []) (1 ∷ 1 ∷ []) [] (1 ∷ 0 ∷ 0 ∷ 0 ∷ [])
 
-pub unguarded-refused : answer unguarded (Call.check 1024) ≡ Verdict.Refused (refusal 15 0 0 0)
+pub unguarded-refused : answer unguarded (checking 1024) ≡ Verdict.Refused (refusal 15 0 0 0)
 unfolding computed
 unguarded-refused = refl

@@ -9,20 +9,25 @@ use native.Mathlib.Omega.{arith}
 use borrow.Author.Tests.{eqb-true}
 use lib.Dec.{eqb}
 use Rattle.report.specs.Tables.{Tables, query, queryCount}
-use Rattle.report.specs.Typing.{taken, passesOn, leads}
+use Rattle.report.specs.Operands.{queryOperands, isChoice}
+use Rattle.report.specs.Typing.{taken, onward, passesOn, leads}
 use Rattle.report.specs.FormChecks.{isOperand}
-use Rattle.report.specs.Configuring.{isQueryChoice, queryTargetOf, queryTarget}
+use Rattle.report.specs.Configuring.{targetOf, queryTarget}
+use Rattle.report.specs.Formed.{Formed}
 use Rattle.report.specs.declared.Query.{Query}
+use Rattle.report.specs.declared.Operands.{Operands}
 use Rattle.report.proofs.ValueLaws.{strong}
-use Rattle.report.proofs.Formed.{Formed}
 use Rattle.report.proofs.FormedFacts.{operand-lower, operand-once}
 use Rattle.report.proofs.StepLaws.{leads-in, query-target-in}
 use Rattle.report.proofs.PassingOn.{or-either, or-first, or-second, same-number, passesTo, PassedTo, passed-to, to-passed, passed-operand}
-use Rattle.report.proofs.PassingOn.{View, choice, plain, view, plain-target}
+use Rattle.report.proofs.OperandLaws.{View, choice, plain, view, plain-target}
 
--- query form q
+-- query form q, and its operands
 abbrev pub formAt : Tables → ℕ → Query
 formAt T q = query (T .queries) q
+
+abbrev pub operandsAt : Tables → ℕ → Operands
+operandsAt T q = queryOperands (formAt T q)
 
 module _ (T : Tables) (c : ℕ) where
   -- of the forms to which p leads, one passes c on to x
@@ -35,7 +40,7 @@ module _ (T : Tables) (c : ℕ) where
   pub record Lead (q t : ℕ) : Type 0 where
     pub low : t ≤ q
     pub led : leads T c t q ≡ true
-    pub isPlain : isQueryChoice T c (formAt T t) ≡ false
+    pub isPlain : isChoice (operandsAt T t) ≡ false
 
 module _ {T : Tables} (F : Formed T) (c : ℕ) where
   -- what p passes c on to is lower, and no other form passes c on to it
@@ -115,24 +120,24 @@ module _ {T : Tables} (F : Formed T) (c : ℕ) where
 
   -- ---- where a reference leads
 
-  pub target-plain : (q : ℕ) → q < queryCount T → isQueryChoice T c (formAt T q) ≡ false → queryTarget T c q ≡ q
-  target-plain q h p = query-target-in F c q h ∙ plain-target T c (queryTarget T c) q (formAt T q) p
+  pub target-plain : (q : ℕ) → q < queryCount T → isChoice (operandsAt T q) ≡ false → queryTarget T c q ≡ q
+  target-plain q h p = query-target-in F c q h ∙ plain-target T c (queryTarget T c) q (operandsAt T q) p
 
-  module _ (q a b d : ℕ) (h : q < queryCount T) (e : formAt T q ≡ Query.Choice a b d) where
+  module _ (q a b d : ℕ) (h : q < queryCount T) (e : operandsAt T q ≡ Operands.Choice a b d) where
     pub target-choice : queryTarget T c q ≡ queryTarget T c (taken T c a b d)
-    target-choice = query-target-in F c q h ∙ ap (queryTargetOf T c (queryTarget T c) q) e
+    target-choice = query-target-in F c q h ∙ ap (targetOf T c (queryTarget T c) q) e
 
     -- a choice passes c on to the alternative that it takes, and to no other form
     pub alternative-passed : passesTo T c (taken T c a b d) (formAt T q) ≡ true
-    alternative-passed = ap (passesTo T c (taken T c a b d)) e ∙ same-number (taken T c a b d)
+    alternative-passed = ap (onward T c (eqb (taken T c a b d))) e ∙ same-number (taken T c a b d)
 
     pub alternative-only : (z : ℕ) → passesTo T c z (formAt T q) ≡ true → z ≡ taken T c a b d
-    alternative-only z p = eqb-true z (taken T c a b d) (ap (passesTo T c z) (sym e) ∙ p)
+    alternative-only z p = eqb-true z (taken T c a b d) (ap (onward T c (eqb z)) (sym e) ∙ p)
 
   pub lead : (q : ℕ) → q < queryCount T → Lead T c q (queryTarget T c q)
-  lead = strong (λ q. q < queryCount T → Lead T c q (queryTarget T c q)) (λ q ih h. go q ih h (view T c (formAt T q)))
+  lead = strong (λ q. q < queryCount T → Lead T c q (queryTarget T c q)) (λ q ih h. go q ih h (view (operandsAt T q)))
     where
-      go : (q : ℕ) → ((k : ℕ) → k < q → k < queryCount T → Lead T c k (queryTarget T c k)) → q < queryCount T → View T c (formAt T q)
+      go : (q : ℕ) → ((k : ℕ) → k < q → k < queryCount T → Lead T c k (queryTarget T c k)) → q < queryCount T → View (operandsAt T q)
           → Lead T c q (queryTarget T c q)
       go q ih h (plain p) = rw (target-plain q h p) (record { low = le-refl q; led = leads-self q h; isPlain = p })
       go q ih h (choice a b d e) =
@@ -144,13 +149,13 @@ module _ {T : Tables} (F : Formed T) (c : ℕ) where
           (record { low = let m = l .low in omega arith; led = leads-next (queryTarget T c z) z q h p (l .led); isPlain = l .isPlain })
 
   -- a plain form to which p leads is at most what a reference to p leads to
-  pub plain-below : (x : ℕ) → isQueryChoice T c (formAt T x) ≡ false → (p : ℕ) → p < queryCount T → leads T c x p ≡ true → x ≤ queryTarget T c p
+  pub plain-below : (x : ℕ) → isChoice (operandsAt T x) ≡ false → (p : ℕ) → p < queryCount T → leads T c x p ≡ true → x ≤ queryTarget T c p
   plain-below x v =
       along x (λ p. x ≤ queryTarget T c p) (λ h. let t = target-plain x h v in omega arith)
-      (λ z p h k e l m. step z p h k e l m (view T c (formAt T p)))
+      (λ z p h k e l m. step z p h k e l m (view (operandsAt T p)))
     where
       step : (z p : ℕ) → p < queryCount T → z < p → passesTo T c z (formAt T p) ≡ true → leads T c x z ≡ true → x ≤ queryTarget T c z
-          → View T c (formAt T p)
+          → View (operandsAt T p)
           → x ≤ queryTarget T c p
       step z p h k e l m (plain w) = let t = target-plain p h w in let n = leads-lower x z (omega arith) l in omega arith
       step z p h k e l m (choice a b d f) =
@@ -159,7 +164,7 @@ module _ {T : Tables} (F : Formed T) (c : ℕ) where
           omega arith
 
   -- two operands of plain forms, of which references lead to one form, are one
-  apart : (p x y : ℕ) → p < queryCount T → isQueryChoice T c (formAt T p) ≡ false → isOperand x (formAt T p) ≡ true → y < queryCount T
+  apart : (p x y : ℕ) → p < queryCount T → isChoice (operandsAt T p) ≡ false → isOperand x (formAt T p) ≡ true → y < queryCount T
       → queryTarget T c x ≡ queryTarget T c y → x < y → ⊥
   apart p x y h v o i same l =
       ⊎-elim (λ (e : x ≡ y). omega arith)
@@ -172,8 +177,8 @@ module _ {T : Tables} (F : Formed T) (c : ℕ) where
       omega arith)
       (leads-last x y i (leads-meet (queryTarget T c y) y i (lead y i .led) x (omega arith) (rw same at (lead x (omega arith) .led))))
 
-  pub leads-apart : (p q x y : ℕ) → p < queryCount T → q < queryCount T → isQueryChoice T c (formAt T p) ≡ false
-      → isQueryChoice T c (formAt T q) ≡ false → isOperand x (formAt T p) ≡ true
+  pub leads-apart : (p q x y : ℕ) → p < queryCount T → q < queryCount T → isChoice (operandsAt T p) ≡ false
+      → isChoice (operandsAt T q) ≡ false → isOperand x (formAt T p) ≡ true
       → isOperand y (formAt T q) ≡ true → queryTarget T c x ≡ queryTarget T c y → x ≡ y
   leads-apart p q x y h k v w o r same =
       let i = operand-lower F p x h o in

@@ -27,7 +27,7 @@ at-most-iff most ns = (
     test [] = refl
     test (n ∷ ns) = ap (λ (b : Bool). leb n most && b) (test ns)
 
--- A line of the group, as document 01 says it: the text of as many numbers as the form has words, each at most 65535
+-- A line of the group, as docs/FORMAT.md says it: the text of as many numbers as the form has words, each at most 65535
 pub record LineOf (g : Group) (text : List ℕ) : Type 0 where
   pub numbers : List ℕ
   pub count : length numbers ≡ g .shape .width

@@ -1,4 +1,4 @@
--- What a permitted configuration reaches (document 01, "Typing rules"), and what of that configuring keeps.
+-- What a permitted configuration reaches (docs/FORMAT.md, "Typing rules"), and what of that configuring keeps.
 use Prim.Native.Nat.{ℕ, suc, _<_, _≤_}
 use mathlib.Core.Path.{_≡_, refl, sym, ap, _∙_}
 use mathlib.Core.Logic.{⊎-elim, _⊎_, inl, inr}
@@ -8,14 +8,16 @@ use borrow.Author.Tests.{not-true}
 use Rattle.sets.specs.Search.{countBelow}
 use Rattle.sets.proofs.SearchLaws.{count-none, count-yes}
 use Rattle.report.specs.Tables.{Tables, queryCount, report}
+use Rattle.report.specs.Operands.{isChoice}
 use Rattle.report.specs.Expressions.{permitted}
 use Rattle.report.specs.Typing.{leads, reached}
 use Rattle.report.specs.FormChecks.{isOperand}
-use Rattle.report.specs.Configuring.{isQueryChoice, queryTarget, queryKept, newQuery}
-use Rattle.report.proofs.Formed.{Formed}
+use Rattle.report.specs.Configuring.{queryTarget, queryKept, newQuery}
+use Rattle.report.specs.Formed.{Formed}
 use Rattle.report.proofs.FormedFacts.{report-in}
-use Rattle.report.proofs.PassingOn.{passesTo, passed-operand, operand-passed, View, choice, plain, view}
-use Rattle.report.proofs.LeadLaws.{formAt, Passer, passed-lower, passed-once, leads-self, leads-next, leads-lower, leads-trans, leads-last}
+use Rattle.report.proofs.OperandLaws.{View, choice, plain, view}
+use Rattle.report.proofs.PassingOn.{passesTo, passed-operand, operand-passed}
+use Rattle.report.proofs.LeadLaws.{formAt, operandsAt, Passer, passed-lower, passed-once, leads-self, leads-next, leads-lower, leads-trans, leads-last}
 use Rattle.report.proofs.LeadLaws.{along, target-plain, target-choice, alternative-only, lead, plain-below}
 
 module _ (T : Tables) (c : ℕ) where
@@ -36,11 +38,11 @@ module _ (T : Tables) (c : ℕ) where
     pub leadsTo : queryTarget T c operand ≡ x
 
   -- a kept form is reached and plain
-  pub kept-both : (q : ℕ) → queryKept T c q ≡ true → (reached T c q ≡ true) × (isQueryChoice T c (formAt T q) ≡ false)
-  kept-both q k = let p = and-eq-true-iff (reached T c q) (not (isQueryChoice T c (formAt T q))) .0 k in (p .0, not-true _ (p .1))
+  pub kept-both : (q : ℕ) → queryKept T c q ≡ true → (reached T c q ≡ true) × (isChoice (operandsAt T q) ≡ false)
+  kept-both q k = let p = and-eq-true-iff (reached T c q) (not (isChoice (operandsAt T q))) .0 k in (p .0, not-true _ (p .1))
 
-  pub both-kept : (q : ℕ) → reached T c q ≡ true → isQueryChoice T c (formAt T q) ≡ false → queryKept T c q ≡ true
-  both-kept q r p = and-eq-true-iff (reached T c q) (not (isQueryChoice T c (formAt T q))) .1 (r, ap not p)
+  pub both-kept : (q : ℕ) → reached T c q ≡ true → isChoice (operandsAt T q) ≡ false → queryKept T c q ≡ true
+  both-kept q r p = and-eq-true-iff (reached T c q) (not (isChoice (operandsAt T q))) .1 (r, ap not p)
 
 module _ {T : Tables} (F : Formed T) (c : ℕ) (ok : permitted T c ≡ true) where
   pub reached-leads : (x : ℕ) → reached T c x ≡ leads T c x (report T)
@@ -108,14 +110,14 @@ module _ {T : Tables} (F : Formed T) (c : ℕ) (ok : permitted T c ≡ true) whe
       above x l false e = refl
 
   -- every other kept form is what an operand of a kept form leads to
-  taken-from : (q : ℕ) → isQueryChoice T c (formAt T q) ≡ false → (p : ℕ) → p < queryCount T → leads T c q p ≡ true → reached T c p ≡ true
+  taken-from : (q : ℕ) → isChoice (operandsAt T q) ≡ false → (p : ℕ) → p < queryCount T → leads T c q p ≡ true → reached T c p ≡ true
       → (queryTarget T c p ≡ q) ⊎ Taker T c q
   taken-from q v =
       along F c q (λ p. reached T c p ≡ true → (queryTarget T c p ≡ q) ⊎ Taker T c q) (λ h r. inl (target-plain F c q h v))
-      (λ z p h k e l ih r. step z p h e r (ih (reached-next z p r e)) (view T c (formAt T p)))
+      (λ z p h k e l ih r. step z p h e r (ih (reached-next z p r e)) (view (operandsAt T p)))
     where
       step : (z p : ℕ) → p < queryCount T → passesTo T c z (formAt T p) ≡ true → reached T c p ≡ true → (queryTarget T c z ≡ q) ⊎ Taker T c q
-          → View T c (formAt T p) → (queryTarget T c p ≡ q) ⊎ Taker T c q
+          → View (operandsAt T p) → (queryTarget T c p ≡ q) ⊎ Taker T c q
       step z p h e r (inr t) w = inr t
       step z p h e r (inl s) (plain w) =
           let o = passed-operand T c z (formAt T p) e in

@@ -2,36 +2,41 @@
 -- typing fault exactly where, at some permitted configuration, the configured report breaks a plain rule.
 use Prim.Native.Nat.{ℕ, zero, suc, _-_, _<_, _≤_}
 use mathlib.Core.Path.{_≡_, refl, sym, ap, ap₂, _∙_}
-use mathlib.Core.Bool.{Bool, true, false, _&&_, not, and-eq-true-iff, false≢true}
+use mathlib.Core.Bool.{Bool, true, false, _||_, not, and-eq-true-iff, false≢true}
 use mathlib.Core.Logic.{_↔_, ⊎-elim}
 use native.Mathlib.Nat.{eq-or-lt-of-le}
-use mathlib.Core.List.{[], _∷_}
+use mathlib.Core.List.{List, [], _∷_}
 use native.Mathlib.Omega.{arith}
-use borrow.Author.Tests.{leb-true, le-leb, lt-leb, eqb-true, not-false}
+use borrow.Author.Tests.{eqb-true, eq-eqb, not-true, not-false}
 use lib.ListN.{length, getD}
 use lib.Dec.{leb, ltb, eqb}
 use Rattle.sets.specs.declared.Found.{Found}
-use Rattle.sets.specs.Search.{seek, lowest}
+use Rattle.sets.specs.Search.{seek, lowest, First}
 use Rattle.sets.specs.Bits.{bit}
-use Rattle.sets.proofs.SearchLaws.{First}
 use Rattle.report.specs.Tables.{Tables, shapes, shapeOf, words, entryAttribute, relationLength, relationStart}
 use Rattle.report.specs.Tables.{expressionCount, entryCount, relationCount, comparisonCount, queryCount}
 use Rattle.report.specs.Expressions.{configurations, permitted}
 use Rattle.report.specs.Typing.{reached, faults, fails}
 use Rattle.report.specs.PlainAlgebra.{passes}
 use Rattle.report.specs.ConfiguredReport.{plainQueryAt, configuredReport, configuredSchema}
-use Rattle.report.specs.Verdicts.{refusal, refuseIf, refuseAt, orElse, firstFrom}
+use Rattle.report.specs.Verdicts.{refusal, refuseIf, refuseAt, orElse, firstFrom, Condition, _gives_, firstOf}
 use Rattle.report.specs.FormChecks.{lengthFits, expressionOk, entryOk, relationOk, comparisonOk, queryOk, takenBelow, listsEnd}
 use Rattle.report.specs.FormChecks.{lengthCheck, lengthsCheck, expressionsCheck, entriesCheck, relationsCheck, comparisonsCheck, queriesCheck, untakenCheck, formCheck}
-use Rattle.report.specs.Checks.{Call, rowsLentCheck, somewhere, absentEverywhere, apartEverywhere, modelCheck, relationCheck, schemaCheck, modelAndSchemaCheck}
-use Rattle.report.specs.Checks.{typingCheck, beforeTyping, afterTyping, answer, Sound, GetsAsFarAsTyping, isTypingFault}
+use Rattle.report.specs.Formed.{Formed}
+use Rattle.report.specs.Checks.{somewhere, absentEverywhere, apartEverywhere, modelCheck, relationCheck, schemaCheck, modelAndSchemaCheck, typingCheck}
+use Rattle.report.specs.Checks.{isOneOf, isEarly, isOfTyping, isLate, isTypingFault}
+use Rattle.report.specs.Calls.{Call, beforeTyping, answer, Sound, GetsAsFarAsTyping, allGive, OwnNumbers, checking, configuring}
+use Rattle.report.specs.TypingFaults.{Broken, TypingFault, Breaks, Named}
 use Rattle.report.specs.declared.Refusal.{Refusal}
 use Rattle.report.specs.declared.Verdict.{Verdict}
-use Rattle.report.proofs.VerdictLaws.{accepted-not-refused, both-accepted, accepted-both, then-next, then-refused, if-accepted, or-else-accepted}
-use Rattle.report.proofs.Formed.{Formed, formed}
+use Rattle.report.proofs.VerdictLaws.{accepted-not-refused, both-accepted, accepted-both, then-next, then-refused, if-accepted, accepted-if, or-else-accepted}
+use Rattle.report.proofs.FirstFault.{first-none, first-one, sound-accepted}
+use Rattle.report.proofs.TextLaws.{every}
+use Rattle.report.proofs.PassingOn.{or-either}
+use Rattle.report.proofs.Formed.{formed}
 use Rattle.report.proofs.LeadLaws.{formAt}
-use Rattle.report.proofs.TreeLaws.{operandsPass, reached-permitted, fails-where, reached-passes, lowest-breaks, report-passes, PartOf, reached-part}
-use Rattle.report.proofs.TypingLaws.{permitted-within, fails-permitted, typing-accepted, typing-passes, TypingFault, typing-refused, fault-number, fault-item}
+use Rattle.report.proofs.TreeLaws.{operandsPass, operands-pass, reached-permitted, fails-where, reached-passes, lowest-breaks, report-passes, reached-part}
+use Rattle.report.proofs.TypingLaws.{permitted-within, fails-permitted, typing-accepted, typing-passes, typing-refused, fault-number, fault-item}
 
 -- ---- "sound in form and schema", and "gets as far as typing"
 
@@ -39,84 +44,94 @@ module _ (T : Tables) where
   -- what 1 to 10, 12 and 13 to 14 accept is sound
   pub sound-checks : Sound T ↔ ((formCheck T ≡ Verdict.Accepted) × (modelCheck T ≡ Verdict.Accepted) × (schemaCheck T ≡ Verdict.Accepted))
   sound-checks = (
-    λ e. let p = both-accepted (formCheck T) (modelAndSchemaCheck T) e in let q = both-accepted (modelCheck T) (schemaCheck T) (p .1) in (p .0, q .0, q .1),
-    λ p. accepted-both (p .0) (accepted-both (p .1) (p .2)),
+    λ s.
+        let p = both-accepted (formCheck T) (modelAndSchemaCheck T) (sound-accepted T .0 s) in
+        let q = both-accepted (modelCheck T) (schemaCheck T) (p .1) in
+        (p .0, q .0, q .1),
+    λ p. sound-accepted T .1 (accepted-both (p .0) (accepted-both (p .1) (p .2))),
   )
 
   pub sound-formed : Sound T → Formed T
-  sound-formed e = formed T (sound-checks .0 e .0)
+  sound-formed s = formed T (sound-checks .0 s .0)
 
-  -- of a check with 1,024 words of rows, and of configuring, no check before typing refuses exactly where the tables are sound
-  pub sound-check : (beforeTyping T (Call.check 1024) ≡ Verdict.Accepted) ↔ Sound T
-  sound-check = (λ e. e, λ e. e)
+  -- on sound tables a call gets as far as typing exactly where no condition of its own before that holds; on other tables none does
+  module _ (call : Call) where
+    pub gets-own : Sound T → GetsAsFarAsTyping T call ↔ (firstOf (call .beforeModel T) ≡ Verdict.Accepted)
+    gets-own s =
+        let p = both-accepted (formCheck T) (modelAndSchemaCheck T) (sound-accepted T .0 s) in (
+          λ g. both-accepted (firstOf (call .beforeModel T)) _ (both-accepted (formCheck T) _ g .1) .0,
+          λ e. accepted-both (p .0) (accepted-both e (p .1)),
+        )
 
-  pub sound-configure : (c r1 r2 r3 r4 : ℕ) → (beforeTyping T (Call.configure c r1 r2 r3 r4) ≡ Verdict.Accepted) ↔ Sound T
-  sound-configure c r1 r2 r3 r4 = (λ e. e, λ e. e)
+    pub gets-sound : GetsAsFarAsTyping T call → Sound T
+    gets-sound g =
+        let p = both-accepted (formCheck T) (orElse (firstOf (call .beforeModel T)) (modelAndSchemaCheck T)) g in
+        sound-accepted T .1 (accepted-both (p .0) (both-accepted (firstOf (call .beforeModel T)) (modelAndSchemaCheck T) (p .1) .1))
+
+    -- such a call answers what typing answers, and then what comes after it
+    pub gets-answer : GetsAsFarAsTyping T call → answer T call ≡ orElse (typingCheck T) (firstOf (call .afterTyping T))
+    unfolding answer
+    gets-answer g = then-next g
 
   -- on sound tables the calls that get as far as typing are checking with 1,024 words of rows, and configuring whatever it is given
-  pub check-gets : Sound T → (room : ℕ) → GetsAsFarAsTyping T (Call.check room) ↔ (room ≡ 1024)
-  check-gets s room = (
-    λ g.
-        let p = both-accepted (formCheck T) (orElse (rowsLentCheck room) (modelAndSchemaCheck T)) g in
-        let q = both-accepted (rowsLentCheck room) (modelAndSchemaCheck T) (p .1) in
-        eqb-true room 1024 (not-false (eqb room 1024) (if-accepted _ _ (q .0))),
-    λ e. ap (λ (x : ℕ). beforeTyping T (Call.check x)) e ∙ sound-check .1 s,
-  )
+  pub check-gets : Sound T → (room : ℕ) → GetsAsFarAsTyping T (checking room) ↔ (room ≡ 1024)
+  check-gets s room =
+      let own = gets-own (checking room) s in (
+        λ g. eqb-true room 1024 (not-false (eqb room 1024) (if-accepted _ _ (sym (first-one _ _) ∙ own .0 g))),
+        λ e. own .1 (first-one _ _ ∙ accepted-if _ (ap not (eq-eqb room 1024 e))),
+      )
 
-  pub configure-gets : Sound T → (c r1 r2 r3 r4 : ℕ) → GetsAsFarAsTyping T (Call.configure c r1 r2 r3 r4)
-  configure-gets s c r1 r2 r3 r4 = sound-configure c r1 r2 r3 r4 .1 s
-
-  -- and on other tables none does
-  pub gets-sound : (call : Call) → GetsAsFarAsTyping T call → Sound T
-  gets-sound (Call.check room) g =
-      let p = both-accepted (formCheck T) (orElse (rowsLentCheck room) (modelAndSchemaCheck T)) g in
-      accepted-both (p .0) (both-accepted (rowsLentCheck room) (modelAndSchemaCheck T) (p .1) .1)
-  gets-sound (Call.configure c r1 r2 r3 r4) g = g
-
-  -- such a call answers what typing answers, and then what comes after it
-  pub gets-answer : (call : Call) → GetsAsFarAsTyping T call → answer T call ≡ orElse (typingCheck T) (afterTyping T call)
-  unfolding answer
-  gets-answer call g = then-next g
+  pub configure-gets : Sound T → (c r1 r2 r3 r4 : ℕ) → GetsAsFarAsTyping T (configuring c r1 r2 r3 r4)
+  configure-gets s c r1 r2 r3 r4 = gets-own (configuring c r1 r2 r3 r4) s .1 first-none
 
 -- ---- the numbers of refusals
 
--- a number from n to m
-abbrev between : ℕ → ℕ → ℕ → Bool
-between n m k = leb n k && leb k m
-
 -- the answer accepts, or refuses by such a number
-data Numbered (n m : ℕ) : Verdict → Type 0 where
-  accepts : Numbered n m Verdict.Accepted
-  refuses : {r : Refusal} → between n m (r .number) ≡ true → Numbered n m (Verdict.Refused r)
+data Numbered (test : ℕ → Bool) : Verdict → Type 0 where
+  accepts : Numbered test Verdict.Accepted
+  refuses : {r : Refusal} → test (r .number) ≡ true → Numbered test (Verdict.Refused r)
 
-module _ {n m : ℕ} where
-  numbered-or : {a b : Verdict} → Numbered n m a → Numbered n m b → Numbered n m (orElse a b)
+module _ {test : ℕ → Bool} where
+  numbered-or : {a b : Verdict} → Numbered test a → Numbered test b → Numbered test (orElse a b)
   numbered-or Numbered.accepts k = k
   numbered-or (Numbered.refuses h) k = Numbered.refuses h
 
-  numbered-if : (t : Bool) (r : Refusal) → between n m (r .number) ≡ true → Numbered n m (refuseIf t r)
+  numbered-if : (t : Bool) (r : Refusal) → test (r .number) ≡ true → Numbered test (refuseIf t r)
   numbered-if true r h = Numbered.refuses h
   numbered-if false r h = Numbered.accepts
 
-  numbered-at : (r : ℕ → Refusal) (x : Found) → ((k : ℕ) → between n m (r k .number) ≡ true) → Numbered n m (refuseAt r x)
+  numbered-at : (r : ℕ → Refusal) (x : Found) → ((k : ℕ) → test (r k .number) ≡ true) → Numbered test (refuseAt r x)
   numbered-at r Found.Nothing h = Numbered.accepts
   numbered-at r (Found.At k) h = Numbered.refuses (h k)
 
-  numbered-first : (check : ℕ → Verdict) (count from : ℕ) → ((k : ℕ) → Numbered n m (check k)) → Numbered n m (firstFrom check count from)
+  numbered-first : (check : ℕ → Verdict) (count from : ℕ) → ((k : ℕ) → Numbered test (check k)) → Numbered test (firstFrom check count from)
   numbered-first check zero from h = Numbered.accepts
   numbered-first check (suc count) from h = numbered-or (h from) (numbered-first check count (suc from) h)
 
+  -- the conditions of a list
+  numbered-list : (xs : List Condition) → allGive test xs ≡ true → Numbered test (firstOf xs)
+  unfolding firstOf
+  numbered-list [] h = Numbered.accepts
+  numbered-list (x ∷ xs) h =
+      let p = and-eq-true-iff (test (x .gives .number)) (allGive test xs) .0 h in
+      numbered-or (numbered-if (x .holds) (x .gives) (p .0)) (numbered-list xs (p .1))
+
+  number-of : {v : Verdict} {r : Refusal} → Numbered test v → v ≡ Verdict.Refused r → test (r .number) ≡ true
+  number-of Numbered.accepts e = accepted-not-refused e refl
+  number-of {r} (Numbered.refuses {r = s} h) e = let same : s ≡ r = cc in rw (← same) h
+
 -- the checks of the forms of one table
-forms-numbered : {n m : ℕ} (k : ℕ) (test : ℕ → Bool) (count : ℕ) → between n m k ≡ true → Numbered n m (refuseAt (λ f. refusal k f 0 0) (lowest test count))
-forms-numbered k test count h = numbered-at (λ f. refusal k f 0 0) (lowest test count) (λ f. h)
+forms-numbered : {test : ℕ → Bool} (k : ℕ) (tested : ℕ → Bool) (count : ℕ) → test k ≡ true
+    → Numbered test (refuseAt (λ f. refusal k f 0 0) (lowest tested count))
+forms-numbered k tested count h = numbered-at (λ f. refusal k f 0 0) (lowest tested count) (λ f. h)
 
 module _ (T : Tables) where
-  lengths-numbered : Numbered 1 14 (lengthsCheck T)
+  lengths-numbered : Numbered isEarly (lengthsCheck T)
   lengths-numbered =
       numbered-first (λ t. lengthCheck (getD shapes t (shapeOf 1 0 0)) t (length (getD (words T) t []))) 5 0
       (λ t. numbered-if (not (lengthFits (getD shapes t (shapeOf 1 0 0)) (length (getD (words T) t [])))) (refusal 2 t 0 0) refl)
 
-  form-numbered : Numbered 1 14 (formCheck T)
+  form-numbered : Numbered isEarly (formCheck T)
   unfolding formCheck expressionsCheck entriesCheck relationsCheck comparisonsCheck queriesCheck untakenCheck
   form-numbered =
       numbered-or (numbered-or (numbered-if (ltb 10 (T .features)) (refusal 1 0 0 0) refl) (numbered-if (ltb 64 (T .attributes)) (refusal 1 1 0 0) refl))
@@ -130,103 +145,108 @@ module _ (T : Tables) where
       (numbered-or (forms-numbered 9 (λ q. not (takenBelow (T .queries) (queryCount T) q)) (queryCount T - 1) refl)
       (numbered-if (ltb (listsEnd T) (entryCount T)) (refusal 10 (listsEnd T) 0 0) refl)))))))))
 
-  relation-numbered : (r : ℕ) → Numbered 1 14 (relationCheck T r)
+  relation-numbered : (r : ℕ) → Numbered isEarly (relationCheck T r)
   relation-numbered r =
       numbered-or (numbered-if (absentEverywhere T r) (refusal 13 r 0 0) refl)
       (numbered-at (λ i. refusal 14 r (entryAttribute (T .entries) i) 0)
       (seek (apartEverywhere T r) (relationLength (T .relations) r) (relationStart (T .relations) r)) (λ i. refl))
 
-  schema-numbered : Numbered 1 14 (modelAndSchemaCheck T)
+  schema-numbered : Numbered isEarly (modelAndSchemaCheck T)
   schema-numbered =
       numbered-or (numbered-if (not (somewhere T (λ c. true))) (refusal 12 0 0 0) refl)
       (numbered-first (relationCheck T) (relationCount T) 0 relation-numbered)
 
-  -- before typing 1 to 14, and after it 20 and 21
-  before-numbered : (call : Call) → Numbered 1 14 (beforeTyping T call)
-  before-numbered (Call.check room) = numbered-or form-numbered (numbered-or (numbered-if (not (eqb room 1024)) (refusal 11 0 0 0) refl) schema-numbered)
-  before-numbered (Call.configure c r1 r2 r3 r4) = numbered-or form-numbered schema-numbered
-
-  after-numbered : (call : Call) → Numbered 20 21 (afterTyping T call)
-  after-numbered (Call.check room) = Numbered.accepts
-  after-numbered (Call.configure c r1 r2 r3 r4) =
-      numbered-or (numbered-if (not (permitted T c)) (refusal 20 0 0 c) refl)
-      (numbered-at (λ t. refusal 21 t 0 0) (seek (λ t. ltb (getD (0 ∷ r1 ∷ r2 ∷ r3 ∷ r4 ∷ []) t 0) (length (getD (words T) t []))) 4 1) (λ t. refl))
-
-  -- 15 to 19 in between
-  typing-numbered : Numbered 15 19 (typingCheck T)
+  typing-numbered : Numbered isOfTyping (typingCheck T)
   typing-numbered = go (typingCheck T) refl
     where
-      go : (v : Verdict) → typingCheck T ≡ v → Numbered 15 19 v
+      go : (v : Verdict) → typingCheck T ≡ v → Numbered isOfTyping v
       go Verdict.Accepted e = Numbered.accepts
       go (Verdict.Refused r) e = Numbered.refuses (fault-number T r (typing-refused T r .0 e))
 
-number-of : {n m : ℕ} {v : Verdict} {r : Refusal} → Numbered n m v → v ≡ Verdict.Refused r → (n ≤ r .number) × (r .number ≤ m)
-number-of Numbered.accepts e = accepted-not-refused e refl
-number-of {n} {m} {r} (Numbered.refuses {r = s} h) e =
-    let same : s ≡ r = cc in
-    let p = and-eq-true-iff (leb n (s .number)) (leb (s .number) m) .0 h in
-    (rw (← same) (leb-true n (s .number) (p .0)), rw (← same) (leb-true (s .number) m (p .1)))
+  module _ {call : Call} (own : OwnNumbers call) where
+    before-numbered : Numbered isEarly (beforeTyping T call)
+    before-numbered = numbered-or form-numbered (numbered-or (numbered-list (call .beforeModel T) (own .early T)) schema-numbered)
+
+    after-numbered : Numbered isLate (firstOf (call .afterTyping T))
+    after-numbered = numbered-list (call .afterTyping T) (own .late T)
+
+-- what holds of each number of a list
+one-of : (test : ℕ → Bool) (ns : List ℕ) → every test ns ≡ true → (k : ℕ) → isOneOf ns k ≡ true → test k ≡ true
+one-of test [] h k e = absurd (false≢true e)
+one-of test (n ∷ ns) h k e =
+    let p = and-eq-true-iff (test n) (every test ns) .0 h in
+    ⊎-elim (λ (s : eqb k n ≡ true). rw (eqb-true k n s) (p .0)) (λ (s : isOneOf ns k ≡ true). one-of test ns (p .1) k s) (or-either (eqb k n) (isOneOf ns k) e)
+
+-- no number is of two places
+typing-not-early : (k : ℕ) → isOfTyping k ≡ true → isEarly k ≡ false
+typing-not-early k e = not-true (isEarly k) (one-of (λ n. not (isEarly n)) (15 ∷ 16 ∷ 17 ∷ 18 ∷ 19 ∷ []) refl k e)
+
+late-not : (k : ℕ) → isLate k ≡ true → (isEarly k ≡ false) × (isOfTyping k ≡ false)
+late-not k e = go (isEarly k) (isOfTyping k) e
+  where
+    go : (s t : Bool) → not (s || t) ≡ true → (s ≡ false) × (t ≡ false)
+    go true t e = absurd (false≢true e)
+    go false true e = absurd (false≢true e)
+    go false false e = (refl, refl)
 
 -- ---- refused before typing
 
-module _ (T : Tables) (call : Call) where
-  late : GetsAsFarAsTyping T call → (r : Refusal) → answer T call ≡ Verdict.Refused r → 15 ≤ r .number
+module _ (T : Tables) {call : Call} (own : OwnNumbers call) where
+  late : GetsAsFarAsTyping T call → (r : Refusal) → answer T call ≡ Verdict.Refused r → isEarly (r .number) ≡ false
   late g r e = go (typingCheck T) refl (sym (gets-answer T call g) ∙ e)
     where
-      go : (v : Verdict) → typingCheck T ≡ v → orElse v (afterTyping T call) ≡ Verdict.Refused r → 15 ≤ r .number
-      go Verdict.Accepted p u = let l = number-of (after-numbered T call) u in omega arith
-      go (Verdict.Refused s) p u = number-of (typing-numbered T) (p ∙ u) .0
+      go : (v : Verdict) → typingCheck T ≡ v → orElse v (firstOf (call .afterTyping T)) ≡ Verdict.Refused r → isEarly (r .number) ≡ false
+      go Verdict.Accepted p u = late-not (r .number) (number-of (after-numbered T own) u) .0
+      go (Verdict.Refused s) p u = typing-not-early (r .number) (number-of (typing-numbered T) (p ∙ u))
 
-  -- a call refuses by a number up to 14 exactly where it does not get as far as typing
-  pub refused-early : ((r : Refusal) × (answer T call ≡ Verdict.Refused r) × (r .number ≤ 14)) ↔ (GetsAsFarAsTyping T call → ⊥)
+  -- a call refuses by an early number exactly where it does not get as far as typing
+  pub refused-early : ((r : Refusal) × (answer T call ≡ Verdict.Refused r) × (isEarly (r .number) ≡ true)) ↔ (GetsAsFarAsTyping T call → ⊥)
   unfolding answer
   refused-early = (
-    λ p g. let l = late g (p .0) (p .1) in let m = p .2 in omega arith,
+    λ p g. false≢true (sym (late g (p .0) (p .1)) ∙ p .2),
     λ g. go g (beforeTyping T call) refl,
   )
     where
-      go : (GetsAsFarAsTyping T call → ⊥) → (v : Verdict) → beforeTyping T call ≡ v → (r : Refusal) × (answer T call ≡ Verdict.Refused r) × (r .number ≤ 14)
+      go : (GetsAsFarAsTyping T call → ⊥) → (v : Verdict) → beforeTyping T call ≡ v
+          → (r : Refusal) × (answer T call ≡ Verdict.Refused r) × (isEarly (r .number) ≡ true)
       go g Verdict.Accepted e = absurd (g e)
-      go g (Verdict.Refused r) e = (r, then-refused _ e, number-of (before-numbered T call) e .1)
+      go g (Verdict.Refused r) e = (r, then-refused _ e, number-of (before-numbered T own) e)
+
+-- the two calls' own numbers are of their places
+pub checking-own : (room : ℕ) → OwnNumbers (checking room)
+unfolding _gives_
+checking-own room = record { early = λ T. refl; late = λ T. refl }
+
+pub configuring-own : (c r1 r2 r3 r4 : ℕ) → OwnNumbers (configuring c r1 r2 r3 r4)
+unfolding _gives_
+configuring-own c r1 r2 r3 r4 = record { early = λ T. refl; late = λ T. refl }
 
 module _ (T : Tables) where
   -- checking with 1,024 words of rows does so exactly where the tables are not sound, and configuring likewise
-  pub check-early : ((r : Refusal) × (answer T (Call.check 1024) ≡ Verdict.Refused r) × (r .number ≤ 14)) ↔ (Sound T → ⊥)
-  check-early = refused-early T (Call.check 1024)
+  pub check-early : ((r : Refusal) × (answer T (checking 1024) ≡ Verdict.Refused r) × (isEarly (r .number) ≡ true)) ↔ (Sound T → ⊥)
+  check-early =
+      let e = refused-early T (checking-own 1024) in
+      (λ p s. e .0 p (check-gets T s 1024 .1 refl), λ n. e .1 (λ g. n (gets-sound T (checking 1024) g)))
 
   pub configure-early : (c r1 r2 r3 r4 : ℕ)
-      → ((r : Refusal) × (answer T (Call.configure c r1 r2 r3 r4) ≡ Verdict.Refused r) × (r .number ≤ 14)) ↔ (Sound T → ⊥)
-  configure-early c r1 r2 r3 r4 = refused-early T (Call.configure c r1 r2 r3 r4)
+      → ((r : Refusal) × (answer T (configuring c r1 r2 r3 r4) ≡ Verdict.Refused r) × (isEarly (r .number) ≡ true)) ↔ (Sound T → ⊥)
+  configure-early c r1 r2 r3 r4 =
+      let e = refused-early T (configuring-own c r1 r2 r3 r4) in
+      (λ p s. e .0 p (configure-gets T s c r1 r2 r3 r4), λ n. e .1 (λ g. n (gets-sound T (configuring c r1 r2 r3 r4) g)))
 
   -- ---- accepted
 
-  -- of sound tables a check with 1,024 words of rows accepts exactly where no form fails at any configuration
+  -- of sound tables a check with 1,024 words of rows answers as typing does
+  pub check-typing : Sound T → answer T (checking 1024) ≡ typingCheck T
+  check-typing s =
+      gets-answer T (checking 1024) (check-gets T s 1024 .1 refl) ∙ ap (orElse (typingCheck T)) first-none ∙ or-else-accepted (typingCheck T)
+
+  -- so it accepts them exactly where no form fails at any configuration
   pub accepted-exactly : Sound T
-      → (answer T (Call.check 1024) ≡ Verdict.Accepted) ↔ ((c q : ℕ) → c < configurations T → q < queryCount T → fails T c q ≡ false)
-  accepted-exactly s =
-      let e = gets-answer T (Call.check 1024) s ∙ or-else-accepted (typingCheck T) in
-      (λ a. typing-accepted T .0 (sym e ∙ a), λ f. e ∙ typing-accepted T .1 f)
+      → (answer T (checking 1024) ≡ Verdict.Accepted) ↔ ((c q : ℕ) → c < configurations T → q < queryCount T → fails T c q ≡ false)
+  accepted-exactly s = let e = check-typing s in (λ a. typing-accepted T .0 (sym e ∙ a), λ f. e ∙ typing-accepted T .1 f)
 
 -- ---- refused for a typing fault
-
--- at some permitted configuration the configured report breaks a plain rule
-abbrev pub Broken : Tables → Type 0
-Broken T = (c : ℕ) × (permitted T c ≡ true) × (passes (configuredSchema T c) (configuredReport T c) ≡ false)
-
--- what a refusal for a typing fault names, said of the plain rules
-pub record Breaks (T : Tables) (r : Refusal) : Type 0 where
-  -- the configuration is permitted, and there the configured report breaks a rule
-  pub permits : permitted T (r .configuration) ≡ true
-  pub reportBreaks : passes (configuredSchema T (r .configuration)) (configuredReport T (r .configuration)) ≡ false
-  -- it reaches the form, whose own node breaks its rule there, with all nodes below keeping theirs
-  pub reaches : reached T (r .configuration) (r .place) ≡ true
-  pub part : PartOf (plainQueryAt T (r .configuration) (r .place)) (configuredReport T (r .configuration))
-  pub operandsKeep : operandsPass T (r .configuration) (formAt T (r .place)) ≡ true
-  pub formBreaks : passes (configuredSchema T (r .configuration)) (plainQueryAt T (r .configuration) (r .place)) ≡ false
-  -- the form is the lowest such, and the configuration its lowest
-  pub lowerForms : (q c : ℕ) → q < r .place → reached T c q ≡ true → passes (configuredSchema T c) (plainQueryAt T c q) ≡ true
-  pub lowerConfigurations : (c : ℕ) → c < r .configuration → reached T c (r .place) ≡ true
-      → passes (configuredSchema T c) (plainQueryAt T c (r .place)) ≡ true
 
 module _ {T : Tables} (F : Formed T) where
   -- where a form fails the report breaks a rule
@@ -243,7 +263,7 @@ module _ {T : Tables} (F : Formed T) where
     reportBreaks = fails-breaks (r .configuration) (r .place) (f .inside) (f .failing);
     reaches = here;
     part = reached-part F (r .configuration) (r .place) here;
-    operandsKeep = node .0;
+    operandsKeep = operands-pass T (r .configuration) (formAt T (r .place)) .0 (node .0);
     formBreaks = node .1;
     lowerForms = λ q c l e. reached-passes F c q e (λ x k. f .lowerForms x c (omega arith) (within c q e));
     lowerConfigurations =
@@ -277,26 +297,16 @@ module _ {T : Tables} (F : Formed T) where
       back (Verdict.Refused r) e b = fault-number T r (typing-refused T r .0 e)
 
 -- what comes after typing is no typing fault
-no-fault : {v : Verdict} → Numbered 20 21 v → isTypingFault v ≡ false
+no-fault : {v : Verdict} → Numbered isLate v → isTypingFault v ≡ false
 no-fault Numbered.accepts = refl
-no-fault (Numbered.refuses {r} h) =
-    let l = leb-true 20 (r .number) (and-eq-true-iff (leb 20 (r .number)) (leb (r .number) 21) .0 h .0) in
-    ap₂ _&&_ (le-leb 15 (r .number) (omega arith)) (lt-leb (r .number) 19 l)
+no-fault (Numbered.refuses {r} h) = late-not (r .number) h .1
 
--- what a call that refuses for a typing fault names
-pub record Named (T : Tables) (call : Call) : Type 0 where
-  pub refuses : Refusal
-  pub answers : answer T call ≡ Verdict.Refused refuses
-  pub fault : TypingFault T refuses
-  pub lowestItem : First (bit (faults T (refuses .configuration) (refuses .place))) 64 (refuses .item)
-  pub breaks : Breaks T refuses
-
-module _ (T : Tables) (sound : Sound T) (call : Call) (gets : GetsAsFarAsTyping T call) where
+module _ (T : Tables) (sound : Sound T) {call : Call} (own : OwnNumbers call) (gets : GetsAsFarAsTyping T call) where
   same-fault : isTypingFault (answer T call) ≡ isTypingFault (typingCheck T)
   same-fault = ap isTypingFault (gets-answer T call gets) ∙ go (typingCheck T)
     where
-      go : (v : Verdict) → isTypingFault (orElse v (afterTyping T call)) ≡ isTypingFault v
-      go Verdict.Accepted = no-fault (after-numbered T call)
+      go : (v : Verdict) → isTypingFault (orElse v (firstOf (call .afterTyping T))) ≡ isTypingFault v
+      go Verdict.Accepted = no-fault (after-numbered T own)
       go (Verdict.Refused r) = refl
 
   -- demand 3: a call that gets as far as typing refuses for a typing fault exactly where the report breaks a plain rule at some permitted

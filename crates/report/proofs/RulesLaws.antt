@@ -1,4 +1,4 @@
--- Checking accepts exactly where document 01's rules do (specs/Rules), and the column rows are those of the rules.
+-- Checking accepts exactly where the typing rules do (specs/Rules), and the column rows are those of the rules.
 use Prim.Native.Nat.{ℕ, _^_, _<_}
 use mathlib.Core.Path.{_≡_, refl, sym, ap, ap₂, _∙_, fun-ext}
 use mathlib.Core.Bool.{Bool, true, false, cond, _&&_, _||_}
@@ -15,11 +15,11 @@ use Rattle.report.specs.Expressions.{permitted}
 use Rattle.report.specs.Typing.{taken, reached, relationSet, projectSet, names, setRule, setOf, faultsOf, faults, fails}
 use Rattle.report.specs.ColumnRows.{hasColumn, columnRows, shown}
 use Rattle.report.specs.Rules.{Rule, Rules, ruledRows}
-use Rattle.report.specs.Checks.{Call, answer, Sound}
+use Rattle.report.specs.Formed.{Formed}
+use Rattle.report.specs.Calls.{answer, Sound, checking}
 use Rattle.report.specs.declared.Query.{Query}
 use Rattle.report.specs.declared.Verdict.{Verdict}
 use Rattle.report.proofs.ValueLaws.{strong}
-use Rattle.report.proofs.Formed.{Formed}
 use Rattle.report.proofs.StepLaws.{set-in}
 use Rattle.report.proofs.SetLaws.{kept-sets}
 use Rattle.report.proofs.PassingOn.{passesTo, same-number, or-first, or-second}
@@ -116,11 +116,11 @@ module _ {T : Tables} (F : Formed T) (S : ℕ → ℕ → ℕ) (keep : (c : ℕ)
 
 module _ (T : Tables) (sound : Sound T) where
   -- where a check accepts the definition's sets keep the rules
-  pub accepted-sets : answer T (Call.check 1024) ≡ Verdict.Accepted → (c : ℕ) → permitted T c ≡ true → Rules T c (setOf T c)
+  pub accepted-sets : answer T (checking 1024) ≡ Verdict.Accepted → (c : ℕ) → permitted T c ≡ true → Rules T c (setOf T c)
   accepted-sets e c p = sets-rules (sound-formed T sound) c p (λ q h. accepted-exactly T sound .0 e c q (permitted-within T c p) h)
 
   -- of sound tables a check with 1,024 words of rows accepts exactly where at each permitted configuration there are sets that keep the rules
-  pub accepted-rules : (answer T (Call.check 1024) ≡ Verdict.Accepted) ↔ ((c : ℕ) → permitted T c ≡ true → (S : ℕ → ℕ) × Rules T c S)
+  pub accepted-rules : (answer T (checking 1024) ≡ Verdict.Accepted) ↔ ((c : ℕ) → permitted T c ≡ true → (S : ℕ → ℕ) × Rules T c S)
   accepted-rules = (
     λ e c p. (setOf T c, accepted-sets e c p),
     λ f. accepted-exactly T sound .1

@@ -1,4 +1,4 @@
--- Where a form keeps its rule its set is the one that document 01 gives ("Typing rules"). And sets are of attributes: they fit 64 bits.
+-- Where a form keeps its rule its set is the one of docs/FORMAT.md, "Typing rules". And sets are of attributes: they fit 64 bits.
 use Prim.Native.Nat.{ℕ, zero, suc, _+_, _^_, _<_, _≤_}
 use mathlib.Core.Path.{_≡_, refl, ap, _∙_}
 use mathlib.Core.Bool.{Bool, true, false, cond}
@@ -13,11 +13,10 @@ use Rattle.report.specs.Tables.{Tables, entryExpression, comparison, que
 use Rattle.report.specs.Tables.{expressionCount, entryCount, comparisonCount, queryCount}
 use Rattle.report.specs.Typing.{at, listed, present, relationSet, projectSet, namesOf, names, setRule, setOf, faultsOf, faults}
 use Rattle.report.specs.Rules.{Rule}
+use Rattle.report.specs.Formed.{Formed, ComparisonLower, QueryLower}
 use Rattle.report.specs.declared.Comparison.{Comparison}
 use Rattle.report.specs.declared.Query.{Query}
 use Rattle.report.proofs.ValueLaws.{strong}
-use Rattle.report.proofs.Formed.{Formed}
-use Rattle.report.proofs.FormFacts.{ComparisonLower, QueryLower}
 use Rattle.report.proofs.FormedFacts.{comparison-at, query-at, entry-attribute, relation-list, counts}
 use Rattle.report.proofs.StepLaws.{taken-below, names-in, set-in}
 

@@ -7,17 +7,18 @@ use lib.Dec.{eqb}
 use lib.Bits.{bitAnd, bitOr}
 use Rattle.report.specs.Tables.{Tables, expression, comparison, query, projectStart}
 use Rattle.report.specs.Tables.{expressionCount, comparisonCount, queryCount}
+use Rattle.report.specs.Operands.{comparisonOperands, queryOperands}
 use Rattle.report.specs.Expressions.{truthOf, holds}
-use Rattle.report.specs.Typing.{at, passesOn, leads, projectSet, namesOf, names, setRule, setOf}
-use Rattle.report.specs.Configuring.{comparisonTargetOf, comparisonTarget, queryTargetOf, queryTarget}
+use Rattle.report.specs.Typing.{at, onward, passesOn, leads, projectSet, namesOf, names, setRule, setOf}
+use Rattle.report.specs.Configuring.{targetOf, comparisonTarget, queryTarget}
 use Rattle.report.specs.PlainAlgebra.{PlainComparison, PlainQuery}
 use Rattle.report.specs.ConfiguredReport.{plainComparisonOf, plainComparisonAt, keptAttributes, plainQueryOf, plainQueryAt}
+use Rattle.report.specs.Formed.{Formed, ExpressionLower, OperandsBelow}
 use Rattle.report.specs.declared.Expression.{Expression}
 use Rattle.report.specs.declared.Comparison.{Comparison}
 use Rattle.report.specs.declared.Query.{Query}
+use Rattle.report.specs.declared.Operands.{Operands}
 use Rattle.report.proofs.ValueLaws.{value-step}
-use Rattle.report.proofs.Formed.{Formed}
-use Rattle.report.proofs.FormFacts.{ExpressionLower, ComparisonBelow, QueryBelow}
 use Rattle.report.proofs.FormedFacts.{expression-at, comparison-operands, query-operands}
 
 -- the alternative that a choice takes is one of two lower ones
@@ -44,7 +45,7 @@ module _ (n : ℕ) (f g : ℕ → Bool) (same : (k : ℕ) → k < n → f k ≡ 
 
 module _ (T : Tables) (c n : ℕ) where
   module _ (f g : ℕ → ℕ) (same : (k : ℕ) → k < n → f k ≡ g k) where
-    names-local : (x : Comparison) → ComparisonBelow n x → namesOf T c f x ≡ namesOf T c g x
+    names-local : (x : Comparison) → OperandsBelow n (comparisonOperands x) → namesOf T c f x ≡ namesOf T c g x
     names-local Comparison.Malformed l = refl
     names-local Comparison.Never l = refl
     names-local Comparison.Always l = refl
@@ -55,18 +56,13 @@ module _ (T : Tables) (c n : ℕ) where
     names-local (Comparison.Or a b) l = two n f g same bitOr l
     names-local (Comparison.Choice a b d) l = same _ (taken-below (at T c a) l)
 
-    comparison-target-local : (x : Comparison) → ComparisonBelow n x → comparisonTargetOf T c f n x ≡ comparisonTargetOf T c g n x
-    comparison-target-local Comparison.Malformed l = refl
-    comparison-target-local Comparison.Never l = refl
-    comparison-target-local Comparison.Always l = refl
-    comparison-target-local (Comparison.Constant o a b) l = refl
-    comparison-target-local (Comparison.Attribute o a b) l = refl
-    comparison-target-local (Comparison.Not a) l = refl
-    comparison-target-local (Comparison.And a b) l = refl
-    comparison-target-local (Comparison.Or a b) l = refl
-    comparison-target-local (Comparison.Choice a b d) l = same _ (taken-below (at T c a) l)
+    target-local : (o : Operands) → OperandsBelow n o → targetOf T c f n o ≡ targetOf T c g n o
+    target-local Operands.Nothing l = refl
+    target-local (Operands.One a) l = refl
+    target-local (Operands.Both a b) l = refl
+    target-local (Operands.Choice e a b) l = same _ (taken-below (at T c e) l)
 
-    set-local : (x : Query) → QueryBelow n x → setRule T c f n x ≡ setRule T c g n x
+    set-local : (x : Query) → OperandsBelow n (queryOperands x) → setRule T c f n x ≡ setRule T c g n x
     set-local Query.Malformed l = refl
     set-local Query.Empty l = refl
     set-local (Query.Relation a) l = refl
@@ -77,19 +73,8 @@ module _ (T : Tables) (c n : ℕ) where
     set-local (Query.Union a b) l = same a (l .0)
     set-local (Query.Intersection a b) l = same a (l .0)
 
-    query-target-local : (x : Query) → QueryBelow n x → queryTargetOf T c f n x ≡ queryTargetOf T c g n x
-    query-target-local Query.Malformed l = refl
-    query-target-local Query.Empty l = refl
-    query-target-local (Query.Relation a) l = refl
-    query-target-local (Query.Select a b) l = refl
-    query-target-local (Query.Project a b) l = refl
-    query-target-local (Query.Choice a b d) l = same _ (taken-below (at T c a) l)
-    query-target-local (Query.Product a b) l = refl
-    query-target-local (Query.Union a b) l = refl
-    query-target-local (Query.Intersection a b) l = refl
-
   module _ (f g : ℕ → PlainComparison) (same : (k : ℕ) → k < n → f k ≡ g k) where
-    plain-comparison-local : (x : Comparison) → ComparisonBelow n x → plainComparisonOf T c f x ≡ plainComparisonOf T c g x
+    plain-comparison-local : (x : Comparison) → OperandsBelow n (comparisonOperands x) → plainComparisonOf T c f x ≡ plainComparisonOf T c g x
     plain-comparison-local Comparison.Malformed l = refl
     plain-comparison-local Comparison.Never l = refl
     plain-comparison-local Comparison.Always l = refl
@@ -101,19 +86,14 @@ module _ (T : Tables) (c n : ℕ) where
     plain-comparison-local (Comparison.Choice a b d) l = same _ (taken-below (at T c a) l)
 
   module _ (f g : ℕ → Bool) (same : (k : ℕ) → k < n → f k ≡ g k) where
-    passes-local : (x : Query) → QueryBelow n x → passesOn T c f x ≡ passesOn T c g x
-    passes-local Query.Malformed l = refl
-    passes-local Query.Empty l = refl
-    passes-local (Query.Relation a) l = refl
-    passes-local (Query.Select a b) l = same b l
-    passes-local (Query.Project a b) l = same b l
-    passes-local (Query.Choice a b d) l = same _ (taken-below (at T c a) l)
-    passes-local (Query.Product a b) l = two n f g same _||_ l
-    passes-local (Query.Union a b) l = two n f g same _||_ l
-    passes-local (Query.Intersection a b) l = two n f g same _||_ l
+    onward-local : (o : Operands) → OperandsBelow n o → onward T c f o ≡ onward T c g o
+    onward-local Operands.Nothing l = refl
+    onward-local (Operands.One a) l = same a l
+    onward-local (Operands.Both a b) l = two n f g same _||_ l
+    onward-local (Operands.Choice e a b) l = same _ (taken-below (at T c e) l)
 
   module _ (f g : ℕ → PlainQuery) (same : (k : ℕ) → k < n → f k ≡ g k) where
-    plain-query-local : (x : Query) → QueryBelow n x → plainQueryOf T c f n x ≡ plainQueryOf T c g n x
+    plain-query-local : (x : Query) → OperandsBelow n (queryOperands x) → plainQueryOf T c f n x ≡ plainQueryOf T c g n x
     plain-query-local Query.Malformed l = refl
     plain-query-local Query.Empty l = refl
     plain-query-local (Query.Relation a) l = refl
@@ -133,7 +113,7 @@ unfolding holds
 holds-step n expressions c f l =
     value-step false (λ at e. truthOf c at (expression expressions e)) f (λ g h s. truth-local f g h s n c (expression expressions f) l)
 
-module _ (T : Tables) (c f : ℕ) (l : ComparisonBelow f (comparison (T .comparisons) f)) where
+module _ (T : Tables) (c f : ℕ) (l : OperandsBelow f (comparisonOperands (comparison (T .comparisons) f))) where
   -- a comparison whose operands are lower: what it names, where a reference to it leads, the plain comparison that it is
   pub names-step : names T c f ≡ namesOf T c (names T c) (comparison (T .comparisons) f)
   unfolding names
@@ -141,11 +121,11 @@ module _ (T : Tables) (c f : ℕ) (l : ComparisonBelow f (comparison (T .compari
       value-step 0 (λ named k. namesOf T c named (comparison (T .comparisons) k)) f
       (λ g h s. names-local T c f g h s (comparison (T .comparisons) f) l)
 
-  pub comparison-target-step : comparisonTarget T c f ≡ comparisonTargetOf T c (comparisonTarget T c) f (comparison (T .comparisons) f)
+  pub comparison-target-step : comparisonTarget T c f ≡ targetOf T c (comparisonTarget T c) f (comparisonOperands (comparison (T .comparisons) f))
   unfolding comparisonTarget
   comparison-target-step =
-      value-step 0 (λ target k. comparisonTargetOf T c target k (comparison (T .comparisons) k)) f
-      (λ g h s. comparison-target-local T c f g h s (comparison (T .comparisons) f) l)
+      value-step 0 (λ target k. targetOf T c target k (comparisonOperands (comparison (T .comparisons) k))) f
+      (λ g h s. target-local T c f g h s (comparisonOperands (comparison (T .comparisons) f)) l)
 
   pub plain-comparison-step : plainComparisonAt T c f ≡ plainComparisonOf T c (plainComparisonAt T c) (comparison (T .comparisons) f)
   unfolding plainComparisonAt
@@ -153,7 +133,7 @@ module _ (T : Tables) (c f : ℕ) (l : ComparisonBelow f (comparison (T .compari
       value-step PlainComparison.never (λ tree k. plainComparisonOf T c tree (comparison (T .comparisons) k)) f
       (λ g h s. plain-comparison-local T c f g h s (comparison (T .comparisons) f) l)
 
-module _ (T : Tables) (c q : ℕ) (l : QueryBelow q (query (T .queries) q)) where
+module _ (T : Tables) (c q : ℕ) (l : OperandsBelow q (queryOperands (query (T .queries) q))) where
   -- a query form whose operands are lower: its set, what it leads to, where a reference to it leads, the plain query that it is
   pub set-step : setOf T c q ≡ setRule T c (setOf T c) q (query (T .queries) q)
   unfolding setOf
@@ -165,13 +145,13 @@ module _ (T : Tables) (c q : ℕ) (l : QueryBelow q (query (T .queries) q)) wher
   unfolding leads
   leads-step x =
       value-step false (λ marked k. eqb x k || passesOn T c marked (query (T .queries) k)) q
-      (λ g h s. ap (λ (t : Bool). eqb x q || t) (passes-local T c q g h s (query (T .queries) q) l))
+      (λ g h s. ap (λ (t : Bool). eqb x q || t) (onward-local T c q g h s (queryOperands (query (T .queries) q)) l))
 
-  pub query-target-step : queryTarget T c q ≡ queryTargetOf T c (queryTarget T c) q (query (T .queries) q)
+  pub query-target-step : queryTarget T c q ≡ targetOf T c (queryTarget T c) q (queryOperands (query (T .queries) q))
   unfolding queryTarget
   query-target-step =
-      value-step 0 (λ target k. queryTargetOf T c target k (query (T .queries) k)) q
-      (λ g h s. query-target-local T c q g h s (query (T .queries) q) l)
+      value-step 0 (λ target k. targetOf T c target k (queryOperands (query (T .queries) k))) q
+      (λ g h s. target-local T c q g h s (queryOperands (query (T .queries) q)) l)
 
   pub plain-query-step : plainQueryAt T c q ≡ plainQueryOf T c (plainQueryAt T c) q (query (T .queries) q)
   unfolding plainQueryAt
@@ -191,7 +171,7 @@ module _ {T : Tables} (F : Formed T) (c : ℕ) where
     pub names-in : names T c f ≡ namesOf T c (names T c) (comparison (T .comparisons) f)
     names-in = names-step T c f (comparison-operands F f h)
 
-    pub comparison-target-in : comparisonTarget T c f ≡ comparisonTargetOf T c (comparisonTarget T c) f (comparison (T .comparisons) f)
+    pub comparison-target-in : comparisonTarget T c f ≡ targetOf T c (comparisonTarget T c) f (comparisonOperands (comparison (T .comparisons) f))
     comparison-target-in = comparison-target-step T c f (comparison-operands F f h)
 
     pub plain-comparison-in : plainComparisonAt T c f ≡ plainComparisonOf T c (plainComparisonAt T c) (comparison (T .comparisons) f)
@@ -205,7 +185,7 @@ module _ {T : Tables} (F : Formed T) (c : ℕ) where
     pub leads-in : (x : ℕ) → leads T c x q ≡ (eqb x q || passesOn T c (leads T c x) (query (T .queries) q))
     leads-in = leads-step T c q (query-operands F q h)
 
-    pub query-target-in : queryTarget T c q ≡ queryTargetOf T c (queryTarget T c) q (query (T .queries) q)
+    pub query-target-in : queryTarget T c q ≡ targetOf T c (queryTarget T c) q (queryOperands (query (T .queries) q))
     query-target-in = query-target-step T c q (query-operands F q h)
 
     pub plain-query-in : plainQueryAt T c q ≡ plainQueryOf T c (plainQueryAt T c) q (query (T .queries) q)

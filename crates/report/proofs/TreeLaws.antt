@@ -14,15 +14,16 @@ use lib.Pow.{pow-pos}
 use Rattle.sets.specs.Bits.{difference}
 use Rattle.sets.proofs.BitLaws.{or-assoc, xor-zero, subset-and}
 use Rattle.report.specs.Tables.{Tables, entryAttribute, entryExpression, comparison, queryCount, report, projectStart}
+use Rattle.report.specs.Operands.{queryOperands}
 use Rattle.report.specs.Expressions.{permitted}
 use Rattle.report.specs.Typing.{at, taken, passesOn, leads, reached, listed, present, relationSet, projectSet, namesOf, names, setRule, setOf, faultsOf, faults, fails}
 use Rattle.report.specs.PlainAlgebra.{PlainComparison, PlainQuery, named, setFrom, inSchema, attributesIn, columns, passes}
 use Rattle.report.specs.ConfiguredReport.{plainComparisonOf, plainComparisonAt, keptAttributes, plainQueryOf, plainQueryAt, configuredReport, configuredSchema}
+use Rattle.report.specs.Formed.{Formed, OperandsBelow}
+use Rattle.report.specs.TypingFaults.{PartOf}
 use Rattle.report.specs.declared.Comparison.{Comparison}
 use Rattle.report.specs.declared.Query.{Query}
 use Rattle.report.proofs.ValueLaws.{strong, value-map}
-use Rattle.report.proofs.Formed.{Formed}
-use Rattle.report.proofs.FormFacts.{QueryBelow}
 use Rattle.report.proofs.FormedFacts.{query-operands, report-in}
 use Rattle.report.proofs.StepLaws.{taken-below, set-in, plain-query-in}
 use Rattle.report.proofs.PassingOn.{passesTo, PassedTo, passed-to, to-passed, or-either}
@@ -143,7 +144,7 @@ module _ (T : Tables) (c : ℕ) where
   relation-passes true s a = refl
   relation-passes false s a = sym (ne-eqb (2 ^ a) 0 (λ e. let p = pow-pos a in omega arith))
 
-  passes-rule : (q : ℕ) (y : Query) → QueryBelow q y → Agree q
+  passes-rule : (q : ℕ) (y : Query) → OperandsBelow q (queryOperands y) → Agree q
       → passes (configuredSchema T c) (plainQueryOf T c (plainQueryAt T c) q y) ≡ (operandsPass y && eqb (faultsOf T c q y) 0)
   passes-rule q Query.Malformed l ih = refl
   passes-rule q Query.Empty l ih = refl
@@ -164,7 +165,7 @@ module _ (T : Tables) (c : ℕ) where
   relation-columns true s = refl
   relation-columns false s = refl
 
-  columns-rule : (q : ℕ) (y : Query) → QueryBelow q y → Agree q → operandsPass y ≡ true → faultsOf T c q y ≡ 0
+  columns-rule : (q : ℕ) (y : Query) → OperandsBelow q (queryOperands y) → Agree q → operandsPass y ≡ true → faultsOf T c q y ≡ 0
       → columns (configuredSchema T c) (plainQueryOf T c (plainQueryAt T c) q y) ≡ setRule T c (setOf T c) q y
   columns-rule q Query.Malformed l ih e f = refl
   columns-rule q Query.Empty l ih e f = refl
@@ -310,18 +311,6 @@ module _ {T : Tables} (F : Formed T) (c : ℕ) where
   report-columns e = passes-columns (report T) (report-in F) e
 
 -- ---- the tree of a form that c reaches is a part of the configured report
-
--- t is the tree, or a part of it
-pub data PartOf (t : PlainQuery) : PlainQuery → Type 0 where
-  whole : PartOf t t
-  ofSelect : {p : PlainComparison} {q : PlainQuery} → PartOf t q → PartOf t (PlainQuery.select p q)
-  ofProject : {l : List ℕ} {q : PlainQuery} → PartOf t q → PartOf t (PlainQuery.project l q)
-  leftOfProduct : {p q : PlainQuery} → PartOf t p → PartOf t (PlainQuery.product p q)
-  rightOfProduct : {p q : PlainQuery} → PartOf t q → PartOf t (PlainQuery.product p q)
-  leftOfUnion : {p q : PlainQuery} → PartOf t p → PartOf t (PlainQuery.union p q)
-  rightOfUnion : {p q : PlainQuery} → PartOf t q → PartOf t (PlainQuery.union p q)
-  leftOfIntersection : {p q : PlainQuery} → PartOf t p → PartOf t (PlainQuery.intersection p q)
-  rightOfIntersection : {p q : PlainQuery} → PartOf t q → PartOf t (PlainQuery.intersection p q)
 
 module _ (T : Tables) (c : ℕ) (t : PlainQuery) (z : ℕ) (part : PartOf t (plainQueryAt T c z)) where
   part-same : (b : ℕ) → eqb z b ≡ true → PartOf t (plainQueryAt T c b)

@@ -10,10 +10,10 @@ use borrow.Author.Tests.{ltb-true, eqb-true}
 use lib.ListN.{length}
 use lib.Pow.{pow-mono}
 use Rattle.sets.specs.declared.Found.{Found}
-use Rattle.sets.specs.Search.{lowest}
+use Rattle.sets.specs.Search.{lowest, First}
 use Rattle.sets.specs.Bits.{bit, lowestMember}
 use Rattle.sets.specs.Rows.{rowOf, rowBit, rowIn}
-use Rattle.sets.proofs.SearchLaws.{First, lowest-nothing, nothing-lowest, lowest-at, at-lowest}
+use Rattle.sets.proofs.SearchLaws.{lowest-nothing, nothing-lowest, lowest-at, at-lowest}
 use Rattle.sets.proofs.BitLaws.{bit-none, bit-pow, bitsOf-is, bitsOf-none, trailing-first, trailing-member}
 use Rattle.sets.proofs.ListLaws.{concat-length}
 use Rattle.sets.proofs.RowLaws.{rowIn-concat, rowBit-rowOf, rowOf-row}
@@ -26,11 +26,12 @@ use Rattle.report.specs.Rules.{Rule}
 use Rattle.report.specs.ConfiguredReport.{configuredReport, configuredSchema}
 use Rattle.report.specs.Verdicts.{refusal, refuseAt}
 use Rattle.report.specs.Checks.{ruleNumber, typingAt, typingCheck, isTypingFault}
+use Rattle.report.specs.Formed.{Formed}
+use Rattle.report.specs.TypingFaults.{TypingFault}
 use Rattle.report.specs.declared.Query.{Query}
 use Rattle.report.specs.declared.Refusal.{Refusal}
 use Rattle.report.specs.declared.Verdict.{Verdict}
 use Rattle.report.proofs.VerdictLaws.{accepted-not-refused, at-accepted, first-accepted, accepted-first, refused-first, first-refused}
-use Rattle.report.proofs.Formed.{Formed}
 use Rattle.report.proofs.FormedFacts.{report-in}
 use Rattle.report.proofs.SetLaws.{kept-sets, set-narrow, narrow-word, faults-narrow}
 use Rattle.report.proofs.LeadLaws.{formAt}
@@ -77,7 +78,7 @@ module _ {T : Tables} (F : Formed T) where
         (λ c q h l. keeps-where T c q .1 (λ r. let p = reached-permitted T c q r in keeps-where T c q .0 (report-passes F c p .0 (f c p) q l) r)),
   )
 
-  -- then every form keeps its rule wherever it is reached, and has the set that document 01 gives it
+  -- then every form keeps its rule wherever it is reached, and has the set that the typing rules give it
   pub typing-keeps : typingCheck T ≡ Verdict.Accepted → (c q : ℕ) → reached T c q ≡ true → Rule T c (setOf T c) q (formAt T q)
   typing-keeps e c q r =
       let p = reached-permitted T c q r in
@@ -85,16 +86,6 @@ module _ {T : Tables} (F : Formed T) where
       kept-sets F c q h (keeps-where T c q .0 (typing-accepted T .0 e c q (permitted-within T c p) h) r)
 
 -- ---- what it names where it refuses
-
--- the refusal of the lowest form that fails at any configuration, at its lowest failing configuration, with the lowest item at fault there
-pub record TypingFault (T : Tables) (r : Refusal) : Type 0 where
-  pub inside : r .place < queryCount T
-  pub permits : permitted T (r .configuration) ≡ true
-  pub failing : fails T (r .configuration) (r .place) ≡ true
-  pub numbered : r .number ≡ ruleNumber (formAt T (r .place))
-  pub itemOf : r .item ≡ lowestMember (faults T (r .configuration) (r .place))
-  pub lowerForms : (q c : ℕ) → q < r .place → c < configurations T → fails T c q ≡ false
-  pub lowerConfigurations : (c : ℕ) → c < r .configuration → fails T c (r .place) ≡ false
 
 module _ (T : Tables) where
   -- what is told of form q at configuration c

@@ -1,30 +1,32 @@
 -- The tables that configuring writes are, as a tree, the configured report with its relations renumbered, under the configured schema renumbered
--- (document 01, "Configuring"). Nothing here asks that the report passes, only that every relation that c reaches is present.
+-- (docs/FORMAT.md, "Configuring"). Nothing here asks that the report passes, only that every relation that c reaches is present.
 use Prim.Native.Nat.{ℕ, _<_, _≤_}
 use mathlib.Core.Path.{_≡_, refl, sym, ap, ap₂, _∙_}
 use mathlib.Core.Bool.{Bool, true, false, _&&_, _||_, false≢true}
-use mathlib.Core.Option.{none}
 use native.Mathlib.Omega.{arith}
 use lib.Dec.{eqb}
 use lib.Bits.{bitAnd, bitOr}
 use Rattle.sets.specs.Search.{countBelow}
-use Rattle.sets.proofs.SearchLaws.{Nth, count-lt}
+use Rattle.sets.specs.Bits.{subset}
+use Rattle.sets.proofs.SearchLaws.{count-lt}
 use Rattle.report.specs.Tables.{Tables, relationCount, queryCount, projectStart, report}
 use Rattle.report.specs.Expressions.{permitted}
 use Rattle.report.specs.Typing.{at, taken, present, reached}
-use Rattle.report.specs.FormChecks.{isOperand, formCheck}
-use Rattle.report.specs.Configuring.{isQueryChoice, queryKept, newRelation, newQuery, configured}
-use Rattle.report.specs.PlainAlgebra.{PlainQuery, Schema, named, setFrom, inSchema, attributesIn, subset, columns, passes}
+use Rattle.report.specs.Formed.{Formed, QueryLower}
+use Rattle.report.specs.Operands.{queryOperands, isChoice}
+use Rattle.report.specs.FormChecks.{isOperand}
+use Rattle.report.specs.Configuring.{queryKept, newRelation, newQuery, configured}
+use Rattle.report.specs.PlainAlgebra.{PlainQuery, Schema, named, setFrom, inSchema, attributesIn, columns, passes}
 use Rattle.report.specs.ConfiguredReport.{plainQueryOf, plainQueryAt, configuredReport, configuredSchema}
+use Rattle.report.specs.WrittenTables.{renamed, WrittenTables}
 use Rattle.report.specs.declared.Query.{Query}
-use Rattle.report.specs.declared.Verdict.{Verdict}
 use Rattle.report.proofs.ValueLaws.{strong}
-use Rattle.report.proofs.Formed.{Formed, formed-accepted}
-use Rattle.report.proofs.FormFacts.{QueryLower}
+use Rattle.report.proofs.Formed.{formed-accepted}
 use Rattle.report.proofs.FormedFacts.{query-at, operand-lower, report-in}
 use Rattle.report.proofs.StepLaws.{plain-query-in}
-use Rattle.report.proofs.PassingOn.{View, choice, plain, view, or-first, or-second, same-number}
-use Rattle.report.proofs.LeadLaws.{formAt, passed-lower, target-plain, target-choice, alternative-passed}
+use Rattle.report.proofs.OperandLaws.{View, choice, plain, view, choice-query}
+use Rattle.report.proofs.PassingOn.{or-first, or-second, same-number}
+use Rattle.report.proofs.LeadLaws.{formAt, operandsAt, passed-lower, target-plain, target-choice, alternative-passed}
 use Rattle.report.proofs.ReachLaws.{both-kept, reached-report, reached-next, operand-reached, kept-count}
 use Rattle.report.proofs.CarriedLists.{carried-attributes}
 use Rattle.report.proofs.WrittenComparisons.{plain-comparison-same}
@@ -33,15 +35,6 @@ use Rattle.report.proofs.WrittenQueries.{renumberedQuery, queries-count
 use Rattle.report.proofs.WrittenFormed.{RelationsPresent, written-formed}
 
 -- ---- a tree with other numbers for its relations
-
-abbrev pub renamed : (ℕ → ℕ) → PlainQuery → PlainQuery
-renamed f PlainQuery.empty = PlainQuery.empty
-renamed f (PlainQuery.relation r) = PlainQuery.relation (f r)
-renamed f (PlainQuery.select t q) = PlainQuery.select t (renamed f q)
-renamed f (PlainQuery.project l q) = PlainQuery.project l (renamed f q)
-renamed f (PlainQuery.product p q) = PlainQuery.product (renamed f p) (renamed f q)
-renamed f (PlainQuery.union p q) = PlainQuery.union (renamed f p) (renamed f q)
-renamed f (PlainQuery.intersection p q) = PlainQuery.intersection (renamed f p) (renamed f q)
 
 module _ (old new : Schema) (f : ℕ → ℕ) where
   -- each relation of a tree is under its new number what it was
@@ -103,7 +96,7 @@ module _ {T : Tables} (F : Formed T) (c : ℕ) (ok : permitted T c ≡ true) (P 
   both a b ih = (ih a (or-first _ _ (same-number a)), ih b (or-second (eqb b a) _ (same-number b)))
 
   -- a plain form, from its operands
-  plain-same : (q : ℕ) → q < queryCount T → queryKept T c q ≡ true → reached T c q ≡ true → (y : Query) → formAt T q ≡ y → isQueryChoice T c y ≡ false
+  plain-same : (q : ℕ) → q < queryCount T → queryKept T c q ≡ true → reached T c q ≡ true → (y : Query) → formAt T q ≡ y → isChoice (queryOperands y) ≡ false
       → QueryLower T q y → ((x : ℕ) → isOperand x y ≡ true → Same x)
       → Renumbered T c (plainQueryOf (configured T c) 0 (plainQueryAt (configured T c) 0) (countBelow (queryKept T c) q) (renumberedQuery T c q y))
       (plainQueryOf T c (plainQueryAt T c) q y)
@@ -135,10 +128,10 @@ module _ {T : Tables} (F : Formed T) (c : ℕ) (ok : permitted T c ≡ true) (P 
   -- the tree that a reached reference leads to is the one that it was, its relations renumbered
   pub tree-same : (q : ℕ) → q < queryCount T → reached T c q ≡ true
       → Renumbered T c (plainQueryAt (configured T c) 0 (newQuery T c q)) (plainQueryAt T c q)
-  tree-same = strong (λ q. q < queryCount T → reached T c q ≡ true → Same q) (λ q ih h r. go q ih h r (view T c (formAt T q)))
+  tree-same = strong (λ q. q < queryCount T → reached T c q ≡ true → Same q) (λ q ih h r. go q ih h r (view (operandsAt T q)))
     where
       go : (q : ℕ) → ((k : ℕ) → k < q → k < queryCount T → reached T c k ≡ true → Same k) → q < queryCount T → reached T c q ≡ true
-          → View T c (formAt T q) → Same q
+          → View (operandsAt T q) → Same q
       go q ih h r (plain v) =
           let k = both-kept T c q r v in
           rw (target-plain F c q h v, written-step q h k, plain-query-in F c q h)
@@ -148,7 +141,7 @@ module _ {T : Tables} (F : Formed T) (c : ℕ) (ok : permitted T c ≡ true) (P 
           let z = taken T c a b d in
           let p = alternative-passed F c q a b d h e in
           let l = passed-lower F c z q h p in
-          rw (target-choice F c q a b d h e, plain-query-in F c q h ∙ ap (plainQueryOf T c (plainQueryAt T c) q) e)
+          rw (target-choice F c q a b d h e, plain-query-in F c q h ∙ ap (plainQueryOf T c (plainQueryAt T c) q) (choice-query (formAt T q) e))
           (ih z l (omega arith) (reached-next F c ok z q r p))
 
   -- ---- of the report
@@ -177,24 +170,8 @@ module _ {T : Tables} (F : Formed T) (c : ℕ) (ok : permitted T c ≡ true) (P 
       ap (columns (configuredSchema (configured T c) 0)) report-written
       ∙ columns-renamed (configuredSchema T c) (configuredSchema (configured T c) 0) (newRelation T c) (configuredReport T c) (report-same .agree)
 
--- what the tables written at c are
-pub record Written (T : Tables) (c : ℕ) : Type 0 where
-  -- well formed: checks 1 to 10 accept them
-  pub formed : Formed (configured T c)
-  pub accepted : formCheck (configured T c) ≡ Verdict.Accepted
-  -- as a tree, the configured report with its relations renumbered
-  pub tree : plainQueryAt (configured T c) 0 (report (configured T c)) ≡ renamed (newRelation T c) (configuredReport T c)
-  -- their schema is the configured schema, renumbered
-  pub schema : (r : ℕ) → present T c r ≡ true → configuredSchema (configured T c) 0 (newRelation T c r) ≡ configuredSchema T c r
-  pub schemaEnd : (k : ℕ) → relationCount (configured T c) ≤ k → configuredSchema (configured T c) 0 k ≡ none
-  -- the new numbers are those of the present relations in order, and there are no others
-  pub inOrder : (r s : ℕ) → r < s → present T c r ≡ true → newRelation T c r < newRelation T c s
-  pub numbered : (r : ℕ) → present T c r ≡ true → newRelation T c r < relationCount (configured T c)
-  pub onto : (k : ℕ) → k < relationCount (configured T c) → Nth (present T c) (relationCount T) k
-
-pub tables-written : {T : Tables} → Formed T → (c : ℕ) → permitted T c ≡ true → RelationsPresent T c → Written T c
+pub tables-written : {T : Tables} → Formed T → (c : ℕ) → permitted T c ≡ true → RelationsPresent T c → WrittenTables T c
 tables-written {T} F c ok P = record {
-  formed = written-formed F c ok P;
   accepted = formed-accepted (configured T c) (written-formed F c ok P);
   tree = report-written F c ok P;
   schema = schema-written F c;

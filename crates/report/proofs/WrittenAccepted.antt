@@ -1,5 +1,4 @@
--- The tables that configuring writes for an accepted report are accepted, and show at 0 what the report shows at c (document 01, "Configuring";
--- referee's D9).
+-- The tables that configuring writes for an accepted report are accepted, and show at 0 what the report shows at c (docs/FORMAT.md, "Configuring").
 use Prim.Native.Nat.{ℕ, zero, suc, _<_, _≤_}
 use mathlib.Core.Path.{_≡_, refl, sym, ap, ap₂, _∙_}
 use mathlib.Core.Logic.{_≢_}
@@ -20,22 +19,25 @@ use Rattle.report.specs.ColumnRows.{hasColumn, columnRows, shown}
 use Rattle.report.specs.Configuring.{configured}
 use Rattle.report.specs.PlainAlgebra.{columns, passes}
 use Rattle.report.specs.ConfiguredReport.{configuredReport, configuredSchema}
-use Rattle.report.specs.Verdicts.{refusal, refuseAt}
-use Rattle.report.specs.Checks.{somewhere, relationCheck, apartEverywhere, typingCheck, roomCheck}
-use Rattle.report.specs.Checks.{Call, modelAndSchemaCheck, beforeTyping, answer, Sound}
+use Rattle.report.specs.Formed.{Formed}
+use Rattle.report.specs.Verdicts.{refusal, refuseAt, firstOf}
+use Rattle.report.specs.Checks.{somewhere, relationCheck, apartEverywhere, modelAndSchemaCheck, typingCheck}
+use Rattle.report.specs.Calls.{Call, answer, Sound, GetsAsFarAsTyping, checking, configuring}
+use Rattle.report.specs.WrittenTables.{WrittenTables, WrittenAccepted}
 use Rattle.report.specs.declared.Verdict.{Verdict}
 use Rattle.report.proofs.VerdictLaws.{both-accepted, accepted-both, accepted-if, accepted-first}
-use Rattle.report.proofs.Formed.{Formed}
+use Rattle.report.proofs.FirstFault.{sound-accepted, first-own, room-fits}
+use Rattle.report.proofs.Formed.{formed}
 use Rattle.report.proofs.FormedFacts.{report-in}
 use Rattle.report.proofs.SetLaws.{kept-sets}
 use Rattle.report.proofs.TreeLaws.{passes-clean, report-columns}
 use Rattle.report.proofs.TypingLaws.{typing-passes, shown-nothing, shown-columns}
-use Rattle.report.proofs.Refusing.{sound-formed, sound-check, gets-sound}
+use Rattle.report.proofs.Refusing.{sound-formed, gets-sound, gets-answer, configure-gets, check-typing}
 use Rattle.report.proofs.ReachLaws.{reached-leads, reached-in}
 use Rattle.report.proofs.WrittenEntries.{entry-holds, relation-holds}
 use Rattle.report.proofs.WrittenQueries.{entries-room, relations-room, comparisons-room, queries-room}
 use Rattle.report.proofs.WrittenFormed.{RelationsPresent}
-use Rattle.report.proofs.Written.{Written, tables-written, passes-written, columns-written}
+use Rattle.report.proofs.Written.{tables-written, passes-written, columns-written}
 
 -- where the configured report passes, every relation that c reaches is present
 pub passes-present : {T : Tables} → Formed T → (c : ℕ) → permitted T c ≡ true → passes (configuredSchema T c) (configuredReport T c) ≡ true
@@ -86,13 +88,15 @@ module _ {T : Tables} (F : Formed T) (c : ℕ) where
       (accepted-first (relationCheck (configured T c)) (relationCount (configured T c)) 0 (λ r l h. relation-accepted r (omega arith)))
 
   module _ (ok : permitted T c ≡ true) (good : passes (configuredSchema T c) (configuredReport T c) ≡ true) where
-    -- they are what Written says
-    pub passes-writes : Written T c
+    pub passes-writes : WrittenTables T c
     passes-writes = tables-written F c ok (passes-present F c ok good)
+
+    written-formed : Formed (configured T c)
+    written-formed = formed (configured T c) (passes-writes .accepted)
 
     -- "sound in form and schema"
     pub written-sound : Sound (configured T c)
-    written-sound = accepted-both (passes-writes .accepted) schema-accepted
+    written-sound = sound-accepted (configured T c) .1 (accepted-both (passes-writes .accepted) schema-accepted)
 
     -- the report of the tables written passes at 0, their one configuration
     written-passes : (d : ℕ) → permitted (configured T c) d ≡ true
@@ -101,16 +105,13 @@ module _ {T : Tables} (F : Formed T) (c : ℕ) where
     written-passes (suc d) p = absurd (false≢true (sym (only-zero T c (suc d) (omega arith)) ∙ p))
 
     -- given to the checker, they are accepted
-    pub written-checked : answer (configured T c) (Call.check 1024) ≡ Verdict.Accepted
-    unfolding answer
-    written-checked =
-        accepted-both (sound-check (configured T c) .1 written-sound)
-        (accepted-both (typing-passes (passes-writes .formed) .1 written-passes) refl)
+    pub written-checked : answer (configured T c) (checking 1024) ≡ Verdict.Accepted
+    written-checked = check-typing (configured T c) written-sound ∙ typing-passes written-formed .1 written-passes
 
     -- the report has at 0 the set that it had at c
     pub written-set : setOf (configured T c) 0 (report (configured T c)) ≡ setOf T c (report T)
     written-set =
-        sym (report-columns (passes-writes .formed) 0 (written-passes 0 (zero-permitted T c)))
+        sym (report-columns written-formed 0 (written-passes 0 (zero-permitted T c)))
         ∙ columns-written F c ok (passes-present F c ok good)
         ∙ report-columns F c good
 
@@ -123,43 +124,40 @@ module _ {T : Tables} (F : Formed T) (c : ℕ) where
 
     -- what they show
     pub written-shown : shown (columnRows (configured T c)) 0 ≡ shown (columnRows T) c
-    written-shown = shown-columns (passes-writes .formed) 0 (zero-permitted T c) ∙ written-set ∙ sym (shown-columns F c ok)
+    written-shown = shown-columns written-formed 0 (zero-permitted T c) ∙ written-set ∙ sym (shown-columns F c ok)
 
     pub nothing-shown : (d : ℕ) → d ≢ 0 → d < 1024 → shown (columnRows (configured T c)) d ≡ 0
     nothing-shown d n h = shown-nothing (configured T c) d h (only-zero T c d n)
 
 -- ---- an accepted report
 
--- what is written of an accepted report at c
-pub record WrittenAccepted (T : Tables) (c : ℕ) : Type 0 where
-  pub writes : Written T c
-  pub sound : Sound (configured T c)
-  pub checked : answer (configured T c) (Call.check 1024) ≡ Verdict.Accepted
-  pub column : (a : ℕ) → hasColumn (configured T c) a 0 ≡ hasColumn T a c
-  pub noOther : (a d : ℕ) → d ≢ 0 → hasColumn (configured T c) a d ≡ false
-  pub shows : shown (columnRows (configured T c)) 0 ≡ shown (columnRows T) c
-  pub showsNothing : (d : ℕ) → d ≢ 0 → d < 1024 → shown (columnRows (configured T c)) d ≡ 0
-  -- no table is longer than its source, so that what check 21 asks for is room enough
-  pub room1 : length (configured T c .entries) ≤ length (T .entries)
-  pub room2 : length (configured T c .relations) ≤ length (T .relations)
-  pub room3 : length (configured T c .comparisons) ≤ length (T .comparisons)
-  pub room4 : length (configured T c .queries) ≤ length (T .queries)
-
-module _ (T : Tables) (room : ℕ) (e : answer T (Call.check room) ≡ Verdict.Accepted) where
-  -- an accepted check has accepted 1 to 10, 12 to 14, and 15 to 19
-  before : beforeTyping T (Call.check room) ≡ Verdict.Accepted
+-- a call that accepts has accepted 1 to 10, 12 to 14, and 15 to 19, and none of its own conditions holds
+module _ (T : Tables) (call : Call) (e : answer T call ≡ Verdict.Accepted) where
+  gets : GetsAsFarAsTyping T call
   unfolding answer
-  before = both-accepted _ _ e .0
+  gets = both-accepted _ _ e .0
 
+  pub called-sound : Sound T
+  called-sound = gets-sound T call gets
+
+  after : (typingCheck T ≡ Verdict.Accepted) × (firstOf (call .afterTyping T) ≡ Verdict.Accepted)
+  after = both-accepted (typingCheck T) (firstOf (call .afterTyping T)) (sym (gets-answer T call gets) ∙ e)
+
+  pub called-typed : typingCheck T ≡ Verdict.Accepted
+  called-typed = after .0
+
+  pub called-own : firstOf (call .afterTyping T) ≡ Verdict.Accepted
+  called-own = after .1
+
+module _ (T : Tables) (room : ℕ) (e : answer T (checking room) ≡ Verdict.Accepted) where
   pub checked-sound : Sound T
-  checked-sound = gets-sound T (Call.check room) before
+  checked-sound = called-sound T (checking room) e
 
   pub checked-formed : Formed T
   checked-formed = sound-formed T checked-sound
 
-  pub checked-typed : typingCheck T ≡ Verdict.Accepted
-  unfolding answer
-  checked-typed = both-accepted (typingCheck T) _ (both-accepted (beforeTyping T (Call.check room)) _ e .1) .0
+  checked-typed : typingCheck T ≡ Verdict.Accepted
+  checked-typed = called-typed T (checking room) e
 
   module _ (c : ℕ) (ok : permitted T c ≡ true) where
     -- the configured report passes at every permitted configuration
@@ -186,23 +184,12 @@ module _ (T : Tables) (room : ℕ) (e : answer T (Call.check room) ≡ Verdict.A
       room4 = queries-room checked-formed c;
     }
 
-    room-accepted : (r1 r2 r3 r4 : ℕ) → length (T .entries) ≤ r1 → length (T .relations) ≤ r2 → length (T .comparisons) ≤ r3
-        → length (T .queries) ≤ r4
-        → roomCheck T (0 ∷ r1 ∷ r2 ∷ r3 ∷ r4 ∷ []) ≡ Verdict.Accepted
-    room-accepted r1 r2 r3 r4 h1 h2 h3 h4 = ap (refuseAt (λ t. refusal 21 t 0 0)) (nothing-seek _ 4 1 fits)
-      where
-        fits : (t : ℕ) → 1 ≤ t → t < 5 → ltb (getD (0 ∷ r1 ∷ r2 ∷ r3 ∷ r4 ∷ []) t 0) (length (getD (words T) t [])) ≡ false
-        fits zero l h = absurd (omega arith)
-        fits (suc zero) l h = le-ltb r1 (length (T .entries)) h1
-        fits (suc (suc zero)) l h = le-ltb r2 (length (T .relations)) h2
-        fits (suc (suc (suc zero))) l h = le-ltb r3 (length (T .comparisons)) h3
-        fits (suc (suc (suc (suc zero)))) l h = le-ltb r4 (length (T .queries)) h4
-        fits (suc (suc (suc (suc (suc t))))) l h = absurd (omega arith)
-
     -- and configuring accepts it there, if each table lent for writing is as long as its source
     pub configure-accepted : (r1 r2 r3 r4 : ℕ) → length (T .entries) ≤ r1 → length (T .relations) ≤ r2 → length (T .comparisons) ≤ r3
-        → length (T .queries) ≤ r4 → answer T (Call.configure c r1 r2 r3 r4) ≡ Verdict.Accepted
-    unfolding answer
+        → length (T .queries) ≤ r4 → answer T (configuring c r1 r2 r3 r4) ≡ Verdict.Accepted
     configure-accepted r1 r2 r3 r4 h1 h2 h3 h4 =
-        accepted-both checked-sound
-        (accepted-both checked-typed (accepted-both (accepted-if _ (ap not ok)) (room-accepted r1 r2 r3 r4 h1 h2 h3 h4)))
+        gets-answer T (configuring c r1 r2 r3 r4) (configure-gets T checked-sound c r1 r2 r3 r4)
+        ∙ accepted-both checked-typed
+        (first-own T c r1 r2 r3 r4
+        ∙ accepted-both (accepted-if _ (ap not ok))
+        (room-fits T r1 r2 r3 r4 .1 (h1, h2, h3, h4)))

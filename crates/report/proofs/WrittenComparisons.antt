@@ -5,88 +5,53 @@ use mathlib.Core.Bool.{true, false, not, false≢true}
 use mathlib.Core.List.{List}
 use native.Mathlib.Nat.{le-refl, zero-lt-suc}
 use native.Mathlib.Omega.{arith}
+use borrow.Author.Tests.{not-true}
 use lib.ListN.{length, getD}
 use lib.Dec.{lit<}
 use Rattle.sets.specs.Search.{countBelow}
 use Rattle.sets.proofs.SearchLaws.{nth, count-lt}
 use Rattle.report.specs.Tables.{Tables, word, comparisonOf, comparison, comparisonCount, expressionCount}
+use Rattle.report.specs.Operands.{comparisonOperands, isChoice}
 use Rattle.report.specs.Typing.{at, taken}
-use Rattle.report.specs.Configuring.{comparisonTargetOf, comparisonTarget, isComparisonChoice, comparisonKept, newComparison}
-use Rattle.report.specs.Configuring.{comparisonFormOf, configured}
+use Rattle.report.specs.Configuring.{targetOf, comparisonTarget, comparisonKept, newComparison, comparisonFormOf, configured}
 use Rattle.report.specs.PlainAlgebra.{PlainComparison}
 use Rattle.report.specs.ConfiguredReport.{plainComparisonOf, plainComparisonAt}
 use Rattle.report.specs.FormChecks.{comparisonOk}
+use Rattle.report.specs.Formed.{Formed, ComparisonLower, OperandsBelow}
 use Rattle.report.specs.declared.Comparison.{Comparison}
+use Rattle.report.specs.declared.Operands.{Operands}
 use Rattle.report.proofs.ValueLaws.{strong}
-use Rattle.report.proofs.Formed.{Formed}
-use Rattle.report.proofs.FormFacts.{ComparisonLower, ComparisonBelow, comparison-below}
+use Rattle.report.proofs.FormFacts.{comparison-below}
 use Rattle.report.proofs.FitLaws.{comparison-fits}
 use Rattle.report.proofs.FormedFacts.{comparison-at, comparison-operands}
 use Rattle.report.proofs.KeptForms.{forms-length, forms-count, first-word, form-word}
+use Rattle.report.proofs.OperandLaws.{View, choice, plain, view, plain-target, choice-comparison}
 use Rattle.report.proofs.StepLaws.{taken-below, comparison-target-in, plain-comparison-in, plain-comparison-step}
 
 -- ---- one comparison
 
+-- the operands of comparison f
+abbrev operandsAt : Tables → ℕ → Operands
+operandsAt T f = comparisonOperands (comparison (T .comparisons) f)
+
 module _ (T : Tables) (c : ℕ) where
-  -- a comparison is a choice, or plain
-  data View (x : Comparison) : Type 0 where
-    choice : (a b d : ℕ) → x ≡ Comparison.Choice a b d → View x
-    plain : not (isComparisonChoice T c x) ≡ true → View x
-
-  view : (x : Comparison) → View x
-  view Comparison.Malformed = plain refl
-  view Comparison.Never = plain refl
-  view Comparison.Always = plain refl
-  view (Comparison.Constant o a b) = plain refl
-  view (Comparison.Attribute o a b) = plain refl
-  view (Comparison.Not a) = plain refl
-  view (Comparison.And a b) = plain refl
-  view (Comparison.Or a b) = plain refl
-  view (Comparison.Choice a b d) = choice a b d refl
-
-  -- a reference to a plain one stays
-  plain-target : (target : ℕ → ℕ) (f : ℕ) (x : Comparison) → not (isComparisonChoice T c x) ≡ true → comparisonTargetOf T c target f x ≡ f
-  plain-target target f Comparison.Malformed p = refl
-  plain-target target f Comparison.Never p = refl
-  plain-target target f Comparison.Always p = refl
-  plain-target target f (Comparison.Constant o a b) p = refl
-  plain-target target f (Comparison.Attribute o a b) p = refl
-  plain-target target f (Comparison.Not a) p = refl
-  plain-target target f (Comparison.And a b) p = refl
-  plain-target target f (Comparison.Or a b) p = refl
-  plain-target target f (Comparison.Choice a b d) p = absurd (false≢true p)
-
-  -- a plain comparison, its operands renumbered
+  -- what the words written for a comparison say: of a plain one that comparison, its operands renumbered. (Of a choice there are none to read.)
   abbrev pub renumberedComparison : Comparison → Comparison
-  renumberedComparison Comparison.Malformed = Comparison.Malformed
-  renumberedComparison Comparison.Never = Comparison.Never
-  renumberedComparison Comparison.Always = Comparison.Always
-  renumberedComparison (Comparison.Constant o a b) = Comparison.Constant o a b
-  renumberedComparison (Comparison.Attribute o a b) = Comparison.Attribute o a b
-  renumberedComparison (Comparison.Not a) = Comparison.Not (newComparison T c a)
-  renumberedComparison (Comparison.And a b) = Comparison.And (newComparison T c a) (newComparison T c b)
-  renumberedComparison (Comparison.Or a b) = Comparison.Or (newComparison T c a) (newComparison T c b)
-  renumberedComparison (Comparison.Choice a b d) = Comparison.Malformed
+  renumberedComparison x =
+      comparisonOf (getD (comparisonFormOf T c x) 0 0) (getD (comparisonFormOf T c x) 1 0) (getD (comparisonFormOf T c x) 2 0)
+      (getD (comparisonFormOf T c x) 3 0) (getD (comparisonFormOf T c x) 4 0)
 
-  -- the words of a form, and what they say
-  abbrev readComparison : List ℕ → Comparison
-  readComparison l = comparisonOf (getD l 0 0) (getD l 1 0) (getD l 2 0) (getD l 3 0) (getD l 4 0)
-
-  -- the words written for a plain one that stands in the table: five, and they say it with its operands renumbered
-  record Form (x : Comparison) : Type 0 where
-    wide : length (comparisonFormOf T c x) ≡ 5
-    says : readComparison (comparisonFormOf T c x) ≡ renumberedComparison x
-
-  form : (m e f : ℕ) (x : Comparison) → ComparisonLower m e f x → not (isComparisonChoice T c x) ≡ true → Form x
-  form m e f Comparison.Malformed l p = absurd l
-  form m e f Comparison.Never l p = record { wide = refl; says = refl }
-  form m e f Comparison.Always l p = record { wide = refl; says = refl }
-  form m e f (Comparison.Constant o a b) l p = record { wide = refl; says = refl }
-  form m e f (Comparison.Attribute o a b) l p = record { wide = refl; says = refl }
-  form m e f (Comparison.Not a) l p = record { wide = refl; says = refl }
-  form m e f (Comparison.And a b) l p = record { wide = refl; says = refl }
-  form m e f (Comparison.Or a b) l p = record { wide = refl; says = refl }
-  form m e f (Comparison.Choice a b d) l p = absurd (false≢true p)
+  -- for a plain one that stands in the table they are five
+  five-words : (m e f : ℕ) (x : Comparison) → ComparisonLower m e f x → isChoice (comparisonOperands x) ≡ false → length (comparisonFormOf T c x) ≡ 5
+  five-words m e f Comparison.Malformed l p = absurd l
+  five-words m e f Comparison.Never l p = refl
+  five-words m e f Comparison.Always l p = refl
+  five-words m e f (Comparison.Constant o a b) l p = refl
+  five-words m e f (Comparison.Attribute o a b) l p = refl
+  five-words m e f (Comparison.Not a) l p = refl
+  five-words m e f (Comparison.And a b) l p = refl
+  five-words m e f (Comparison.Or a b) l p = refl
+  five-words m e f (Comparison.Choice a b d) l p = absurd (false≢true (sym p))
 
   -- a reference to f leads to a plain one, no higher
   record Lead (f t : ℕ) : Type 0 where
@@ -99,22 +64,21 @@ module _ {T : Tables} (F : Formed T) (c : ℕ) where
   lead : (f : ℕ) → f < comparisonCount T → Lead T c f (comparisonTarget T c f)
   lead =
       strong (λ f. f < comparisonCount T → Lead T c f (comparisonTarget T c f))
-      (λ f ih h. go f ih h (comparison-operands F f h) (comparison-target-in F c f h) (view T c (comparison (T .comparisons) f)))
+      (λ f ih h. go f ih h (comparison-operands F f h) (comparison-target-in F c f h) (view (operandsAt T f)))
     where
       go : (f : ℕ) → ((k : ℕ) → k < f → k < comparisonCount T → Lead T c k (comparisonTarget T c k)) → f < comparisonCount T
-          → ComparisonBelow f (comparison (T .comparisons) f)
-          → comparisonTarget T c f ≡ comparisonTargetOf T c (comparisonTarget T c) f (comparison (T .comparisons) f)
-          → View T c (comparison (T .comparisons) f) → Lead T c f (comparisonTarget T c f)
+          → OperandsBelow f (operandsAt T f) → comparisonTarget T c f ≡ targetOf T c (comparisonTarget T c) f (operandsAt T f)
+          → View (operandsAt T f) → Lead T c f (comparisonTarget T c f)
       go f ih h b t (plain p) =
-          rw (t ∙ plain-target T c (comparisonTarget T c) f (comparison (T .comparisons) f) p) (record { low = le-refl f; isKept = p })
+          rw (t ∙ plain-target T c (comparisonTarget T c) f (operandsAt T f) p) (record { low = le-refl f; isKept = ap not p })
       go f ih h b t (choice x y z e) =
           let k = taken-below (at T c x) (rw e at b) in
           let l = ih (taken T c x y z) k (omega arith) in
-          rw (t ∙ ap (comparisonTargetOf T c (comparisonTarget T c) f) e) (record { low = let m = l .low in omega arith; isKept = l .isKept })
+          rw (t ∙ ap (targetOf T c (comparisonTarget T c) f) e) (record { low = let m = l .low in omega arith; isKept = l .isKept })
 
   -- the number of forms, and what each says
   wide : (f : ℕ) → f < comparisonCount T → comparisonKept T c f ≡ true → length (comparisonFormOf T c (comparison (T .comparisons) f)) ≡ 5
-  wide f h k = form T c _ _ f (comparison (T .comparisons) f) (comparison-at F f h) k .wide
+  wide f h k = five-words T c _ _ f (comparison (T .comparisons) f) (comparison-at F f h) (not-true _ k)
 
   -- the table written
   abbrev blockOf : ℕ → List ℕ
@@ -137,13 +101,12 @@ module _ {T : Tables} (F : Formed T) (c : ℕ) where
     unfolding configured
     kind-written = first-word (comparisonKept T c) blockOf 5 (comparisonCount T) wide (zero-lt-suc 4) f h k
 
-    -- a kept comparison is written as it was, its operands renumbered
+    -- they are what stands in the table
     pub comparison-written : comparison (configured T c .comparisons) (countBelow (comparisonKept T c) f)
         ≡ renumberedComparison T c (comparison (T .comparisons) f)
-    comparison-written =
-        (λ i. comparisonOf (kind-written i) (words-written 1 (lit< tt) i) (words-written 2 (lit< tt) i) (words-written 3 (lit< tt) i)
-        (words-written 4 (lit< tt) i))
-        ∙ form T c _ _ f (comparison (T .comparisons) f) (comparison-at F f h) k .says
+    comparison-written = λ i.
+        comparisonOf (kind-written i) (words-written 1 (lit< tt) i) (words-written 2 (lit< tt) i) (words-written 3 (lit< tt) i)
+        (words-written 4 (lit< tt) i)
 
   -- ---- new numbers
 
@@ -158,10 +121,10 @@ module _ {T : Tables} (F : Formed T) (c : ℕ) where
 
   -- ---- what is written fits
 
-  renumbered-lower : (f : ℕ) → f < comparisonCount T → (x : Comparison) → not (isComparisonChoice T c x) ≡ true
+  renumbered-lower : (f : ℕ) → f < comparisonCount T → (x : Comparison) → isChoice (comparisonOperands x) ≡ false
       → ComparisonLower (T .attributes) (expressionCount T) f x
       → ComparisonLower (T .attributes) 1 (countBelow (comparisonKept T c) f) (renumberedComparison T c x)
-  renumbered-lower f h Comparison.Malformed p l = l
+  renumbered-lower f h Comparison.Malformed p l = absurd l
   renumbered-lower f h Comparison.Never p l = tt
   renumbered-lower f h Comparison.Always p l = tt
   renumbered-lower f h (Comparison.Constant o a b) p l = l
@@ -169,16 +132,16 @@ module _ {T : Tables} (F : Formed T) (c : ℕ) where
   renumbered-lower f h (Comparison.Not a) p l = new-lower a f (omega arith) l
   renumbered-lower f h (Comparison.And a b) p l = (new-lower a f (omega arith) (l .0), new-lower b f (omega arith) (l .1))
   renumbered-lower f h (Comparison.Or a b) p l = (new-lower a f (omega arith) (l .0), new-lower b f (omega arith) (l .1))
-  renumbered-lower f h (Comparison.Choice a b d) p l = false≢true p
+  renumbered-lower f h (Comparison.Choice a b d) p l = absurd (false≢true (sym p))
 
   -- a form of the table written, by the form of the source that it was
   written-lower : (f : ℕ) → f < comparisonCount T → comparisonKept T c f ≡ true
       → ComparisonLower (T .attributes) 1 (countBelow (comparisonKept T c) f)
       (comparison (configured T c .comparisons) (countBelow (comparisonKept T c) f))
-  written-lower f h k = rw (comparison-written f h k) (renumbered-lower f h (comparison (T .comparisons) f) k (comparison-at F f h))
+  written-lower f h k = rw (comparison-written f h k) (renumbered-lower f h (comparison (T .comparisons) f) (not-true _ k) (comparison-at F f h))
 
   written-below : (f : ℕ) → f < comparisonCount T → comparisonKept T c f ≡ true
-      → ComparisonBelow (countBelow (comparisonKept T c) f) (comparison (configured T c .comparisons) (countBelow (comparisonKept T c) f))
+      → OperandsBelow (countBelow (comparisonKept T c) f) (operandsAt (configured T c) (countBelow (comparisonKept T c) f))
   written-below f h k = comparison-below (T .attributes) 1 _ (comparison (configured T c .comparisons) _) (written-lower f h k)
 
   -- check 7 of the tables written
@@ -194,7 +157,7 @@ module _ {T : Tables} (F : Formed T) (c : ℕ) where
   abbrev Same : ℕ → Type 0
   Same f = plainComparisonAt (configured T c) 0 (newComparison T c f) ≡ plainComparisonAt T c f
 
-  same-rule : (f : ℕ) (x : Comparison) → not (isComparisonChoice T c x) ≡ true → ComparisonBelow f x → ((k : ℕ) → k < f → Same k)
+  same-rule : (f : ℕ) (x : Comparison) → isChoice (comparisonOperands x) ≡ false → OperandsBelow f (comparisonOperands x) → ((k : ℕ) → k < f → Same k)
       → plainComparisonOf (configured T c) 0 (plainComparisonAt (configured T c) 0) (renumberedComparison T c x)
       ≡ plainComparisonOf T c (plainComparisonAt T c) x
   same-rule f Comparison.Malformed p l ih = refl
@@ -205,25 +168,25 @@ module _ {T : Tables} (F : Formed T) (c : ℕ) where
   same-rule f (Comparison.Not a) p l ih = ap PlainComparison.negation (ih a l)
   same-rule f (Comparison.And a b) p l ih = ap₂ PlainComparison.both (ih a (l .0)) (ih b (l .1))
   same-rule f (Comparison.Or a b) p l ih = ap₂ PlainComparison.either (ih a (l .0)) (ih b (l .1))
-  same-rule f (Comparison.Choice a b d) p l ih = absurd (false≢true p)
+  same-rule f (Comparison.Choice a b d) p l ih = absurd (false≢true (sym p))
 
   -- the plain comparison that a reference leads to is the one that it was at c
   pub plain-comparison-same : (f : ℕ) → f < comparisonCount T → plainComparisonAt (configured T c) 0 (newComparison T c f) ≡ plainComparisonAt T c f
   plain-comparison-same =
       strong (λ f. f < comparisonCount T → Same f)
-      (λ f ih h. go f ih h (view T c (comparison (T .comparisons) f)) ∙ sym (plain-comparison-in F c f h))
+      (λ f ih h. go f ih h (view (operandsAt T f)) ∙ sym (plain-comparison-in F c f h))
     where
-      go : (f : ℕ) → ((k : ℕ) → k < f → k < comparisonCount T → Same k) → f < comparisonCount T → View T c (comparison (T .comparisons) f)
+      go : (f : ℕ) → ((k : ℕ) → k < f → k < comparisonCount T → Same k) → f < comparisonCount T → View (operandsAt T f)
           → plainComparisonAt (configured T c) 0 (newComparison T c f) ≡ plainComparisonOf T c (plainComparisonAt T c) (comparison (T .comparisons) f)
       go f ih h (plain p) =
           ap (λ (t : ℕ). plainComparisonAt (configured T c) 0 (countBelow (comparisonKept T c) t))
-          (comparison-target-in F c f h ∙ plain-target T c (comparisonTarget T c) f (comparison (T .comparisons) f) p)
-          ∙ plain-comparison-step (configured T c) 0 (countBelow (comparisonKept T c) f) (written-below f h p)
-          ∙ ap (plainComparisonOf (configured T c) 0 (plainComparisonAt (configured T c) 0)) (comparison-written f h p)
+          (comparison-target-in F c f h ∙ plain-target T c (comparisonTarget T c) f (operandsAt T f) p)
+          ∙ plain-comparison-step (configured T c) 0 (countBelow (comparisonKept T c) f) (written-below f h (ap not p))
+          ∙ ap (plainComparisonOf (configured T c) 0 (plainComparisonAt (configured T c) 0)) (comparison-written f h (ap not p))
           ∙ same-rule f (comparison (T .comparisons) f) p (comparison-operands F f h) (λ k l. ih k l (omega arith))
       go f ih h (choice x y z e) =
           let k = taken-below (at T c x) (rw e at (comparison-operands F f h)) in
           ap (λ (t : ℕ). plainComparisonAt (configured T c) 0 (countBelow (comparisonKept T c) t))
-          (comparison-target-in F c f h ∙ ap (comparisonTargetOf T c (comparisonTarget T c) f) e)
+          (comparison-target-in F c f h ∙ ap (targetOf T c (comparisonTarget T c) f) e)
           ∙ ih (taken T c x y z) k (omega arith)
-          ∙ ap (plainComparisonOf T c (plainComparisonAt T c)) (sym e)
+          ∙ ap (plainComparisonOf T c (plainComparisonAt T c)) (sym (choice-comparison (comparison (T .comparisons) f) e))

@@ -9,22 +9,20 @@ use native.Mathlib.Omega.{arith}
 use borrow.Author.Tests.{ltb-true, lt-ltb, le-ltb}
 use lib.ListN.{length, getD, length-append, List·getD-append}
 use lib.Dec.{ltb, lit<}
-use Rattle.sets.specs.Search.{countBelow}
+use Rattle.sets.specs.Search.{countBelow, Nth}
 use Rattle.sets.specs.Lists.{kept}
-use Rattle.sets.proofs.SearchLaws.{Nth, nth, count-yes, count-no, count-lt}
+use Rattle.sets.proofs.SearchLaws.{nth, count-yes, count-no, count-lt}
 use Rattle.sets.proofs.ListLaws.{kept-yes, kept-no, kept-at}
 use Rattle.report.specs.Tables.{Tables, entryAttribute, entryExpression, relationExpression, relationLength, relationStart, query}
-use Rattle.report.specs.Tables.{expressionCount, entryCount, relationCount, queryCount, projectStart}
+use Rattle.report.specs.Tables.{expressionCount, entryCount, relationCount, queryCount, projectLength, projectStart}
 use Rattle.report.specs.Expressions.{holds}
 use Rattle.report.specs.Typing.{at, present, listed, relationSet}
 use Rattle.report.specs.Configuring.{keptLength, relationList, relationForm, projectListOf, queryKept, newRelation, configured}
 use Rattle.report.specs.ConfiguredReport.{configuredSchema}
 use Rattle.report.specs.FormChecks.{entryOk, relationOk}
-use Rattle.report.specs.declared.Query.{Query}
-use Rattle.report.proofs.Formed.{Formed}
-use Rattle.report.proofs.FormFacts.{ListIn, QueryLower}
+use Rattle.report.specs.Formed.{Formed, ListIn}
 use Rattle.report.proofs.FitLaws.{list-fits}
-use Rattle.report.proofs.FormedFacts.{relation-list, query-at}
+use Rattle.report.proofs.FormedFacts.{relation-list, project-inside}
 use Rattle.report.proofs.KeptForms.{kept-inside, kept-all, forms-length, forms-count, first-word, form-word}
 use Rattle.report.proofs.CarriedLists.{Pairs, pairs-join, pairs-even, pairs-attribute, pairs-expression}
 use Rattle.report.proofs.CarriedLists.{Stands, list-length, list-pairs, carried-in, carried-set}
@@ -126,17 +124,6 @@ module _ (T : Tables) (c : ℕ) where
 module _ {T : Tables} (F : Formed T) (c : ℕ) where
   -- ---- every entry written
 
-  project-pairs : (q : ℕ) (x : Query) → QueryLower T q x → Pairs (T .attributes) (projectListOf T c q x)
-  project-pairs q Query.Malformed l = absurd l
-  project-pairs q Query.Empty l = tt
-  project-pairs q (Query.Relation a) l = tt
-  project-pairs q (Query.Select a b) l = tt
-  project-pairs q (Query.Project a b) l = list-pairs T c (projectStart T q) a F (l .0 .inside)
-  project-pairs q (Query.Choice a b d) l = tt
-  project-pairs q (Query.Product a b) l = tt
-  project-pairs q (Query.Union a b) l = tt
-  project-pairs q (Query.Intersection a b) l = tt
-
   entries-pairs : Pairs (T .attributes) (configured T c .entries)
   entries-pairs =
       rw (entries-joined T c)
@@ -145,7 +132,7 @@ module _ {T : Tables} (F : Formed T) (c : ℕ) where
       (λ r h k. list-pairs T c (relationStart (T .relations) r) (relationLength (T .relations) r) F (relation-list F r h .inside)))
       (kept-all (queryKept T c) (λ q. projectListOf T c q (query (T .queries) q)) (Pairs (T .attributes)) tt (pairs-join (T .attributes))
       (queryCount T)
-      (λ q h k. project-pairs q (query (T .queries) q) (query-at F q h))))
+      (λ q h k. list-pairs T c (projectStart T q) (projectLength (query (T .queries) q)) F (project-inside F q h))))
 
   pub entries-even : length (configured T c .entries) % 2 ≡ 0
   entries-even = pairs-even (T .attributes) (configured T c .entries) entries-pairs

@@ -8,20 +8,21 @@ use native.Mathlib.Omega.{arith}
 use borrow.Author.Tests.{eqb-true, eq-eqb}
 use lib.ListN.{length}
 use lib.Dec.{eqb}
-use Rattle.sets.specs.Search.{countBelow}
-use Rattle.sets.proofs.SearchLaws.{Nth, nth, count-lt, count-le, count-one, at-some}
+use Rattle.sets.specs.Search.{countBelow, Nth}
+use Rattle.sets.proofs.SearchLaws.{nth, count-lt, count-le, count-one, at-some}
 use Rattle.report.specs.Tables.{Tables, shapeOf, expressionCount, relationCount, comparisonCount, queryCount, projectStart, report}
+use Rattle.report.specs.Operands.{queryOperands, isAmong, isChoice}
 use Rattle.report.specs.Expressions.{permitted}
 use Rattle.report.specs.Typing.{present, reached}
 use Rattle.report.specs.FormChecks.{isOperand, takenBelow, expressionOk, queryOk}
-use Rattle.report.specs.Configuring.{isQueryChoice, queryTarget, comparisonKept, queryKept, newQuery, configured}
+use Rattle.report.specs.Configuring.{queryTarget, comparisonKept, queryKept, newQuery, configured}
+use Rattle.report.specs.Formed.{Sized, Formed, Free, FreePair, QueryLower}
 use Rattle.report.specs.declared.Query.{Query}
-use Rattle.report.proofs.Formed.{Formed, Sized}
-use Rattle.report.proofs.FormFacts.{Free, FreePair, QueryLower}
+use Rattle.report.specs.declared.Operands.{Operands}
 use Rattle.report.proofs.FitLaws.{query-fits}
 use Rattle.report.proofs.FormedFacts.{query-at, operand-lower, operand-once, counts}
 use Rattle.report.proofs.PassingOn.{or-either, or-first, or-second, same-number}
-use Rattle.report.proofs.LeadLaws.{formAt, lead, leads-apart}
+use Rattle.report.proofs.LeadLaws.{formAt, operandsAt, lead, leads-apart}
 use Rattle.report.proofs.ReachLaws.{Taker, kept-both, operand-reached, target-kept, kept-count, kept-taken}
 use Rattle.report.proofs.WrittenComparisons.{comparisons-length, comparisons-ok, new-comparison}
 use Rattle.report.proofs.CarriedLists.{carried-in}
@@ -34,50 +35,44 @@ RelationsPresent T c = (q a : ℕ) → reached T c q ≡ true → formAt T q ≡
 
 -- ---- the operands of a form, renumbered
 
-module _ (T : Tables) (c : ℕ) where
-  -- k is the new number of an operand
-  abbrev NewOperand : ℕ → Query → Type 0
-  NewOperand k y = (z : ℕ) × (isOperand z y ≡ true) × (k ≡ newQuery T c z)
+-- the operands of what is written for a form: of a plain one their new numbers, of a choice none
+abbrev renumberedOperands : (ℕ → ℕ) → Operands → Operands
+renumberedOperands new Operands.Nothing = Operands.Nothing
+renumberedOperands new (Operands.One a) = Operands.One (new a)
+renumberedOperands new (Operands.Both a b) = Operands.Both (new a) (new b)
+renumberedOperands new (Operands.Choice e a b) = Operands.Nothing
 
-  one-old : (k b : ℕ) → eqb k (newQuery T c b) ≡ true → (z : ℕ) × (eqb z b ≡ true) × (k ≡ newQuery T c z)
-  one-old k b o = (b, same-number b, eqb-true k (newQuery T c b) o)
+written-operands : (T : Tables) (c q : ℕ) (y : Query) → queryOperands (renumberedQuery T c q y) ≡ renumberedOperands (newQuery T c) (queryOperands y)
+written-operands T c q Query.Malformed = refl
+written-operands T c q Query.Empty = refl
+written-operands T c q (Query.Relation a) = refl
+written-operands T c q (Query.Select a b) = refl
+written-operands T c q (Query.Project a b) = refl
+written-operands T c q (Query.Choice a b d) = refl
+written-operands T c q (Query.Product a b) = refl
+written-operands T c q (Query.Union a b) = refl
+written-operands T c q (Query.Intersection a b) = refl
 
-  two-old : (k a b : ℕ) → (eqb k (newQuery T c a) || eqb k (newQuery T c b)) ≡ true → (z : ℕ) × ((eqb z a || eqb z b) ≡ true) × (k ≡ newQuery T c z)
-  two-old k a b o =
-      ⊎-elim (λ e. (a, or-first _ _ (same-number a), eqb-true k (newQuery T c a) e))
-      (λ e. (b, or-second (eqb b a) _ (same-number b), eqb-true k (newQuery T c b) e))
-      (or-either (eqb k (newQuery T c a)) (eqb k (newQuery T c b)) o)
+module _ (new : ℕ → ℕ) where
+  -- each is the new number of an operand
+  old-operand : (o : Operands) (k : ℕ) → isAmong k (renumberedOperands new o) ≡ true → (z : ℕ) × (isAmong z o ≡ true) × (k ≡ new z)
+  old-operand Operands.Nothing k m = absurd (false≢true m)
+  old-operand (Operands.One a) k m = (a, same-number a, eqb-true k (new a) m)
+  old-operand (Operands.Both a b) k m =
+      ⊎-elim (λ e. (a, or-first _ _ (same-number a), eqb-true k (new a) e)) (λ e. (b, or-second (eqb b a) _ (same-number b), eqb-true k (new b) e))
+      (or-either (eqb k (new a)) (eqb k (new b)) m)
+  old-operand (Operands.Choice e a b) k m = absurd (false≢true m)
 
-  old-operand : (q : ℕ) (y : Query) (k : ℕ) → isOperand k (renumberedQuery T c q y) ≡ true → NewOperand k y
-  old-operand q Query.Malformed k o = absurd (false≢true o)
-  old-operand q Query.Empty k o = absurd (false≢true o)
-  old-operand q (Query.Relation a) k o = absurd (false≢true o)
-  old-operand q (Query.Select a b) k o = one-old k b o
-  old-operand q (Query.Project a b) k o = one-old k b o
-  old-operand q (Query.Choice a b d) k o = absurd (false≢true o)
-  old-operand q (Query.Product a b) k o = two-old k a b o
-  old-operand q (Query.Union a b) k o = two-old k a b o
-  old-operand q (Query.Intersection a b) k o = two-old k a b o
+  new-number : (z a : ℕ) → eqb z a ≡ true → eqb (new z) (new a) ≡ true
+  new-number z a m = eq-eqb (new z) (new a) (ap new (eqb-true z a m))
 
-  one-new : (z b : ℕ) → eqb z b ≡ true → eqb (newQuery T c z) (newQuery T c b) ≡ true
-  one-new z b o = eq-eqb (newQuery T c z) (newQuery T c b) (ap (newQuery T c) (eqb-true z b o))
-
-  two-new : (z a b : ℕ) → (eqb z a || eqb z b) ≡ true → (eqb (newQuery T c z) (newQuery T c a) || eqb (newQuery T c z) (newQuery T c b)) ≡ true
-  two-new z a b o =
-      ⊎-elim (λ e. or-first _ _ (one-new z a e)) (λ e. or-second (eqb (newQuery T c z) (newQuery T c a)) _ (one-new z b e))
-      (or-either (eqb z a) (eqb z b) o)
-
-  new-operand : (q : ℕ) (y : Query) → isQueryChoice T c y ≡ false → (z : ℕ) → isOperand z y ≡ true
-      → isOperand (newQuery T c z) (renumberedQuery T c q y) ≡ true
-  new-operand q Query.Malformed p z o = o
-  new-operand q Query.Empty p z o = o
-  new-operand q (Query.Relation a) p z o = o
-  new-operand q (Query.Select a b) p z o = one-new z b o
-  new-operand q (Query.Project a b) p z o = one-new z b o
-  new-operand q (Query.Choice a b d) p z o = absurd (false≢true (sym p))
-  new-operand q (Query.Product a b) p z o = two-new z a b o
-  new-operand q (Query.Union a b) p z o = two-new z a b o
-  new-operand q (Query.Intersection a b) p z o = two-new z a b o
+  -- and the new number of each operand of a plain form is among them
+  new-operand : (o : Operands) → isChoice o ≡ false → (z : ℕ) → isAmong z o ≡ true → isAmong (new z) (renumberedOperands new o) ≡ true
+  new-operand Operands.Nothing p z m = m
+  new-operand (Operands.One a) p z m = new-number z a m
+  new-operand (Operands.Both a b) p z m =
+      ⊎-elim (λ e. or-first _ _ (new-number z a e)) (λ e. or-second (eqb (new z) (new a)) _ (new-number z b e)) (or-either (eqb z a) (eqb z b) m)
+  new-operand (Operands.Choice e a b) p z m = absurd (false≢true (sym p))
 
 module _ {T : Tables} (F : Formed T) (c : ℕ) (ok : permitted T c ≡ true) where
   operand-kept : (q x : ℕ) → queryKept T c q ≡ true → isOperand x (formAt T q) ≡ true → queryKept T c (queryTarget T c x) ≡ true
@@ -107,8 +102,8 @@ module _ {T : Tables} (F : Formed T) (c : ℕ) (ok : permitted T c ≡ true) whe
           let n = nth (queryKept T c) q p l in
           let b = n .below in
           let i : n .old < queryCount T = omega arith in
-          let z = old-operand T c (n .old) (formAt T (n .old)) (newQuery T c x)
-          (rw (← query-written F c (n .old) i (n .passed), n .number) e) in
+          let z = old-operand (newQuery T c) (operandsAt T (n .old)) (newQuery T c x)
+          (rw (← written-operands T c (n .old) (formAt T (n .old)), ← query-written F c (n .old) i (n .passed), n .number) e) in
           let s = new-same q (n .old) x (z .0) h i k (n .passed) o (z .1) (z .2) in
           let same = operand-once F q (n .old) x h i o (rw s (z .1)) in
           absurd (omega arith)
@@ -130,7 +125,7 @@ module _ {T : Tables} (F : Formed T) (c : ℕ) (ok : permitted T c ≡ true) whe
 
     renumbered-lower : (q : ℕ) → q < queryCount T → queryKept T c q ≡ true → (y : Query) → formAt T q ≡ y → QueryLower T q y
         → QueryLower (configured T c) (countBelow (queryKept T c) q) (renumberedQuery T c q y)
-    renumbered-lower q h k Query.Malformed e l = l
+    renumbered-lower q h k Query.Malformed e l = absurd l
     renumbered-lower q h k Query.Empty e l = tt
     renumbered-lower q h k (Query.Relation a) e l = new-relation T c a (P q a (kept-both T c q k .0) e)
     renumbered-lower q h k (Query.Select a b) e l = (new-comparison F c a (l .0), new-free q b h k (ap (isOperand b) e ∙ same-number b))
@@ -138,7 +133,7 @@ module _ {T : Tables} (F : Formed T) (c : ℕ) (ok : permitted T c ≡ true) whe
       carried-in T c (projectStart T q) a (configured T c) _ (project-stands F c q a b h k e) (l .0),
       new-free q b h k (ap (isOperand b) e ∙ same-number b),
     )
-    renumbered-lower q h k (Query.Choice a b d) e l = false≢true (sym (kept-both T c q k .1) ∙ ap (isQueryChoice T c) e)
+    renumbered-lower q h k (Query.Choice a b d) e l = absurd (false≢true (sym (kept-both T c q k .1) ∙ ap (λ (y : Query). isChoice (queryOperands y)) e))
     renumbered-lower q h k (Query.Product a b) e l = pair-free q a b h k (λ x. ap (isOperand x) e) l
     renumbered-lower q h k (Query.Union a b) e l = pair-free q a b h k (λ x. ap (isOperand x) e) l
     renumbered-lower q h k (Query.Intersection a b) e l = pair-free q a b h k (λ x. ap (isOperand x) e) l
@@ -172,8 +167,8 @@ module _ {T : Tables} (F : Formed T) (c : ℕ) (ok : permitted T c ≡ true) whe
         go n (inr t) =
             at-some (λ p. isOperand k (formAt (configured T c) p)) (queryCount (configured T c)) (countBelow (queryKept T c) (t .by))
             (let l = count-lt (queryKept T c) (t .by) (queryCount T) (t .inside) (t .isKept) in let f = queries-count F c in omega arith)
-            (rw (query-written F c (t .by) (t .inside) (t .isKept), ← n .number, ← t .leadsTo)
-            (new-operand T c (t .by) (formAt T (t .by)) (kept-both T c (t .by) (t .isKept) .1) (t .operand) (t .isOperandOf)))
+            (rw (query-written F c (t .by) (t .inside) (t .isKept), written-operands T c (t .by) (formAt T (t .by)), ← n .number, ← t .leadsTo)
+            (new-operand (newQuery T c) (operandsAt T (t .by)) (kept-both T c (t .by) (t .isKept) .1) (t .operand) (t .isOperandOf)))
 
     -- ---- the whole
 

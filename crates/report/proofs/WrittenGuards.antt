@@ -10,12 +10,14 @@ use Rattle.report.specs.Typing.{present, reached}
 use Rattle.report.specs.Configuring.{configured}
 use Rattle.report.specs.Verdicts.{refusal}
 use Rattle.report.specs.FormChecks.{formCheck}
-use Rattle.report.specs.Checks.{Call, answer, Sound}
+use Rattle.report.specs.Calls.{answer, Sound, checking}
+use Rattle.report.specs.WrittenTables.{WrittenAccepted}
 use Rattle.report.specs.Examples.{h1}
 use Rattle.report.specs.declared.Verdict.{Verdict}
 use Rattle.report.proofs.ExamplesHold.{computed}
+use Rattle.report.proofs.FirstFault.{sound-accepted}
 use Rattle.report.proofs.Guards.{h1-accepted}
-use Rattle.report.proofs.WrittenAccepted.{WrittenAccepted, accepted-written}
+use Rattle.report.proofs.WrittenAccepted.{accepted-written}
 
 -- H1 is accepted, so what is written of it at 0 (H4) is accepted too
 h1-permitted : permitted (h1 2) 0 ≡ true
@@ -34,7 +36,7 @@ pub absent-written : Sound absent
     × (permitted absent 0 ≡ true)
     × (reached absent 0 0 ≡ true)
     × (present absent 0 0 ≡ false)
-    × (answer absent (Call.check 1024) ≡ Verdict.Refused (refusal 15 0 0 0))
+    × (answer absent (checking 1024) ≡ Verdict.Refused (refusal 15 0 0 0))
     × (formCheck (configured absent 0) ≡ Verdict.Refused (refusal 8 0 0 0))
 unfolding computed
-absent-written = (refl, refl, refl, refl, refl, refl)
+absent-written = (sound-accepted absent .1 refl, refl, refl, refl, refl, refl)

@@ -13,12 +13,12 @@ use Rattle.sets.proofs.SearchLaws.{count-yes, count-no, count-le}
 use Rattle.sets.proofs.ListLaws.{kept-yes, kept-no, kept-at}
 use Rattle.report.specs.Tables.{Tables, word, queryOf, query, relationLength, relationStart, projectLength, projectStart}
 use Rattle.report.specs.Tables.{entryCount, relationCount, comparisonCount, queryCount}
+use Rattle.report.specs.Operands.{queryOperands, isChoice}
 use Rattle.report.specs.Typing.{present}
-use Rattle.report.specs.Configuring.{isQueryChoice, comparisonKept, queryKept, newRelation, newComparison, newQuery, entryKept}
-use Rattle.report.specs.Configuring.{keptLength, keptList, relationList, projectListOf, queryFormOf, configured}
+use Rattle.report.specs.Configuring.{comparisonKept, queryKept, entryKept}
+use Rattle.report.specs.Configuring.{keptList, relationList, projectListOf, queryFormOf, configured}
+use Rattle.report.specs.Formed.{Formed, QueryLower}
 use Rattle.report.specs.declared.Query.{Query}
-use Rattle.report.proofs.Formed.{Formed}
-use Rattle.report.proofs.FormFacts.{QueryLower}
 use Rattle.report.proofs.FormedFacts.{query-at, lists-end, counts}
 use Rattle.report.proofs.LeadLaws.{formAt}
 use Rattle.report.proofs.ReachLaws.{kept-both}
@@ -30,53 +30,30 @@ use Rattle.report.proofs.WrittenComparisons.{comparisons-length}
 -- ---- one form
 
 module _ (T : Tables) (c q : ℕ) where
-  -- the plain form q, its references renumbered
+  -- what the words written for form q say: of a plain one that form, its references renumbered. (Of a choice there are none to read.)
   abbrev pub renumberedQuery : Query → Query
-  renumberedQuery Query.Malformed = Query.Malformed
-  renumberedQuery Query.Empty = Query.Empty
-  renumberedQuery (Query.Relation a) = Query.Relation (newRelation T c a)
-  renumberedQuery (Query.Select a b) = Query.Select (newComparison T c a) (newQuery T c b)
-  renumberedQuery (Query.Project a b) = Query.Project (keptLength T c (projectStart T q) a) (newQuery T c b)
-  renumberedQuery (Query.Choice a b d) = Query.Malformed
-  renumberedQuery (Query.Product a b) = Query.Product (newQuery T c a) (newQuery T c b)
-  renumberedQuery (Query.Union a b) = Query.Union (newQuery T c a) (newQuery T c b)
-  renumberedQuery (Query.Intersection a b) = Query.Intersection (newQuery T c a) (newQuery T c b)
+  renumberedQuery x =
+      queryOf (getD (queryFormOf T c q x) 0 0) (getD (queryFormOf T c q x) 1 0) (getD (queryFormOf T c q x) 2 0) (getD (queryFormOf T c q x) 3 0)
 
-  -- the words of a form, and what they say
-  abbrev readQuery : List ℕ → Query
-  readQuery l = queryOf (getD l 0 0) (getD l 1 0) (getD l 2 0) (getD l 3 0)
-
-  -- what is written for a plain form that stands in the table: four words, which say it with its references renumbered, and its list
+  -- for a plain form that stands in the table four words are written, and its list
   record Form (x : Query) : Type 0 where
     wide : length (queryFormOf T c q x) ≡ 4
-    says : readQuery (queryFormOf T c q x) ≡ renumberedQuery x
     lists : length (projectListOf T c q x) ≡ projectLength (renumberedQuery x) * 2
 
-  form : (x : Query) → QueryLower T q x → isQueryChoice T c x ≡ false → Form x
+  form : (x : Query) → QueryLower T q x → isChoice (queryOperands x) ≡ false → Form x
   form Query.Malformed l p = absurd l
-  form Query.Empty l p = record { wide = refl; says = refl; lists = refl }
-  form (Query.Relation a) l p = record { wide = refl; says = refl; lists = refl }
-  form (Query.Select a b) l p = record { wide = refl; says = refl; lists = refl }
-  form (Query.Project a b) l p = record { wide = refl; says = refl; lists = list-length T c (projectStart T q) a }
+  form Query.Empty l p = record { wide = refl; lists = refl }
+  form (Query.Relation a) l p = record { wide = refl; lists = refl }
+  form (Query.Select a b) l p = record { wide = refl; lists = refl }
+  form (Query.Project a b) l p = record { wide = refl; lists = list-length T c (projectStart T q) a }
   form (Query.Choice a b d) l p = absurd (false≢true (sym p))
-  form (Query.Product a b) l p = record { wide = refl; says = refl; lists = refl }
-  form (Query.Union a b) l p = record { wide = refl; says = refl; lists = refl }
-  form (Query.Intersection a b) l p = record { wide = refl; says = refl; lists = refl }
+  form (Query.Product a b) l p = record { wide = refl; lists = refl }
+  form (Query.Union a b) l p = record { wide = refl; lists = refl }
+  form (Query.Intersection a b) l p = record { wide = refl; lists = refl }
 
   -- a list is not longer than it was
   list-short : (start count : ℕ) → length (keptList T c start count) ≤ count * 2
   list-short start count = let e = list-length T c start count in let m = count-le (entryKept T c start) count in omega arith
-
-  project-short : (x : Query) → length (projectListOf T c q x) ≤ projectLength x * 2
-  project-short Query.Malformed = omega arith
-  project-short Query.Empty = omega arith
-  project-short (Query.Relation a) = omega arith
-  project-short (Query.Select a b) = omega arith
-  project-short (Query.Project a b) = list-short (projectStart T q) a
-  project-short (Query.Choice a b d) = omega arith
-  project-short (Query.Product a b) = omega arith
-  project-short (Query.Union a b) = omega arith
-  project-short (Query.Intersection a b) = omega arith
 
 -- ---- table 4 written
 
@@ -110,11 +87,9 @@ module _ {T : Tables} (F : Formed T) (c : ℕ) where
     unfolding configured
     kind-written = first-word (queryKept T c) blockOf 4 (queryCount T) wide (zero-lt-suc 3) q h k
 
-    -- a kept form is written as it was, its references renumbered
+    -- they are what stands in the table
     pub query-written : formAt (configured T c) (countBelow (queryKept T c) q) ≡ renumberedQuery T c q (formAt T q)
-    query-written =
-        (λ i. queryOf (kind-written i) (words-written 1 (lit< tt) i) (words-written 2 (lit< tt) i) (words-written 3 (lit< tt) i))
-        ∙ form-of q h k .says
+    query-written = λ i. queryOf (kind-written i) (words-written 1 (lit< tt) i) (words-written 2 (lit< tt) i) (words-written 3 (lit< tt) i)
 
   -- ---- the lists of project forms
 
@@ -179,7 +154,7 @@ module _ {T : Tables} (F : Formed T) (c : ℕ) where
   lists-shorter (suc q) =
       let i = lists-shorter q in
       let k = kept-short (queryKept T c) projectList q in
-      let l = project-short T c q (formAt T q) in
+      let l = list-short T c q (projectStart T q) (projectLength (formAt T q)) in
       omega arith
 
   pub entries-room : length (configured T c .entries) ≤ length (T .entries)

@@ -1,4 +1,4 @@
--- Document 01, "Column rows".
+-- docs/FORMAT.md, "Column rows".
 use Prim.Native.Nat.{ℕ, _+_, _*_, _/_, _%_}
 use mathlib.Core.Bool.{Bool, _&&_}
 use mathlib.Core.List.{List}

@@ -1,4 +1,4 @@
--- Document 01, the end of "Configuring": the configured report as a tree, and the configured schema, of any tables, accepted or refused.
+-- docs/FORMAT.md, "Configuring": the configured report as a tree, and the configured schema, of any tables, accepted or refused.
 -- Relations keep their old numbers.
 use Prim.Native.Nat.{ℕ, _+_}
 use mathlib.Core.Bool.{Bool, true, false, cond}

@@ -1,79 +1,70 @@
--- Document 01, "Configuring": the tables that an accepted report becomes at a permitted configuration c.
+-- docs/FORMAT.md, "Configuring": the tables that an accepted report becomes at a permitted configuration c.
 use Prim.Native.Nat.{ℕ, _+_}
-use mathlib.Core.Bool.{Bool, true, false, cond, _&&_, not}
+use mathlib.Core.Bool.{Bool, _&&_, not}
 use mathlib.Core.List.{List, [], _∷_, _++_}
 use lib.ListN.{length, drop}
 use Rattle.sets.specs.Search.{countBelow}
 use Rattle.sets.specs.Lists.{kept}
 use Rattle.report.specs.Values.{value}
 use Rattle.report.specs.Tables.{Tables, tablesOf, entryAttribute, entryExpression, relationLength, comparison, query}
-use Rattle.report.specs.Tables.{relationCount, comparisonCount, queryCount, relationStart, projectStart}
+use Rattle.report.specs.Tables.{relationCount, comparisonCount, queryCount, relationStart, projectLength, projectStart}
+use Rattle.report.specs.Operands.{comparisonOperands, queryOperands, isChoice}
 use Rattle.report.specs.Typing.{at, taken, reached, present}
 use Rattle.report.specs.declared.Comparison.{Comparison}
 use Rattle.report.specs.declared.Query.{Query}
+use Rattle.report.specs.declared.Operands.{Operands}
+
+-- ---- the words of a plain form whose references have new numbers. A choice has none
+
+-- `toComparison` gives those of comparisons
+abbrev pub comparisonWordsOf : (ℕ → ℕ) → Comparison → List ℕ
+comparisonWordsOf toComparison Comparison.Malformed = []
+comparisonWordsOf toComparison Comparison.Never = 0 ∷ 0 ∷ 0 ∷ 0 ∷ 0 ∷ []
+comparisonWordsOf toComparison Comparison.Always = 1 ∷ 0 ∷ 0 ∷ 0 ∷ 0 ∷ []
+comparisonWordsOf toComparison (Comparison.Constant o a b) = 2 ∷ o ∷ a ∷ b ∷ 0 ∷ []
+comparisonWordsOf toComparison (Comparison.Attribute o a b) = 3 ∷ o ∷ a ∷ b ∷ 0 ∷ []
+comparisonWordsOf toComparison (Comparison.Not a) = 4 ∷ 0 ∷ toComparison a ∷ 0 ∷ 0 ∷ []
+comparisonWordsOf toComparison (Comparison.And a b) = 5 ∷ 0 ∷ toComparison a ∷ toComparison b ∷ 0 ∷ []
+comparisonWordsOf toComparison (Comparison.Or a b) = 6 ∷ 0 ∷ toComparison a ∷ toComparison b ∷ 0 ∷ []
+comparisonWordsOf toComparison (Comparison.Choice e a b) = []
+
+-- `toRelation`, `toComparison` and `toQuery` give those of the three tables, `entries` the number of entries kept of a project's
+abbrev pub queryWordsOf : (toRelation toComparison toQuery entries : ℕ → ℕ) → Query → List ℕ
+queryWordsOf toRelation toComparison toQuery entries Query.Malformed = []
+queryWordsOf toRelation toComparison toQuery entries Query.Empty = 0 ∷ 0 ∷ 0 ∷ 0 ∷ []
+queryWordsOf toRelation toComparison toQuery entries (Query.Relation a) = 1 ∷ toRelation a ∷ 0 ∷ 0 ∷ []
+queryWordsOf toRelation toComparison toQuery entries (Query.Select a b) = 2 ∷ toComparison a ∷ toQuery b ∷ 0 ∷ []
+queryWordsOf toRelation toComparison toQuery entries (Query.Project a b) = 3 ∷ entries a ∷ toQuery b ∷ 0 ∷ []
+queryWordsOf toRelation toComparison toQuery entries (Query.Choice e a b) = []
+queryWordsOf toRelation toComparison toQuery entries (Query.Product a b) = 5 ∷ toQuery a ∷ toQuery b ∷ 0 ∷ []
+queryWordsOf toRelation toComparison toQuery entries (Query.Union a b) = 6 ∷ toQuery a ∷ toQuery b ∷ 0 ∷ []
+queryWordsOf toRelation toComparison toQuery entries (Query.Intersection a b) = 7 ∷ toQuery a ∷ toQuery b ∷ 0 ∷ []
 
 module _ (T : Tables) (c : ℕ) where
   -- ---- references: one to a choice becomes one to the form it leads to, through further choices
 
-  abbrev pub comparisonTargetOf : (ℕ → ℕ) → ℕ → Comparison → ℕ
-  comparisonTargetOf target f Comparison.Malformed = f
-  comparisonTargetOf target f Comparison.Never = f
-  comparisonTargetOf target f Comparison.Always = f
-  comparisonTargetOf target f (Comparison.Constant o a b) = f
-  comparisonTargetOf target f (Comparison.Attribute o a b) = f
-  comparisonTargetOf target f (Comparison.Not a) = f
-  comparisonTargetOf target f (Comparison.And a b) = f
-  comparisonTargetOf target f (Comparison.Or a b) = f
-  comparisonTargetOf target f (Comparison.Choice a b d) = target (taken T c a b d)
+  -- where a reference to form f leads, by its operands, where `target` says it of lower forms
+  abbrev pub targetOf : (ℕ → ℕ) → ℕ → Operands → ℕ
+  targetOf target f Operands.Nothing = f
+  targetOf target f (Operands.One a) = f
+  targetOf target f (Operands.Both a b) = f
+  targetOf target f (Operands.Choice e a b) = target (taken T c e a b)
 
   unfoldable pub comparisonTarget : ℕ → ℕ
-  comparisonTarget = value 0 (λ target f. comparisonTargetOf target f (comparison (T .comparisons) f))
-
-  abbrev pub queryTargetOf : (ℕ → ℕ) → ℕ → Query → ℕ
-  queryTargetOf target q Query.Malformed = q
-  queryTargetOf target q Query.Empty = q
-  queryTargetOf target q (Query.Relation a) = q
-  queryTargetOf target q (Query.Select a b) = q
-  queryTargetOf target q (Query.Project a b) = q
-  queryTargetOf target q (Query.Choice a b d) = target (taken T c a b d)
-  queryTargetOf target q (Query.Product a b) = q
-  queryTargetOf target q (Query.Union a b) = q
-  queryTargetOf target q (Query.Intersection a b) = q
+  comparisonTarget = value 0 (λ target f. targetOf target f (comparisonOperands (comparison (T .comparisons) f)))
 
   unfoldable pub queryTarget : ℕ → ℕ
-  queryTarget = value 0 (λ target q. queryTargetOf target q (query (T .queries) q))
+  queryTarget = value 0 (λ target q. targetOf target q (queryOperands (query (T .queries) q)))
 
   -- ---- what is kept, and its new number
 
-  abbrev pub isComparisonChoice : Comparison → Bool
-  isComparisonChoice Comparison.Malformed = false
-  isComparisonChoice Comparison.Never = false
-  isComparisonChoice Comparison.Always = false
-  isComparisonChoice (Comparison.Constant o a b) = false
-  isComparisonChoice (Comparison.Attribute o a b) = false
-  isComparisonChoice (Comparison.Not a) = false
-  isComparisonChoice (Comparison.And a b) = false
-  isComparisonChoice (Comparison.Or a b) = false
-  isComparisonChoice (Comparison.Choice a b d) = true
-
-  abbrev pub isQueryChoice : Query → Bool
-  isQueryChoice Query.Malformed = false
-  isQueryChoice Query.Empty = false
-  isQueryChoice (Query.Relation a) = false
-  isQueryChoice (Query.Select a b) = false
-  isQueryChoice (Query.Project a b) = false
-  isQueryChoice (Query.Choice a b d) = true
-  isQueryChoice (Query.Product a b) = false
-  isQueryChoice (Query.Union a b) = false
-  isQueryChoice (Query.Intersection a b) = false
-
   -- every comparison that is no choice
   abbrev pub comparisonKept : ℕ → Bool
-  comparisonKept f = not (isComparisonChoice (comparison (T .comparisons) f))
+  comparisonKept f = not (isChoice (comparisonOperands (comparison (T .comparisons) f)))
 
   -- the query forms that are no choice and that c reaches
   abbrev pub queryKept : ℕ → Bool
-  queryKept q = reached T c q && not (isQueryChoice (query (T .queries) q))
+  queryKept q = reached T c q && not (isChoice (queryOperands (query (T .queries) q)))
 
   -- the new number of what a reference leads to: how many forms before it are kept
   abbrev pub newRelation : ℕ → ℕ
@@ -99,16 +90,9 @@ module _ (T : Tables) (c : ℕ) where
   abbrev pub relationList : ℕ → List ℕ
   relationList r = keptList (relationStart (T .relations) r) (relationLength (T .relations) r)
 
+  -- the list of query form q. One that is no project lists no entries
   abbrev pub projectListOf : ℕ → Query → List ℕ
-  projectListOf q Query.Malformed = []
-  projectListOf q Query.Empty = []
-  projectListOf q (Query.Relation a) = []
-  projectListOf q (Query.Select a b) = []
-  projectListOf q (Query.Project a b) = keptList (projectStart T q) a
-  projectListOf q (Query.Choice a b d) = []
-  projectListOf q (Query.Product a b) = []
-  projectListOf q (Query.Union a b) = []
-  projectListOf q (Query.Intersection a b) = []
+  projectListOf q y = keptList (projectStart T q) (projectLength y)
 
   -- ---- forms
 
@@ -116,26 +100,10 @@ module _ (T : Tables) (c : ℕ) where
   relationForm r = 0 ∷ keptLength (relationStart (T .relations) r) (relationLength (T .relations) r) ∷ []
 
   abbrev pub comparisonFormOf : Comparison → List ℕ
-  comparisonFormOf Comparison.Malformed = []
-  comparisonFormOf Comparison.Never = 0 ∷ 0 ∷ 0 ∷ 0 ∷ 0 ∷ []
-  comparisonFormOf Comparison.Always = 1 ∷ 0 ∷ 0 ∷ 0 ∷ 0 ∷ []
-  comparisonFormOf (Comparison.Constant o a b) = 2 ∷ o ∷ a ∷ b ∷ 0 ∷ []
-  comparisonFormOf (Comparison.Attribute o a b) = 3 ∷ o ∷ a ∷ b ∷ 0 ∷ []
-  comparisonFormOf (Comparison.Not a) = 4 ∷ 0 ∷ newComparison a ∷ 0 ∷ 0 ∷ []
-  comparisonFormOf (Comparison.And a b) = 5 ∷ 0 ∷ newComparison a ∷ newComparison b ∷ 0 ∷ []
-  comparisonFormOf (Comparison.Or a b) = 6 ∷ 0 ∷ newComparison a ∷ newComparison b ∷ 0 ∷ []
-  comparisonFormOf (Comparison.Choice a b d) = []
+  comparisonFormOf = comparisonWordsOf newComparison
 
   abbrev pub queryFormOf : ℕ → Query → List ℕ
-  queryFormOf q Query.Malformed = []
-  queryFormOf q Query.Empty = 0 ∷ 0 ∷ 0 ∷ 0 ∷ []
-  queryFormOf q (Query.Relation a) = 1 ∷ newRelation a ∷ 0 ∷ 0 ∷ []
-  queryFormOf q (Query.Select a b) = 2 ∷ newComparison a ∷ newQuery b ∷ 0 ∷ []
-  queryFormOf q (Query.Project a b) = 3 ∷ keptLength (projectStart T q) a ∷ newQuery b ∷ 0 ∷ []
-  queryFormOf q (Query.Choice a b d) = []
-  queryFormOf q (Query.Product a b) = 5 ∷ newQuery a ∷ newQuery b ∷ 0 ∷ []
-  queryFormOf q (Query.Union a b) = 6 ∷ newQuery a ∷ newQuery b ∷ 0 ∷ []
-  queryFormOf q (Query.Intersection a b) = 7 ∷ newQuery a ∷ newQuery b ∷ 0 ∷ []
+  queryFormOf q = queryWordsOf newRelation newComparison newQuery (keptLength (projectStart T q))
 
   -- ---- the written tables: 0 features, the same attributes, model 0, the one expression true
 

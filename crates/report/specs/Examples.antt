@@ -1,18 +1,20 @@
--- Document 01, "Berths to try" and "Wrong ships": H1 to H10 and three cases more, as one list. Their theorem is proofs/ExamplesHold.
+-- docs/FORMAT.md, "Worked examples": H1 to H10 and three cases more, as one list. Their theorem is proofs/ExamplesHold.
 use Prim.Native.Nat.{ℕ, zero, suc, _+_, _-_, _^_}
 use mathlib.Core.List.{List, [], _∷_, _++_}
 use lib.ListN.{replicate, length}
 use Rattle.report.specs.Tables.{Tables, tablesOf, entryCount, relationCount, comparisonCount, queryCount}
 use Rattle.report.specs.ColumnRows.{columnRows}
 use Rattle.report.specs.Configuring.{configured}
-use Rattle.report.specs.Checks.{Call, answer}
+use Rattle.report.specs.Calls.{answer, checking, configuring}
 use Rattle.report.specs.Text.{bytes}
 use Rattle.report.specs.Print.{print}
 use Rattle.report.specs.declared.Verdict.{Verdict}
 
--- a call on tables, or the program on a text
+-- checking tables with so many words of rows lent; configuring them at a configuration, with tables 1 to 4 of so many words lent for writing; or
+-- the program on a text
 pub data Case : Type 0 where
-  call : Tables → Call → Case
+  checks : Tables → ℕ → Case
+  configures : Tables → ℕ → ℕ → ℕ → ℕ → ℕ → Case
   program : List ℕ → Case
 
 -- what comes of it: a refusal; the column rows; the written tables with the counts that are returned; a print
@@ -31,8 +33,8 @@ writtenOutcome T = Outcome.counts (entryCount T) (relationCount T) (comparisonCo
 
 -- where an accepting check writes the rows that `rule` gives: the definition's are columnRows
 abbrev pub outcomeBy : (Tables → List ℕ) → Case → Outcome
-outcomeBy rule (Case.call T (Call.check room)) = let r = rule T in outcomeOr (answer T (Call.check room)) (Outcome.rows r)
-outcomeBy rule (Case.call T (Call.configure c r1 r2 r3 r4)) = outcomeOr (answer T (Call.configure c r1 r2 r3 r4)) (writtenOutcome (configured T c))
+outcomeBy rule (Case.checks T room) = let r = rule T in outcomeOr (answer T (checking room)) (Outcome.rows r)
+outcomeBy rule (Case.configures T c r1 r2 r3 r4) = outcomeOr (answer T (configuring c r1 r2 r3 r4)) (writtenOutcome (configured T c))
 outcomeBy rule (Case.program text) = Outcome.printed (print text)
 
 abbrev pub outcome : Case → Outcome
@@ -73,7 +75,7 @@ guarded entries count =
     tablesOf 1 2 0 (1 ∷ 0 ∷ 0 ∷ 2 ∷ 0 ∷ 0 ∷ 3 ∷ 1 ∷ 0 ∷ []) entries (1 ∷ count ∷ []) [] (1 ∷ 0 ∷ 0 ∷ 0 ∷ 0 ∷ 0 ∷ 0 ∷ 0 ∷ 4 ∷ 1 ∷ 0 ∷ 1 ∷ [])
 
 abbrev pub checked : Tables → Case
-checked T = Case.call T (Call.check 1024)
+checked T = Case.checks T 1024
 
 abbrev pub h1Text : List ℕ
 h1Text =
@@ -89,7 +91,7 @@ examples =
     ∷ (checked (harbour 2 h1Expressions (h1Entries 1) h1Queries) gives Outcome.refused 17 1 2 1)
     ∷ (checked (harbour 2 h1Expressions (h1Entries 0) h1Queries) gives Outcome.refused 17 1 2 0)
     -- H4
-    ∷ (Case.call (h1 2) (Call.configure 0 10 2 0 8)
+    ∷ (Case.configures (h1 2) 0 10 2 0 8
     gives Outcome.counts 3 1 0 2
     (tablesOf 0 3 0 (1 ∷ 0 ∷ 0 ∷ []) (0 ∷ 0 ∷ 1 ∷ 0 ∷ 0 ∷ 0 ∷ []) (0 ∷ 2 ∷ []) [] (1 ∷ 0 ∷ 0 ∷ 0 ∷ 3 ∷ 1 ∷ 0 ∷ 0 ∷ [])))
     -- H5, H6, H7
@@ -104,8 +106,8 @@ examples =
     -- H10
     ∷ (checked (harbour 2 h1Expressions (h1Entries 2) (1 ∷ 0 ∷ 0 ∷ 0 ∷ 0 ∷ 0 ∷ 0 ∷ 0 ∷ 4 ∷ 2 ∷ 0 ∷ 1 ∷ 3 ∷ 2 ∷ 2 ∷ 0 ∷ []))
     gives Outcome.refused 17 3 0 0)
-    -- W1 and W3, the first and third of the wrong ships: a relation guarded by its own feature, under a choice on it; the same with an entry that
-    -- holds only where the relation is absent. (The second and fourth are H2 and H7)
+    -- W1 and W3: a relation guarded by its own feature, under a choice on it; the same with an entry that
+    -- holds only where the relation is absent.
     ∷ (checked (guarded (0 ∷ 0 ∷ []) 1) gives Outcome.rows (2 ∷ replicate 1023 0))
     ∷ (checked (guarded (0 ∷ 0 ∷ 1 ∷ 2 ∷ []) 2) gives Outcome.refused 14 0 1 0)
     -- W5: the project forms 2 and 3 and their product, the report, all fail, 3 at a lower configuration than 2; from the report 3 is met before

@@ -1,4 +1,4 @@
--- Document 01, "The product" and table 0: features, configurations, where an expression holds, which configurations are permitted.
+-- docs/FORMAT.md, "Features and configurations" and table 0: features, configurations, where an expression holds, which configurations are permitted.
 use Prim.Native.Nat.{ℕ, _^_}
 use mathlib.Core.Bool.{Bool, true, false, _&&_, _||_, not}
 use mathlib.Core.List.{List}

@@ -1,6 +1,6 @@
--- Document 01, "Where each refusal is checked": checks 1 to 10, in its order. A form `fits` where its row of the table finds nothing in it.
+-- docs/FORMAT.md, "Refusals": checks 1 to 10, in its order. A form `fits` where its row of the table finds nothing in it.
 use Prim.Native.Nat.{ℕ, zero, suc, _+_, _-_, _/_, _%_}
-use mathlib.Core.Bool.{Bool, true, false, _&&_, _||_, not}
+use mathlib.Core.Bool.{Bool, true, false, _&&_, not}
 use mathlib.Core.List.{List, [], _∷_}
 use lib.ListN.{length, getD}
 use lib.Dec.{leb, ltb, eqb}
@@ -8,6 +8,7 @@ use Rattle.sets.specs.Search.{lowest, someBelow}
 use Rattle.report.specs.Tables.{Tables, Shape, shapeOf, shapes, words, entryAttribute, entryExpression, relationExpression, relationLength}
 use Rattle.report.specs.Tables.{expression, comparison, query, expressionCount, entryCount, relationCount, comparisonCount, queryCount}
 use Rattle.report.specs.Tables.{relationStart, projectedBefore, projectStart}
+use Rattle.report.specs.Operands.{queryOperands, isAmong}
 use Rattle.report.specs.Verdicts.{refusal, refuseIf, refuseAt, orElse, firstFrom}
 use Rattle.report.specs.declared.Verdict.{Verdict}
 use Rattle.report.specs.declared.Expression.{Expression}
@@ -46,27 +47,19 @@ comparisonFits m e f (Comparison.Choice a b d) = ltb a e && ltb b f && ltb d f
 
 -- form x is an operand of a query form
 abbrev pub isOperand : ℕ → Query → Bool
-isOperand x Query.Malformed = false
-isOperand x Query.Empty = false
-isOperand x (Query.Relation a) = false
-isOperand x (Query.Select a b) = eqb x b
-isOperand x (Query.Project a b) = eqb x b
-isOperand x (Query.Choice a b d) = eqb x b || eqb x d
-isOperand x (Query.Product a b) = eqb x a || eqb x b
-isOperand x (Query.Union a b) = eqb x a || eqb x b
-isOperand x (Query.Intersection a b) = eqb x a || eqb x b
+isOperand x y = isAmong x (queryOperands y)
 
 -- form x is an operand of a form below q
 abbrev pub takenBelow : List ℕ → ℕ → ℕ → Bool
 takenBelow queries q x = someBelow (λ p. isOperand x (query queries p)) q
 
--- form x is below q, and no form below q has taken it
-abbrev pub free : List ℕ → ℕ → ℕ → Bool
-free queries q x = ltb x q && not (takenBelow queries q x)
+-- form x is below q, and not among the forms taken so far
+abbrev pub free : (ℕ → Bool) → ℕ → ℕ → Bool
+free taken q x = ltb x q && not (taken x)
 
 -- two operands, of which the second is not the first once more
-abbrev pub freePair : List ℕ → ℕ → ℕ → ℕ → Bool
-freePair queries q x y = free queries q x && free queries q y && not (eqb x y)
+abbrev pub freePair : (ℕ → Bool) → ℕ → ℕ → ℕ → Bool
+freePair taken q x y = free taken q x && free taken q y && not (eqb x y)
 
 -- of the `count` entries from `start` on, two have one attribute
 abbrev pub repeats : List ℕ → ℕ → ℕ → Bool
@@ -86,23 +79,28 @@ abbrev pub relationFits : ℕ → List ℕ → List ℕ → ℕ → Bool
 relationFits e entries relations r =
     ltb (relationExpression relations r) e && listFits entries (relationStart relations r) (relationLength relations r)
 
--- a query that stands as form q, where there are e expressions, r relations and p comparisons, and the lists of project forms lie in `entries`
--- from `start` on
+-- a query that stands as form q, where there are e expressions, r relations and p comparisons, the list of a project lies in `entries` from
+-- `start` on, and `taken` are the forms that a form below q has taken
+module _ (e r p : ℕ) (entries : List ℕ) (start : ℕ) (taken : ℕ → Bool) (q : ℕ) where
+  abbrev pub queryFits : Query → Bool
+  queryFits Query.Malformed = false
+  queryFits Query.Empty = true
+  queryFits (Query.Relation a) = ltb a r
+  queryFits (Query.Select a b) = ltb a p && free taken q b
+  queryFits (Query.Project a b) = listFits entries start a && free taken q b
+  queryFits (Query.Choice a b d) = ltb a e && freePair taken q b d
+  queryFits (Query.Product a b) = freePair taken q a b
+  queryFits (Query.Union a b) = freePair taken q a b
+  queryFits (Query.Intersection a b) = freePair taken q a b
+
+-- table 4, whose lists lie in `entries` from `start` on
 module _ (e r p : ℕ) (entries : List ℕ) (start : ℕ) (queries : List ℕ) where
-  abbrev pub queryFits : ℕ → Query → Bool
-  queryFits q Query.Malformed = false
-  queryFits q Query.Empty = true
-  queryFits q (Query.Relation a) = ltb a r
-  queryFits q (Query.Select a b) = ltb a p && free queries q b
-  queryFits q (Query.Project a b) = listFits entries (start + projectedBefore queries q) a && free queries q b
-  queryFits q (Query.Choice a b d) = ltb a e && freePair queries q b d
-  queryFits q (Query.Product a b) = freePair queries q a b
-  queryFits q (Query.Union a b) = freePair queries q a b
-  queryFits q (Query.Intersection a b) = freePair queries q a b
+  abbrev pub queryFitsAt : ℕ → Query → Bool
+  queryFitsAt q = queryFits e r p entries (start + projectedBefore queries q) (takenBelow queries q) q
 
   -- 8: the lowest form that does not fit
   unfoldable pub queriesCheck : Verdict
-  queriesCheck = refuseAt (λ q. refusal 8 q 0 0) (lowest (λ q. not (queryFits q (query queries q))) (length queries / 4))
+  queriesCheck = refuseAt (λ q. refusal 8 q 0 0) (lowest (λ q. not (queryFitsAt q (query queries q))) (length queries / 4))
 
 -- 2: the length of table t
 abbrev pub lengthCheck : Shape → ℕ → ℕ → Verdict
@@ -159,7 +157,7 @@ module _ (T : Tables) where
   relationsEnd = relationStart (T .relations) (relationCount T)
 
   abbrev pub queryFitsIn : ℕ → Query → Bool
-  queryFitsIn = queryFits (expressionCount T) (relationCount T) (comparisonCount T) (T .entries) relationsEnd (T .queries)
+  queryFitsIn = queryFitsAt (expressionCount T) (relationCount T) (comparisonCount T) (T .entries) relationsEnd (T .queries)
 
   abbrev pub queryOk : ℕ → Bool
   queryOk q = queryFitsIn q (query (T .queries) q)

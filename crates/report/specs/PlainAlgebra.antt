@@ -1,11 +1,11 @@
--- Document 01's "plain rules": relational algebra on trees, under a schema. Nothing here knows of features, expressions or choices.
+-- docs/FORMAT.md, "Plain rules": relational algebra on trees, under a schema. Nothing here knows of features, expressions or choices.
 use Prim.Native.Nat.{ℕ, _^_}
 use mathlib.Core.Bool.{Bool, true, false, _&&_}
 use mathlib.Core.List.{List, [], _∷_}
 use mathlib.Core.Option.{Option, none, some}
 use lib.Dec.{eqb}
 use lib.Bits.{bitAnd, bitOr}
-use Rattle.sets.specs.Bits.{difference}
+use Rattle.sets.specs.Bits.{subset}
 
 -- a comparison of an attribute with a constant or with an attribute begins with its operator
 pub data PlainComparison : Type 0 where
@@ -48,10 +48,6 @@ inSchema (some s) = true
 abbrev pub attributesIn : Option ℕ → ℕ
 attributesIn none = 0
 attributesIn (some s) = s
-
--- every member of x is one of y
-abbrev pub subset : ℕ → ℕ → Bool
-subset x y = eqb (difference x y) 0
 
 module _ (schema : Schema) where
   -- "columns": the set of the whole report. Where a rule is broken no answer shows it

@@ -1,4 +1,4 @@
--- Document 01, "The harbour file and its print": what the program prints.
+-- docs/FORMAT.md, "Print": what the program prints.
 use Prim.Native.Nat.{ℕ, zero, suc, _+_}
 use mathlib.Core.Bool.{Bool, true, false, cond}
 use mathlib.Core.List.{List, [], _∷_, _++_}
@@ -7,7 +7,7 @@ use Rattle.sets.specs.Bits.{bit}
 use Rattle.report.specs.Tables.{Tables, report}
 use Rattle.report.specs.Expressions.{configurations, permitted}
 use Rattle.report.specs.Typing.{setOf}
-use Rattle.report.specs.Checks.{Call, answer}
+use Rattle.report.specs.Calls.{answer, checking}
 use Rattle.report.specs.Text.{bytes, spaced, bracket, line}
 use Rattle.report.specs.HarbourFile.{File, fileOf}
 use Rattle.report.specs.declared.Verdict.{Verdict}
@@ -28,7 +28,7 @@ printAnswer T (Verdict.Refused r) = line (bytes "refused") (r .number ∷ r .pla
 
 abbrev pub printFile : File → List ℕ
 printFile (File.unread n) = line (bytes "unread") (n ∷ [])
-printFile (File.holds T) = printAnswer T (answer T (Call.check 1024))
+printFile (File.holds T) = printAnswer T (answer T (checking 1024))
 
 -- what the program prints for a text
 unfoldable pub print : List ℕ → List ℕ

@@ -1,4 +1,4 @@
--- Document 01, "The harbour file and its print": bytes, numbers and lines. A text is a list of bytes.
+-- docs/FORMAT.md, "Harbour file" and "Print": bytes, numbers and lines. A text is a list of bytes.
 use Prim.Native.Nat.{ℕ, zero, suc, _+_, _-_, _*_, _/_, _%_}
 use Prim.Native.String.{String}
 use Prim.Native.Char.{Char, code}

@@ -1,4 +1,4 @@
--- Document 01, "Typing rules", at one configuration c: what reaches each query form, its set of attributes, and what breaks its rule.
+-- docs/FORMAT.md, "Typing rules", at one configuration c: what reaches each query form, its set of attributes, and what breaks its rule.
 use Prim.Native.Nat.{ℕ, zero, suc, _+_, _^_}
 use mathlib.Core.Bool.{Bool, true, false, cond, _&&_, _||_, not}
 use lib.Dec.{ltb, eqb}
@@ -7,9 +7,11 @@ use Rattle.sets.specs.Bits.{difference}
 use Rattle.report.specs.Values.{value}
 use Rattle.report.specs.Tables.{Tables, entryAttribute, entryExpression, relationExpression, relationLength, comparison, query}
 use Rattle.report.specs.Tables.{relationCount, report, relationStart, projectStart}
+use Rattle.report.specs.Operands.{queryOperands}
 use Rattle.report.specs.Expressions.{holds, permitted}
 use Rattle.report.specs.declared.Comparison.{Comparison}
 use Rattle.report.specs.declared.Query.{Query}
+use Rattle.report.specs.declared.Operands.{Operands}
 
 module _ (T : Tables) (c : ℕ) where
   -- expression e holds at c
@@ -22,17 +24,16 @@ module _ (T : Tables) (c : ℕ) where
 
   -- ---- reached
 
-  -- a query form passes c on to a form that is marked: a choice to the alternative it takes, any other form to all its operands
+  -- c is passed on to a marked form from one with these operands: from a choice to the alternative it takes, from any other to all operands
+  abbrev pub onward : (ℕ → Bool) → Operands → Bool
+  onward marked Operands.Nothing = false
+  onward marked (Operands.One a) = marked a
+  onward marked (Operands.Both a b) = marked a || marked b
+  onward marked (Operands.Choice e a b) = marked (taken e a b)
+
+  -- a query form passes c on to a marked form
   abbrev pub passesOn : (ℕ → Bool) → Query → Bool
-  passesOn marked Query.Malformed = false
-  passesOn marked Query.Empty = false
-  passesOn marked (Query.Relation a) = false
-  passesOn marked (Query.Select a b) = marked b
-  passesOn marked (Query.Project a b) = marked b
-  passesOn marked (Query.Choice a b d) = marked (taken a b d)
-  passesOn marked (Query.Product a b) = marked a || marked b
-  passesOn marked (Query.Union a b) = marked a || marked b
-  passesOn marked (Query.Intersection a b) = marked a || marked b
+  passesOn marked y = onward marked (queryOperands y)
 
   -- form q is x, or passes c on to x through any number of forms
   unfoldable pub leads : ℕ → ℕ → Bool
@@ -77,7 +78,7 @@ module _ (T : Tables) (c : ℕ) where
   unfoldable pub names : ℕ → ℕ
   names = value 0 (λ named f. namesOf named (comparison (T .comparisons) f))
 
-  -- The set of a query form. Document 01 gives one only where the rules are kept; there this is that set (proofs/SetLaws). Elsewhere, where
+  -- The set of a query form. The typing rules give one only where they are kept; there this is that set (proofs/SetLaws). Elsewhere, where
   -- no answer shows it, an absent relation has no attributes, a project those of its list that its operand has, a union or intersection
   -- those of its left operand
   abbrev pub setRule : (ℕ → ℕ) → ℕ → Query → ℕ

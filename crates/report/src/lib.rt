@@ -1,4 +1,4 @@
-// A refusal: its number, and the place, item and configuration that document 01's table of refusals names for that number. A field that
+// A refusal: its number, and the place, item and configuration that the table of refusals (docs/FORMAT.md) names for that number. A field that
 // the table does not name is 0.
 pub struct Refusal {
     pub number: u64,
@@ -50,4 +50,12 @@ pub enum Query {
     Product(usize, usize),
     Union(usize, usize),
     Intersection(usize, usize),
+}
+
+// What a form of table 3 or 4 refers to in its own table. Choice is expression, form where it holds, form elsewhere.
+pub enum Operands {
+    Nothing,
+    One(usize),
+    Both(usize, usize),
+    Choice(usize, usize, usize),
 }

@@ -1,4 +1,4 @@
--- Reading a file from its start, group by group, gives what document 01 says of it: its first bad line, or its tables.
+-- Reading a file from its start, group by group, gives what docs/FORMAT.md says of it: its first bad line, or its tables.
 use Prim.Native.Nat.{ℕ, zero, suc, _<_}
 use mathlib.Core.Path.{_≡_, refl, sym, ap, _∙_}
 use mathlib.Core.Bool.{Bool, true, false, cond}
@@ -13,7 +13,7 @@ use Rattle.report.specs.HarbourFile.{Group, groups, linesOf, isBad, File, table
 use Rattle.report.proofs.LineLaws.{lines-join, lines-none}
 use Rattle.report.proofs.FileLaws.{groupAt, groupIn, Good, good-iff, file-unread, file-holds, file-long, file-short}
 use Rattle.report.proofs.FormLines.{tables-same}
-use Rattle.report_file.specs.Reading.{Part, linesFrom, partsFrom, fileParts, partAt, fileFrom, readFile}
+use Rattle.report_file.specs.Reading.{Part, groupLinesFrom, partsFrom, fileParts, partAt, fileFrom, readFile}
 use Rattle.report_file.proofs.GroupLines.{keptTo, from-start, Took, linesIn, took}
 use Rattle.report_file.proofs.GroupParts.{Reached, reached-start, reached-more, AllRead, all-more, all-read}
 
@@ -117,7 +117,8 @@ module _ (s : List ℕ) where
 
   -- the head's part stands before the others
   parts-first : (g : Group) (gs : List Group) (at n : ℕ)
-      → let p = linesFrom s (40 ∷ g .word) (g .shape .width) (g .shape .most) at n in partsFrom s (g ∷ gs) at n ≡ p ∷ partsFrom s gs (p .at) (p .line)
+      → let p = groupLinesFrom s (40 ∷ g .word) (g .shape .width) (g .shape .most) at n in partsFrom s (g ∷ gs) at n ≡ p ∷ partsFrom s gs (p .at)
+      (p .line)
   unfolding partsFrom
   parts-first g gs at n = refl
 
@@ -145,7 +146,7 @@ module _ (s : List ℕ) where
           rw (t .number)
           (all-read s (drop 1 groups) 1 (head .at) (t .end) refl (omega arith) some (reached-more s 0 0 0 head known (reached-start s) t some))
 
--- What the code reads from the start, group by group, is what document 01 says of the file
+-- What the code reads from the start, group by group, is what docs/FORMAT.md says of the file
 pub file-read : (s : List ℕ) → readFile s ≡ fileOf s
 unfolding readFile
 file-read s = go (ltb 65536 (length s)) refl

@@ -6,7 +6,7 @@ use mathlib.Core.List.{List, [], _∷_, _++_, append-assoc, append-nil, flatten,
 use native.Mathlib.Nat.{le-refl, eq-or-lt-of-le}
 use native.Mathlib.Decide.{decLt}
 use native.Mathlib.Omega.{arith}
-use lib.ListN.{length, drop, getD, length-append, length-drop, List·getD-map, List·getD-eq-default, length-map}
+use lib.ListN.{length, drop, getD, length-append, length-drop, List·getD-eq-default, length-map}
 use lib.Seq.{drop-cons}
 use lib.Dec.{eqb}
 use borrow.Author.Tests.{eq-eqb}
@@ -20,7 +20,7 @@ use Rattle.report.proofs.FileLaws.{groupAt, group-word, group-wide, group-iff, 
 use Rattle.reading.specs.Scanning.{Line, lineAt}
 use Rattle.reading.specs.declared.Step.{Step}
 use Rattle.reading.proofs.SpelledLines.{spelled-at, line-read, line-found}
-use Rattle.report_file.specs.Reading.{Part, partOf, withLine, linesFrom}
+use Rattle.report_file.specs.Reading.{Part, partOf, withLine, groupLinesFrom}
 
 -- a line of a group is there: what is past the last line is of none
 past-last : (lines : List (List ℕ)) (k : ℕ) → groupIn lines k < 6 → k < length lines
@@ -129,7 +129,7 @@ module _ (s : List ℕ) where
 
   -- the lines that a group's scanner reads from a position, at most `most`
   abbrev pub linesIn : ℕ → ℕ → ℕ → ℕ → Part
-  linesIn g most at n = linesFrom s (40 ∷ groupAt g .word) (groupAt g .shape .width) most at n
+  linesIn g most at n = groupLinesFrom s (40 ∷ groupAt g .word) (groupAt g .shape .width) most at n
 
   module _ (g : ℕ) (known : g < 6) where
     -- no line is taken
@@ -168,7 +168,7 @@ module _ (s : List ℕ) where
 
     -- what the group's scanner reads is so
     pub took : (most at k : ℕ) → From at k → Took g most k (linesIn g most at (suc k))
-    unfolding linesFrom
+    unfolding groupLinesFrom
     took zero at k f = took-none zero at k f (λ l. absurd (omega arith))
     took (suc most) at k f = go (lineIn g at .step) refl (λ p. took most p (suc k))
       where

@@ -1,16 +1,13 @@
 -- A run of lines of one group after lines of earlier groups, by the numbers of their groups: each line is good, and what may follow.
-use Prim.Native.Nat.{ℕ, suc, _+_, _≤_, _<_}
-use mathlib.Core.Path.{_≡_, refl, _∙_}
+use Prim.Native.Nat.{ℕ, _+_, _≤_, _<_}
+use mathlib.Core.Path.{_≡_, _∙_}
 use mathlib.Core.Logic.{⊎-elim}
-use mathlib.Core.Bool.{Bool, false}
-use mathlib.Core.List.{List}
 use native.Mathlib.Nat.{le-refl, eq-or-lt-of-le}
 use native.Mathlib.Decide.{le-ind, decLt}
 use native.Mathlib.Omega.{arith}
 use lib.Dec.{eqb}
 use borrow.Author.Tests.{eq-eqb, ne-eqb}
 use Rattle.sets.specs.Search.{countBelow}
-use Rattle.sets.specs.Lists.{kept}
 use Rattle.sets.proofs.SearchLaws.{count-none, count-yes}
 use Rattle.report.proofs.FileLaws.{groupAt, Good}
 

@@ -5,7 +5,7 @@ use mathlib.Core.List.{List, [], _∷_, _++_, append-assoc, append-nil}
 use native.Mathlib.Nat.{suc-mul, mul-le-mul-right}
 use native.Mathlib.Numerals.{add-one}
 use native.Mathlib.Omega.{arith}
-use lib.ListN.{length, getD, take, drop, set, length-append, length-take}
+use lib.ListN.{length, getD, take, drop, set, length-append}
 use lib.Seq.{sets, sets-eq, take-set-le, take-at, length-take-le, getD-take}
 use borrow.Author.Tests.{eq-eqb, ne-eqb, lt-ltb, le-ltb}
 use Rattle.report.specs.Tables.{Tables, tablesOf, shapeOf}
@@ -15,8 +15,8 @@ use Rattle.reading.specs.Scanning.{onStep, lineAt, Stored}
 use Rattle.reading.proofs.LineSteps.{line-width, stored-same}
 use Rattle.report_file.specs.declared.Place.{Place}
 use Rattle.report_file.specs.declared.Outcome.{Outcome}
-use Rattle.report_file.specs.Reading.{Part, partOf, withLine, linesFrom, partsFrom, fileParts, partAt, fileFrom, readFile}
-use Rattle.report_file.specs.Filing.{Starts, Room, Taken, Held, Filed}
+use Rattle.report_file.specs.Reading.{Part, partOf, withLine, groupLinesFrom, partsFrom, fileParts, partAt, fileFrom, readFile}
+use Rattle.report_file.specs.Filing.{Starts, GroupRoom, GroupTaken, Held, Filed}
 
 -- ---- the words of a line, stored after those before them
 
@@ -35,11 +35,11 @@ take-stored vs l i width e h =
 pub record LinesRead (s word : List ℕ) (width most start line : ℕ) (first out : List ℕ) (k at to : ℕ) : Type 0 where
   pub within : k ≤ most
   pub words : to ≡ k * width
-  pub room : Room width most line out
+  pub room : GroupRoom width most line out
   pub long : length out ≡ length first
-  pub same : linesFrom s word width most start line ≡ withLine (take to out) (linesFrom s word width (most - k) at (line + k))
+  pub same : groupLinesFrom s word width most start line ≡ withLine (take to out) (groupLinesFrom s word width (most - k) at (line + k))
 
-pub lines-none : (s word : List ℕ) (start : ℕ) {width most line : ℕ} {first : List ℕ} → Room width most line first
+pub lines-none : (s word : List ℕ) (start : ℕ) {width most line : ℕ} {first : List ℕ} → GroupRoom width most line first
     → LinesRead s word width most start line first first 0 start 0
 lines-none s word start {most} {line} r =
     let e : most - 0 ≡ most = omega arith in
@@ -55,17 +55,17 @@ module _ {s word : List ℕ} {width most start line : ℕ} {first out : List ℕ
   one-less h = omega arith
 
   -- no more lines follow
-  lines-end : {after : List ℕ} → linesFrom s word width (most - k) at (line + k) ≡ partOf [] at (line + k) → take to after ≡ take to out
-      → Taken (linesFrom s word width most start line) (line + most) (record { at = at; line = line + k; end = to }) after
+  lines-end : {after : List ℕ} → groupLinesFrom s word width (most - k) at (line + k) ≡ partOf [] at (line + k) → take to after ≡ take to out
+      → GroupTaken (groupLinesFrom s word width most start line) (line + most) (record { at = at; line = line + k; end = to }) after
   lines-end {after} e w =
       let m : k * width ≤ most * width = mul-le-mul-right {m = k} {n = most} width (g .within) in
-      let z : linesFrom s word width most start line ≡ partOf (take to out) at (line + k) = g .same ∙ rw (e, append-nil) in
+      let z : groupLinesFrom s word width most start line ≡ partOf (take to out) at (line + k) = g .same ∙ rw (e, append-nil) in
       let l : length (take to out) ≡ to = length-take-le to out (omega (arith, g .words, g .room .words, m)) in
       rw z (record { place = refl; number = refl; few = omega (arith, g .within); long = sym l; words = rw l w })
 
   module _ {p : ℕ} {answer : Step} {after : List ℕ} (h : k < most) (stored : Stored (lineAt s word width at) answer out to after) where
     pub lines-more : answer ≡ Step.Next p → LinesRead s word width most start line first after (k + 1) p (to + width)
-    unfolding linesFrom
+    unfolding groupLinesFrom
     lines-more e =
         let f : lineAt s word width at .step ≡ Step.Next p = sym (stored .step) ∙ e in
         let w : take (to + width) after ≡ take to out ++ lineAt s word width at .numbers =
@@ -81,15 +81,16 @@ module _ {s word : List ℕ} {width most start line : ℕ} {first out : List ℕ
         }
 
     pub lines-stop : answer ≡ Step.Stop p
-        → Taken (linesFrom s word width most start line) (line + most) (record { at = at; line = line + k; end = to }) after
-    unfolding linesFrom
+        → GroupTaken (groupLinesFrom s word width most start line) (line + most) (record { at = at; line = line + k; end = to }) after
+    unfolding groupLinesFrom
     lines-stop e =
         let f : lineAt s word width at .step ≡ Step.Stop p = sym (stored .step) ∙ e in
         lines-end (rw (one-less h, f))
         (ap (take to) (stored .words) ∙ take-kept (lineAt s word width at .numbers) out to to (omega arith))
 
-  pub lines-all : most ≤ k → Taken (linesFrom s word width most start line) (line + most) (record { at = at; line = line + k; end = to }) out
-  unfolding linesFrom
+  pub lines-all : most ≤ k → GroupTaken (groupLinesFrom s word width most start line) (line + most)
+      (record { at = at; line = line + k; end = to }) out
+  unfolding groupLinesFrom
   lines-all h = let e : most - k ≡ 0 = omega arith in lines-end (rw e) refl
 
 -- of a group of one line at most: it was read, or there is none
@@ -97,8 +98,8 @@ module _ (s word : List ℕ) (width at n : ℕ) where
   abbrev oneOrNone : Step → Part
   oneOrNone step = onStep step (λ p. withLine (lineAt s word width at .numbers) (partOf [] p (suc n))) (λ p. partOf [] at n)
 
-  one-line : (length (linesFrom s word width 1 at n .words) ≡ 0 → ⊥) → length (linesFrom s word width 1 at n .words) ≡ width
-  unfolding linesFrom
+  one-line : (length (groupLinesFrom s word width 1 at n .words) ≡ 0 → ⊥) → length (groupLinesFrom s word width 1 at n .words) ≡ width
+  unfolding groupLinesFrom
   one-line some = go (lineAt s word width at .step) refl some
     where
       go : (step : Step) → lineAt s word width at .step ≡ step → (length (oneOrNone step .words) ≡ 0 → ⊥) → length (oneOrNone step .words) ≡ width
@@ -111,40 +112,41 @@ module _ (s word : List ℕ) (width at n : ℕ) where
 abbrev pub partFrom : List ℕ → ℕ → ℕ → ℕ → Part
 partFrom s g at n =
     let group = getD groups g (groupOf [] (shapeOf 0 0 0)) in
-    linesFrom s (40 ∷ group .word) (group .shape .width) (group .shape .most) at n
+    groupLinesFrom s (40 ∷ group .word) (group .shape .width) (group .shape .most) at n
 
-follows : (next : ℕ → ℕ → Part) {p : Part} {m m′ : ℕ} {r r′ : Place} {o o′ : List ℕ} → Taken p m r o → Taken (next (r .at) (r .line)) m′ r′ o′
-    → Taken (next (p .at) (p .line)) m′ r′ o′
+follows : (next : ℕ → ℕ → Part) {p : Part} {m m′ : ℕ} {r r′ : Place} {o o′ : List ℕ} → GroupTaken p m r o
+    → GroupTaken (next (r .at) (r .line)) m′ r′ o′
+    → GroupTaken (next (p .at) (p .line)) m′ r′ o′
 follows next f g = rw (← f .place, ← f .number) g
 
-module _ (s : List ℕ) {m0 m1 m2 m3 m4 m5 : ℕ} {h x e r c q : Place} {head t0 t1 t2 t3 t4 : List ℕ}
-    (f0 : Taken (partFrom s 0 0 1) m0 h head)
-    (f1 : Taken (partFrom s 1 (h .at) (h .line)) m1 x t0)
-    (f2 : Taken (partFrom s 2 (x .at) (x .line)) m2 e t1)
-    (f3 : Taken (partFrom s 3 (e .at) (e .line)) m3 r t2)
-    (f4 : Taken (partFrom s 4 (r .at) (r .line)) m4 c t3)
-    (f5 : Taken (partFrom s 5 (c .at) (c .line)) m5 q t4) where
-  g0 : Taken (partAt (fileParts s) 0) m0 h head
+module _ (s : List ℕ) {m0 m1 m2 m3 m4 m5 : ℕ} {h x e r c q : Place} {head expressions entries relations comparisons queries : List ℕ}
+    (f0 : GroupTaken (partFrom s 0 0 1) m0 h head)
+    (f1 : GroupTaken (partFrom s 1 (h .at) (h .line)) m1 x expressions)
+    (f2 : GroupTaken (partFrom s 2 (x .at) (x .line)) m2 e entries)
+    (f3 : GroupTaken (partFrom s 3 (e .at) (e .line)) m3 r relations)
+    (f4 : GroupTaken (partFrom s 4 (r .at) (r .line)) m4 c comparisons)
+    (f5 : GroupTaken (partFrom s 5 (c .at) (c .line)) m5 q queries) where
+  g0 : GroupTaken (partAt (fileParts s) 0) m0 h head
   unfolding fileParts partsFrom
   g0 = f0
 
-  g1 : Taken (partAt (fileParts s) 1) m1 x t0
+  g1 : GroupTaken (partAt (fileParts s) 1) m1 x expressions
   unfolding fileParts partsFrom
   g1 = follows (partFrom s 1) g0 f1
 
-  g2 : Taken (partAt (fileParts s) 2) m2 e t1
+  g2 : GroupTaken (partAt (fileParts s) 2) m2 e entries
   unfolding fileParts partsFrom
   g2 = follows (partFrom s 2) g1 f2
 
-  g3 : Taken (partAt (fileParts s) 3) m3 r t2
+  g3 : GroupTaken (partAt (fileParts s) 3) m3 r relations
   unfolding fileParts partsFrom
   g3 = follows (partFrom s 3) g2 f3
 
-  g4 : Taken (partAt (fileParts s) 4) m4 c t3
+  g4 : GroupTaken (partAt (fileParts s) 4) m4 c comparisons
   unfolding fileParts partsFrom
   g4 = follows (partFrom s 4) g3 f4
 
-  g5 : Taken (partAt (fileParts s) 5) m5 q t4
+  g5 : GroupTaken (partAt (fileParts s) 5) m5 q queries
   unfolding fileParts partsFrom
   g5 = follows (partFrom s 5) g4 f5
 
@@ -158,13 +160,14 @@ module _ (s : List ℕ) {m0 m1 m2 m3 m4 m5 : ℕ} {h x e r c q : Place} {head t0
       sym (getD-take (length (partAt (fileParts s) 0 .words)) head i 0 (omega (arith, head-width n)))
       ∙ ap (λ (ws : List ℕ). getD ws i 0) (g0 .words)
 
-  pub filed-headless : h .end ≡ 0 → Filed (fileFrom s (fileParts s)) (Outcome.Bad 1) head t0 t1 t2 t3 t4
+  pub filed-headless : h .end ≡ 0 → Filed (fileFrom s (fileParts s)) (Outcome.Bad 1) head expressions entries relations comparisons queries
   unfolding Filed
   filed-headless n = rw (eq-eqb (length (partAt (fileParts s) 0 .words)) 0 (sym (g0 .long) ∙ n)) refl
 
   module _ (n : h .end ≡ 0 → ⊥) where
     pub filed-whole : q .at ≡ length s
-        → Filed (fileFrom s (fileParts s)) (Outcome.Read (x .end) (e .end) (r .end) (c .end) (q .end)) head t0 t1 t2 t3 t4
+        → Filed (fileFrom s (fileParts s))
+        (Outcome.Read (x .end) (e .end) (r .end) (c .end) (q .end)) head expressions entries relations comparisons queries
     unfolding Filed
     filed-whole l =
         rw (
@@ -176,14 +179,15 @@ module _ (s : List ℕ) {m0 m1 m2 m3 m4 m5 : ℕ} {h x e r c q : Place} {head t0
           features = head-word n 0 (omega arith);
           attributes = head-word n 1 (omega arith);
           model = head-word n 2 (omega arith);
-          expressions = g1 .words;
-          entries = g2 .words;
-          relations = g3 .words;
-          comparisons = g4 .words;
-          queries = g5 .words;
+          expressionsStart = g1 .words;
+          entriesStart = g2 .words;
+          relationsStart = g3 .words;
+          comparisonsStart = g4 .words;
+          queriesStart = g5 .words;
         })
 
-    pub filed-stopped : (q .at ≡ length s → ⊥) → Filed (fileFrom s (fileParts s)) (Outcome.Bad (q .line)) head t0 t1 t2 t3 t4
+    pub filed-stopped : (q .at ≡ length s → ⊥)
+        → Filed (fileFrom s (fileParts s)) (Outcome.Bad (q .line)) head expressions entries relations comparisons queries
     unfolding Filed
     filed-stopped l =
         rw (
@@ -212,24 +216,26 @@ pub record Words (table : List ℕ) (n : ℕ) (words : List ℕ) : Type 0 where
 words-at : {table words : List ℕ} {n : ℕ} → Starts table words → n ≡ length words → Words table n words
 words-at {table} {words} {n} e l = let s : take n table ≡ words = rw l e in record { long = l ∙ ap length (sym s); same = s }
 
-module _ {T : Tables} {a b c d e : ℕ} {h t0 t1 t2 t3 t4 : List ℕ} (H : Held T (Outcome.Read a b c d e) h t0 t1 t2 t3 t4) where
-  pub expressions-held : Words t0 a (T .expressions)
-  expressions-held = words-at (H .expressions) (let l = H .lengths in cc)
+module _ {T : Tables} {a b c d e : ℕ} {head expressions entries relations comparisons queries : List ℕ}
+    (H : Held T (Outcome.Read a b c d e) head expressions entries relations comparisons queries) where
+  pub expressions-held : Words expressions a (T .expressions)
+  expressions-held = words-at (H .expressionsStart) (let l = H .lengths in cc)
 
-  pub entries-held : Words t1 b (T .entries)
-  entries-held = words-at (H .entries) (let l = H .lengths in cc)
+  pub entries-held : Words entries b (T .entries)
+  entries-held = words-at (H .entriesStart) (let l = H .lengths in cc)
 
-  pub relations-held : Words t2 c (T .relations)
-  relations-held = words-at (H .relations) (let l = H .lengths in cc)
+  pub relations-held : Words relations c (T .relations)
+  relations-held = words-at (H .relationsStart) (let l = H .lengths in cc)
 
-  pub comparisons-held : Words t3 d (T .comparisons)
-  comparisons-held = words-at (H .comparisons) (let l = H .lengths in cc)
+  pub comparisons-held : Words comparisons d (T .comparisons)
+  comparisons-held = words-at (H .comparisonsStart) (let l = H .lengths in cc)
 
-  pub queries-held : Words t4 e (T .queries)
-  queries-held = words-at (H .queries) (let l = H .lengths in cc)
+  pub queries-held : Words queries e (T .queries)
+  queries-held = words-at (H .queriesStart) (let l = H .lengths in cc)
 
   -- the tables are the words read
-  pub held-tables : tablesOf (getD h 0 0) (getD h 1 0) (getD h 2 0) (take a t0) (take b t1) (take c t2) (take d t3) (take e t4) ≡ T
+  pub held-tables : tablesOf (getD head 0 0) (getD head 1 0) (getD head 2 0) (take a expressions) (take b entries) (take c relations)
+      (take d comparisons) (take e queries) ≡ T
   held-tables =
       rw (
         H .features,
@@ -242,14 +248,16 @@ module _ {T : Tables} {a b c d e : ℕ} {h t0 t1 t2 t3 t4 : List ℕ} (H : Held 
         queries-held .same,
       )
 
-module _ (h t0 t1 t2 t3 t4 : List ℕ) where
-  pub bad-told : (f : File) {answer : Outcome} {n : ℕ} → Filed f answer h t0 t1 t2 t3 t4 → answer ≡ Outcome.Bad n → f ≡ File.unread n
+module _ (head expressions entries relations comparisons queries : List ℕ) where
+  pub bad-told : (f : File) {answer : Outcome} {n : ℕ} → Filed f answer head expressions entries relations comparisons queries
+      → answer ≡ Outcome.Bad n → f ≡ File.unread n
   unfolding Filed
   bad-told (File.unread m) e q = cc
   bad-told (File.holds T) e q = absurd (let l = e .lengths in let z : _≡_ {A = ℕ} 0 1 = cc in omega arith)
 
-  pub read-told : (f : File) {answer : Outcome} {a b c d e : ℕ} → Filed f answer h t0 t1 t2 t3 t4 → answer ≡ Outcome.Read a b c d e
-      → (T : Tables) × (f ≡ File.holds T) × Held T (Outcome.Read a b c d e) h t0 t1 t2 t3 t4
+  pub read-told : (f : File) {answer : Outcome} {a b c d e : ℕ} → Filed f answer head expressions entries relations comparisons queries
+      → answer ≡ Outcome.Read a b c d e
+      → (T : Tables) × (f ≡ File.holds T) × Held T (Outcome.Read a b c d e) head expressions entries relations comparisons queries
   unfolding Filed
   read-told (File.unread m) g q = absurd (let z : _≡_ {A = ℕ} 0 1 = cc in omega arith)
   read-told (File.holds T) g q = (T, refl, rw q at g)

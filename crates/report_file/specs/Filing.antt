@@ -16,12 +16,12 @@ Starts table words = take (length words) table ≡ words
 -- ---- a group
 
 -- there is room for a group's words, and its line numbers are small
-pub record Room (width most line : ℕ) (out : List ℕ) : Type 0 where
+pub record GroupRoom (width most line : ℕ) (out : List ℕ) : Type 0 where
   pub words : most * width ≤ length out
   pub lines : line + most ≤ 4096
 
 -- the answer for a group, whose last line number is at most `most`
-pub record Taken (part : Part) (most : ℕ) (answer : Place) (after : List ℕ) : Type 0 where
+pub record GroupTaken (part : Part) (most : ℕ) (answer : Place) (after : List ℕ) : Type 0 where
   pub place : answer .at ≡ part .at
   pub number : answer .line ≡ part .line
   pub few : answer .line ≤ most
@@ -31,36 +31,37 @@ pub record Taken (part : Part) (most : ℕ) (answer : Place) (after : List ℕ) 
 -- ---- a file
 
 -- there is room for the head and for every table
-pub record Lent (h t0 t1 t2 t3 t4 : List ℕ) : Type 0 where
-  pub head : 3 ≤ length h
-  pub expressions : 768 ≤ length t0
-  pub entries : 1024 ≤ length t1
-  pub relations : 64 ≤ length t2
-  pub comparisons : 1280 ≤ length t3
-  pub queries : 1024 ≤ length t4
+pub record Lent (head expressions entries relations comparisons queries : List ℕ) : Type 0 where
+  pub headRoom : 3 ≤ length head
+  pub expressionsRoom : 768 ≤ length expressions
+  pub entriesRoom : 1024 ≤ length entries
+  pub relationsRoom : 64 ≤ length relations
+  pub comparisonsRoom : 1280 ≤ length comparisons
+  pub queriesRoom : 1024 ≤ length queries
 
 -- the answer for a file that holds the tables T: how many words each has; and where they stand
-pub record Held (T : Tables) (answer : Outcome) (h t0 t1 t2 t3 t4 : List ℕ) : Type 0 where
+pub record Held (T : Tables) (answer : Outcome) (head expressions entries relations comparisons queries : List ℕ) : Type 0 where
   pub lengths :
       answer
       ≡ Outcome.Read (length (T .expressions)) (length (T .entries)) (length (T .relations)) (length (T .comparisons)) (length (T .queries))
-  pub features : getD h 0 0 ≡ T .features
-  pub attributes : getD h 1 0 ≡ T .attributes
-  pub model : getD h 2 0 ≡ T .model
-  pub expressions : Starts t0 (T .expressions)
-  pub entries : Starts t1 (T .entries)
-  pub relations : Starts t2 (T .relations)
-  pub comparisons : Starts t3 (T .comparisons)
-  pub queries : Starts t4 (T .queries)
+  pub features : getD head 0 0 ≡ T .features
+  pub attributes : getD head 1 0 ≡ T .attributes
+  pub model : getD head 2 0 ≡ T .model
+  pub expressionsStart : Starts expressions (T .expressions)
+  pub entriesStart : Starts entries (T .entries)
+  pub relationsStart : Starts relations (T .relations)
+  pub comparisonsStart : Starts comparisons (T .comparisons)
+  pub queriesStart : Starts queries (T .queries)
 
 -- there are such tables, and room for every print
-pub record HeldReadable (answer : Outcome) (h t0 t1 t2 t3 t4 out : List ℕ) : Type 0 where
+pub record HeldReadable (answer : Outcome) (head expressions entries relations comparisons queries out : List ℕ) : Type 0 where
   pub tables : Tables
-  pub held : Held tables answer h t0 t1 t2 t3 t4
-  pub whole : 3 ≤ length h
+  pub held : Held tables answer head expressions entries relations comparisons queries
+  pub whole : 3 ≤ length head
   pub room : 201653 ≤ length out
 
 -- the answer for a file: the number of its first bad line, or its tables
 unfoldable pub Filed : File → Outcome → List ℕ → List ℕ → List ℕ → List ℕ → List ℕ → List ℕ → Type 0
-Filed (File.unread n) answer h t0 t1 t2 t3 t4 = answer ≡ Outcome.Bad n
-Filed (File.holds T) answer h t0 t1 t2 t3 t4 = Held T answer h t0 t1 t2 t3 t4
+Filed (File.unread n) answer head expressions entries relations comparisons queries = answer ≡ Outcome.Bad n
+Filed (File.holds T) answer head expressions entries relations comparisons queries = Held T answer head expressions entries relations comparisons
+    queries

@@ -1,4 +1,4 @@
--- Reading a file from its start, group by group: what the code does. That it gives document 01's first bad line is proofs/FirstBadLine.
+-- Reading a file from its start, group by group: what the code does. That it gives the file's first bad line is proofs/FirstBadLine.
 use Prim.Native.Nat.{ℕ, zero, suc}
 use mathlib.Core.Bool.{cond}
 use mathlib.Core.List.{List, [], _∷_, _++_}
@@ -20,17 +20,17 @@ abbrev pub withLine : List ℕ → Part → Part
 withLine ns p = partOf (ns ++ p .words) (p .at) (p .line)
 
 -- at most k lines of the word and `width` numbers, from `at` on, where line number n stands
-unfoldable pub linesFrom : List ℕ → List ℕ → ℕ → ℕ → ℕ → ℕ → Part
-linesFrom s word width zero at n = partOf [] at n
-linesFrom s word width (suc k) at n =
+unfoldable pub groupLinesFrom : List ℕ → List ℕ → ℕ → ℕ → ℕ → ℕ → Part
+groupLinesFrom s word width zero at n = partOf [] at n
+groupLinesFrom s word width (suc k) at n =
     let l = lineAt s word width at in
-    onStep (l .step) (λ p. withLine (l .numbers) (linesFrom s word width k p (suc n))) (λ p. partOf [] at n)
+    onStep (l .step) (λ p. withLine (l .numbers) (groupLinesFrom s word width k p (suc n))) (λ p. partOf [] at n)
 
 -- the parts of some groups; each group starts where the one before it ends
 unfoldable pub partsFrom : List ℕ → List Group → ℕ → ℕ → List Part
 partsFrom s [] at n = []
 partsFrom s (g ∷ gs) at n =
-    let p = linesFrom s (40 ∷ g .word) (g .shape .width) (g .shape .most) at n in
+    let p = groupLinesFrom s (40 ∷ g .word) (g .shape .width) (g .shape .most) at n in
     p ∷ partsFrom s gs (p .at) (p .line)
 
 -- the parts of the groups of a file

@@ -11,8 +11,8 @@ ghost use Prim.Native.Nat.{_+_};
 ghost use Rattle.report.specs.Tables.{Tables};
 ghost use Rattle.report.specs.HarbourFile.{File};
 ghost use Rattle.report.specs.Print.{print, printFile};
-ghost use Rattle.report_file.specs.Reading.{linesFrom, fileParts, fileFrom, readFile};
-ghost use Rattle.report_file.specs.Filing.{Room, Taken, Lent, Held, HeldReadable, Filed};
+ghost use Rattle.report_file.specs.Reading.{groupLinesFrom, fileParts, fileFrom, readFile};
+ghost use Rattle.report_file.specs.Filing.{GroupRoom, GroupTaken, Lent, Held, HeldReadable, Filed};
 ghost use Rattle.report_file.specs.Printing.{Prints};
 ghost use Rattle.report_file.specs.declared.Outcome.{Outcome};
 
@@ -38,9 +38,10 @@ fn read_lines(
     from: Place,
     out: &mut [u16],
 ) -> Place
-    requires { ⌜ Room width most (from .line) (now out) ⌝ }
+    requires { ⌜ GroupRoom width most (from .line) (now out) ⌝ }
     ensures { λ r.
-        ⌜ Taken (linesFrom (now (s .entry)) (now (word .entry)) width most (from .at) (from .line)) (from .line + most) r (now (out .exit)) ⌝ }
+        ⌜ GroupTaken (groupLinesFrom (now (s .entry)) (now (word .entry)) width most (from .at) (from .line)) (from .line + most) r (now (out .exit))
+        ⌝ }
 {
     let line = from.line;
     let mut at = from.at;
@@ -73,16 +74,16 @@ fn read_lines(
 fn read_groups(
     s: &[u8],
     head: &mut [u16],
-    t0: &mut [u16],
-    t1: &mut [u16],
-    t2: &mut [u16],
-    t3: &mut [u16],
-    t4: &mut [u16],
+    expressions: &mut [u16],
+    entries: &mut [u16],
+    relations: &mut [u16],
+    comparisons: &mut [u16],
+    queries: &mut [u16],
 ) -> Outcome
-    requires { ⌜ Lent (now head) (now t0) (now t1) (now t2) (now t3) (now t4) ⌝ }
+    requires { ⌜ Lent (now head) (now expressions) (now entries) (now relations) (now comparisons) (now queries) ⌝ }
     ensures { λ r.
         ⌜ Filed (fileFrom (now (s .entry)) (fileParts (now (s .entry)))) r
-        (now (head .exit)) (now (t0 .exit)) (now (t1 .exit)) (now (t2 .exit)) (now (t3 .exit)) (now (t4 .exit)) ⌝ }
+        (now (head .exit)) (now (expressions .exit)) (now (entries .exit)) (now (relations .exit)) (now (comparisons .exit)) (now (queries .exit)) ⌝ }
 {
     let start = Place {
         at: 0,
@@ -90,11 +91,32 @@ fn read_groups(
         end: 0,
     };
     let h = read_lines(s, b"(head", 3, 1, start, head);
-    let x = read_lines(s, b"(expression", 3, AttributeSet::MOST_EXPRESSIONS, h, t0);
-    let e = read_lines(s, b"(entry", 2, AttributeSet::MOST_ENTRIES, x, t1);
-    let r = read_lines(s, b"(relation", 2, AttributeSet::MOST_RELATIONS, e, t2);
-    let c = read_lines(s, b"(comparison", 5, AttributeSet::MOST_COMPARISONS, r, t3);
-    let q = read_lines(s, b"(query", 4, AttributeSet::MOST_QUERIES, c, t4);
+    let x = read_lines(
+        s,
+        b"(expression",
+        3,
+        AttributeSet::MOST_EXPRESSIONS,
+        h,
+        expressions,
+    );
+    let e = read_lines(s, b"(entry", 2, AttributeSet::MOST_ENTRIES, x, entries);
+    let r = read_lines(
+        s,
+        b"(relation",
+        2,
+        AttributeSet::MOST_RELATIONS,
+        e,
+        relations,
+    );
+    let c = read_lines(
+        s,
+        b"(comparison",
+        5,
+        AttributeSet::MOST_COMPARISONS,
+        r,
+        comparisons,
+    );
+    let q = read_lines(s, b"(query", 4, AttributeSet::MOST_QUERIES, c, queries);
     if h.end == 0 {
         return Outcome::Bad(1);
     }
@@ -104,29 +126,43 @@ fn read_groups(
     Outcome::Bad(q.line)
 }
 
-// The whole file. A longer one than 65,536 bytes is not read.
+// The length of the longest file that is read.
+pub const LONGEST_FILE: usize = 65536;
+
+// The whole file. A longer one is not read.
 fn read_file(
     s: &[u8],
     head: &mut [u16],
-    t0: &mut [u16],
-    t1: &mut [u16],
-    t2: &mut [u16],
-    t3: &mut [u16],
-    t4: &mut [u16],
+    expressions: &mut [u16],
+    entries: &mut [u16],
+    relations: &mut [u16],
+    comparisons: &mut [u16],
+    queries: &mut [u16],
 ) -> Outcome
-    requires { ⌜ Lent (now head) (now t0) (now t1) (now t2) (now t3) (now t4) ⌝ }
+    requires { ⌜ Lent (now head) (now expressions) (now entries) (now relations) (now comparisons) (now queries) ⌝ }
     ensures { λ r.
         ⌜ Filed (readFile (now (s .entry))) r
-        (now (head .exit)) (now (t0 .exit)) (now (t1 .exit)) (now (t2 .exit)) (now (t3 .exit)) (now (t4 .exit)) ⌝ }
+        (now (head .exit)) (now (expressions .exit)) (now (entries .exit)) (now (relations .exit)) (now (comparisons .exit)) (now (queries .exit)) ⌝ }
 {
-    if 65536 < s.len() {
+    if LONGEST_FILE < s.len() {
         return Outcome::Bad(0);
     }
-    read_groups(s, head, t0, t1, t2, t3, t4)
+    read_groups(
+        s,
+        head,
+        expressions,
+        entries,
+        relations,
+        comparisons,
+        queries,
+    )
 }
 
-// Room for the longest print: 1,024 configurations with 64 attributes each.
-pub type PrintRoom = [u8; 201653];
+// The length of the longest print: 1,024 configurations with 64 attributes each.
+pub const LONGEST_PRINT: usize = 201653;
+
+// Room for every print.
+pub type PrintRoom = [u8; LONGEST_PRINT];
 
 fn wide(x: u16) -> u64
     ensures { λ r. ⌜ r ≡ x ⌝ }
@@ -137,11 +173,11 @@ fn wide(x: u16) -> u64
 // The print of tables that were read, which are so many of the first words of the lent ones.
 fn print_read(
     head: &[u16],
-    t0: &[u16],
-    t1: &[u16],
-    t2: &[u16],
-    t3: &[u16],
-    t4: &[u16],
+    expressions: &[u16],
+    entries: &[u16],
+    relations: &[u16],
+    comparisons: &[u16],
+    queries: &[u16],
     a: usize,
     b: usize,
     c: usize,
@@ -149,21 +185,23 @@ fn print_read(
     e: usize,
     out: &mut [u8],
 ) -> usize
-    requires { ⌜ HeldReadable (Outcome.Read a b c d e) (now head) (now t0) (now t1) (now t2) (now t3) (now t4) (now out) ⌝ }
+    requires { ⌜ HeldReadable (Outcome.Read a b c d e) (now head) (now expressions) (now entries) (now relations) (now comparisons) (now queries)
+        (now out) ⌝ }
     ensures { λ r.
         ⌜ ((T : Tables)
-        → Held T (Outcome.Read a b c d e) (now (head .entry)) (now (t0 .entry)) (now (t1 .entry)) (now (t2 .entry)) (now (t3 .entry)) (now (t4 .entry))
+        → Held T (Outcome.Read a b c d e) (now (head .entry)) (now (expressions .entry)) (now (entries .entry)) (now (relations .entry))
+        (now (comparisons .entry)) (now (queries .entry))
         → Prints (printFile (File.holds T)) (now (out .entry)) (now (out .exit)) r) ⌝ }
 {
     print_tables(
         wide(head[0]),
         wide(head[1]),
         wide(head[2]),
-        &t0[..a],
-        &t1[..b],
-        &t2[..c],
-        &t3[..d],
-        &t4[..e],
+        &expressions[..a],
+        &entries[..b],
+        &relations[..c],
+        &comparisons[..d],
+        &queries[..e],
         out,
     )
 }
@@ -173,16 +211,37 @@ pub fn print_file(text: &[u8], out: &mut PrintRoom) -> usize
     ensures { λ r. ⌜ Prints (print (now (text .entry))) (now (out .entry)) (now (out .exit)) r ⌝ }
 {
     let mut head = [0; 3];
-    let mut t0 = [0; 768];
-    let mut t1 = [0; 1024];
-    let mut t2 = [0; 64];
-    let mut t3 = [0; 1280];
-    let mut t4 = [0; 1024];
-    let file = read_file(text, &mut head, &mut t0, &mut t1, &mut t2, &mut t3, &mut t4);
+    let mut expressions = [0; AttributeSet::MOST_EXPRESSIONS * 3];
+    let mut entries = [0; AttributeSet::MOST_ENTRIES * 2];
+    let mut relations = [0; AttributeSet::MOST_RELATIONS * 2];
+    let mut comparisons = [0; AttributeSet::MOST_COMPARISONS * 5];
+    let mut queries = [0; AttributeSet::MOST_QUERIES * 4];
+    let file = read_file(
+        text,
+        &mut head,
+        &mut expressions,
+        &mut entries,
+        &mut relations,
+        &mut comparisons,
+        &mut queries,
+    );
     match file {
         Outcome::Bad(n) => put_unread(out, 0, n as u64),
         Outcome::Read(a, b, c, d, e) => {
-            print_read(&head, &t0, &t1, &t2, &t3, &t4, a, b, c, d, e, out)
+            print_read(
+                &head,
+                &expressions,
+                &entries,
+                &relations,
+                &comparisons,
+                &queries,
+                a,
+                b,
+                c,
+                d,
+                e,
+                out,
+            )
         }
     }
 }

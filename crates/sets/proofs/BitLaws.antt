@@ -1,7 +1,7 @@
 -- Laws of sets as numbers, for any number of bits.
 use Prim.Native.Nat.{ℕ, zero, suc, _+_, _-_, _*_, _/_, _%_, _^_, _<_, _≤_, min, max}
 use mathlib.Core.Path.{_≡_, refl, sym, ap, ap₂, _∙_}
-use mathlib.Core.Bool.{Bool, true, false, cond, not, _&&_, _||_, xor, or-assoc as or-assoc-bool, false≢true}
+use mathlib.Core.Bool.{Bool, true, false, cond, not, _&&_, _||_, xor, and-true, and-false, or-false, or-assoc as or-assoc-bool, false≢true}
 use mathlib.Core.Logic.{_≢_}
 use native.Mathlib.Nat.{div-one, mod-lt, zero-lt-suc, pow-suc, pow-succ', div-div-eq-div-mul, div-eq-of-lt, zero-div, sub-zero, div-add-mod', one-mul}
 use native.Mathlib.Nat.{le-of-suc-le-suc, not-suc-le-zero, lt-of-lt-of-le, lt-of-le-of-lt}
@@ -15,9 +15,9 @@ use lib.Bits.{and-lt, or-lt, xor-lt, and-le-l, and-le-r, xor-self, xor-add-and}
 use lib.Count.{trailingZeros, under, ones, ones-step}
 use borrow.Author.Tests.{lt-ltb, le-ltb, eq-eqb, ne-eqb}
 use Rattle.sets.specs.declared.Found.{Found}
-use Rattle.sets.specs.Search.{lowest, countBelow, foundOr0}
+use Rattle.sets.specs.Search.{lowest, countBelow, foundOr0, First}
 use Rattle.sets.specs.Bits.{bit, digit, bitsOf, difference, lowestMember}
-use Rattle.sets.proofs.SearchLaws.{First, nothing-lowest, at-lowest, count-head, count-same}
+use Rattle.sets.proofs.SearchLaws.{nothing-lowest, at-lowest, count-head, count-same}
 
 -- ---- one digit
 
@@ -335,3 +335,27 @@ ones-count (suc k) n h =
     same : (b : Bool) → digit b ≡ cond b 1 0
     same true = refl
     same false = refl
+
+-- ---- a loop that joins member after member
+
+-- the numbers below a of which the test holds, and a besides if it holds of a
+pub one-more : (test : ℕ → Bool) (a i x : ℕ) → bit x i ≡ (ltb i a && test i)
+    → bit (cond (test a) (bitOr x (2 ^ a)) x) i ≡ (ltb i (a + 1) && test i)
+one-more test a i x e = choose (test a) ∙ place (decLt i a) (ℕ-discrete i a)
+  where
+    choose : (t : Bool) → bit (cond t (bitOr x (2 ^ a)) x) i ≡ ((ltb i a && test i) || (eqb i a && t))
+    choose true = bit-or x (2 ^ a) i ∙ ap₂ _||_ e (bit-pow a i ∙ sym (and-true (eqb i a)))
+    choose false = e ∙ sym (ap (λ (t : Bool). (ltb i a && test i) || t) (and-false (eqb i a)) ∙ or-false (ltb i a && test i))
+
+    place : Dec (i < a) → Dec (i ≡ a) → ((ltb i a && test i) || (eqb i a && test a)) ≡ (ltb i (a + 1) && test i)
+    place (yes l) d = rw (lt-ltb i a l, ne-eqb i a (omega arith), lt-ltb i (a + 1) (omega arith)) (or-false (test i))
+    place (no l) (yes d) = rw (le-ltb i a (omega arith), eq-eqb i a d, lt-ltb i (a + 1) (omega arith), d)
+    place (no l) (no d) = rw (le-ltb i a (omega arith), ne-eqb i a d, le-ltb i (a + 1) (omega arith))
+
+-- those below k are the bits of a number below 2 ^ k
+pub all-below : (test : ℕ → Bool) (k x : ℕ) → ((i : ℕ) → bit x i ≡ (ltb i k && test i)) → x ≡ bitsOf k test
+all-below test k x e = bits-equal x (bitsOf k test) (λ i. e i ∙ own i (decLt i k))
+  where
+    own : (i : ℕ) → Dec (i < k) → (ltb i k && test i) ≡ bit (bitsOf k test) i
+    own i (yes l) = rw (lt-ltb i k l) (sym (bit-bitsOf k test i l))
+    own i (no l) = rw (le-ltb i k (omega arith)) (sym (bit-above k (bitsOf k test) i (bitsOf-lt k test) (omega arith)))

@@ -2,24 +2,24 @@
 use Prim.Native.Nat.{ℕ, zero, suc, _+_, _-_, _*_, _/_, _%_, _^_, _<_, _≤_}
 use mathlib.Core.Path.{_≡_, refl, sym, ap, ap₂, _∙_}
 use mathlib.Core.Bool.{Bool, true, false, not, _&&_, _||_, and-true, false≢true}
-use mathlib.Core.List.{List, [], _∷_, _++_}
+use mathlib.Core.List.{List, [], _∷_, _++_, append-assoc}
 use mathlib.Core.Logic.{_≢_, _↔_, ⊎-elim}
-use native.Mathlib.Nat.{not-suc-le-zero, le-of-suc-le-suc, le-refl, eq-or-lt-of-le, div-add-mod', suc-mul, mul-le-mul-right}
+use native.Mathlib.Nat.{not-suc-le-zero, le-of-suc-le-suc, le-refl, eq-or-lt-of-le, div-add-mod', zero-mul, suc-mul, mul-le-mul-right}
 use native.Mathlib.Decide.{decLt}
 use native.Mathlib.Numerals.{add-one}
 use native.Mathlib.Omega.{arith}
 use lib.Dec.{eqb, ltb}
 use lib.Bits.{bitAnd, bitOr, or-add-and, and-le-l, and-le-r}
 use lib.Count.{trailingZeros}
-use lib.ListN.{length, getD, take, drop, length-append, length-drop, List·getD-append}
-use lib.Seq.{length-take-le, getD-append-add, getD-take, getD-drop}
+use lib.ListN.{length, getD, take, drop, length-append, length-drop, take-append-drop, List·getD-append}
+use lib.Seq.{length-take-le, getD-append-add, getD-take, getD-drop, drop-drop}
 use borrow.Author.Tests.{lt-ltb, le-ltb, eq-eqb, ne-eqb, not-true}
 use Rattle.sets.specs.declared.Found.{Found}
-use Rattle.sets.specs.Search.{lowest, isFound, someBelow}
+use Rattle.sets.specs.Search.{lowest, isFound, someBelow, First}
 use Rattle.sets.specs.Lists.{table, concat}
 use Rattle.sets.specs.Bits.{bit, bitsOf, difference}
-use Rattle.sets.specs.Rows.{rowBit, wordOf, rowOf, within, zip, rowJoin, rowIntersect, rowMinus, rowIsEmpty, rowLowest, rowIn, withRow}
-use Rattle.sets.proofs.SearchLaws.{First, at-lowest, nothing-lowest, lowest-same, some-same, some-none}
+use Rattle.sets.specs.Rows.{rowBit, wordOf, rowOf, within, zip, rowJoin, rowIntersect, rowMinus, rowIsEmpty, rowLowest, rowIn, withRow, RowsAre}
+use Rattle.sets.proofs.SearchLaws.{at-lowest, nothing-lowest, lowest-same, some-same, some-none}
 use Rattle.sets.proofs.ListLaws.{table-length, table-at, table-same, table-of, concat-length, concat-at, concat-step}
 use Rattle.sets.proofs.BitLaws.{bit-none, bit-low, bit-high, bit-and, bit-or, bit-difference, bit-bitsOf, zero-bits, trailing-first}
 use Rattle.sets.proofs.BitLaws.{bitsOf-lt, bitsOf-same, bitsOf-is, bitsOf-none, bitsOf-all, bitsOf-below}
@@ -276,6 +276,32 @@ rowIn-concat w n f rest wide a h =
     sym (table-of 0 w (λ i. getD (concat n f ++ rest) (a * w + i) 0) (f a) (wide a h)
     (λ i g. sym (List·getD-append (concat n f) rest 0 (a * w + i) (omega (arith, mul-le-mul-right w h, suc-mul a w, concat-length f w n wide))
     ∙ concat-at f w n wide 0 a i h g)))
+
+-- rows that were stored are those of f
+pub rows-are : (w n : ℕ) (f : ℕ → List ℕ) → ((i : ℕ) → i < n → length (f i) ≡ w) → (rest : List ℕ) {words : List ℕ} → words ≡ concat n f ++ rest
+    → RowsAre w n f words
+rows-are w n f wide rest e = record {
+  room = let l = ap length e ∙ length-append (concat n f) rest in let s = concat-length f w n wide in omega arith;
+  each = λ k h. ap (λ (s : List ℕ). rowIn w s k) e ∙ rowIn-concat w n f rest wide k h;
+}
+
+-- a row is a part of the list
+rowIn-part : (w : ℕ) (l : List ℕ) (a : ℕ) → a * w + w ≤ length l → rowIn w l a ≡ take w (drop (a * w) l)
+rowIn-part w l a h =
+    sym (table-of 0 w (λ i. getD l (a * w + i) 0) (take w (drop (a * w) l)) (length-take-le w (drop (a * w) l) (omega (arith, length-drop (a * w) l)))
+    (λ i g. getD-take w (drop (a * w) l) i 0 g ∙ getD-drop (a * w) l i 0))
+
+-- rows that are those of f: they stand at the start, and the rest of the list follows them
+pub rows-all : (w n : ℕ) (f : ℕ → List ℕ) {words : List ℕ} → RowsAre w n f words → words ≡ concat n f ++ drop (n * w) words
+rows-all w zero f {words} R = ap (λ (k : ℕ). drop k words) (sym (zero-mul w))
+rows-all w (suc n) f {words} R =
+    let h : n * w + w ≤ length words = omega (arith, R .room, suc-mul n w) in
+    rows-all w n f (record { room = omega arith; each = λ k l. R .each k (omega arith) })
+    ∙ ap (λ (s : List ℕ). concat n f ++ s)
+    (sym (take-append-drop w (drop (n * w) words))
+    ∙ ap₂ _++_ (sym (rowIn-part w words n h) ∙ R .each n (le-refl (suc n)))
+    (drop-drop w (n * w) words ∙ ap (λ (k : ℕ). drop k words) (sym (suc-mul n w))))
+    ∙ sym (append-assoc (concat n f) (f n) (drop (suc n * w) words))
 
 -- one turn of a loop that stores row after row over l
 pub withRow-more : (w : ℕ) (f : ℕ → List ℕ) (a : ℕ) (l : List ℕ) → ((i : ℕ) → i < a → length (f i) ≡ w)

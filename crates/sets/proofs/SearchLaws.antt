@@ -9,7 +9,7 @@ use native.Mathlib.Decide.{le-ind, decLt}
 use native.Mathlib.Omega.{arith}
 use borrow.Author.Tests.{not-true, not-false}
 use Rattle.sets.specs.declared.Found.{Found}
-use Rattle.sets.specs.Search.{seek, lowest, isFound, someBelow, allBelow, countBelow}
+use Rattle.sets.specs.Search.{seek, lowest, First, isFound, someBelow, allBelow, countBelow, Nth}
 
 -- ---- the search from `from` on
 
@@ -18,12 +18,6 @@ pub record Least (test : ℕ → Bool) (from n k : ℕ) : Type 0 where
   pub within : (from ≤ k) × (k < from + n)
   pub holds : test k ≡ true
   pub before : (j : ℕ) → from ≤ j → j < k → test j ≡ false
-
--- k is the lowest number below n at which the test holds
-pub record First (test : ℕ → Bool) (n k : ℕ) : Type 0 where
-  pub below : k < n
-  pub holds : test k ≡ true
-  pub before : (j : ℕ) → j < k → test j ≡ false
 
 module _ (test : ℕ → Bool) where
   -- one step: the test holds at `from`, or it does not
@@ -170,13 +164,6 @@ module _ (f g : ℕ → Bool) where
       ap₂ (λ (x : ℕ) (b : Bool). x + cond b 1 0) (count-same n (λ k l. h k (omega arith))) (h n (le-refl (suc n)))
 
 -- ---- counts
-
--- the number that has rank k among those kept
-pub record Nth (keep : ℕ → Bool) (n k : ℕ) : Type 0 where
-  pub old : ℕ
-  pub below : old < n
-  pub passed : keep old ≡ true
-  pub number : countBelow keep old ≡ k
 
 -- the test holds at the first number or not, and at the others
 pub count-head : (test : ℕ → Bool) (n : ℕ) → countBelow test (suc n) ≡ cond (test 0) 1 0 + countBelow (λ j. test (suc j)) n

@@ -23,6 +23,10 @@ bitsOf (suc k) test = bitsOf k (λ j. test (suc j)) * 2 + digit (test 0)
 abbrev pub difference : ℕ → ℕ → ℕ
 difference x y = bitXor x (bitAnd x y)
 
+-- every member of x is one of y
+abbrev pub subset : ℕ → ℕ → Bool
+subset x y = eqb (difference x y) 0
+
 -- the lowest member of a set of numbers below 64; 0 stands for none
 abbrev pub lowestMember : ℕ → ℕ
 lowestMember x = foundOr0 (lowest (bit x) 64)

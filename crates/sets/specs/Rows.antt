@@ -1,8 +1,9 @@
 -- Rows: sets of configurations as lists of 64-bit words, for any number of words and of features.
-use Prim.Native.Nat.{ℕ, zero, suc, _+_, _*_, _/_, _%_, _^_}
-use mathlib.Core.Bool.{Bool, true, false, _&&_, not}
-use mathlib.Core.List.{List, [], _∷_, _++_}
-use lib.ListN.{getD, take, drop}
+use Prim.Native.Nat.{ℕ, _+_, _*_, _/_, _%_, _^_, _<_, _≤_}
+use mathlib.Core.Path.{_≡_}
+use mathlib.Core.Bool.{Bool, _&&_, not}
+use mathlib.Core.List.{List, _++_}
+use lib.ListN.{length, getD, take, drop}
 use lib.Dec.{ltb}
 use lib.Bits.{bitAnd, bitOr}
 use Rattle.sets.specs.declared.Found.{Found}
@@ -54,3 +55,8 @@ rowIn width words a = table width (λ i. getD words (a * width + i) 0)
 
 abbrev pub withRow : ℕ → List ℕ → ℕ → List ℕ → List ℕ
 withRow width words a row = take (a * width) words ++ row ++ drop (a * width + width) words
+
+-- the first `count` of such rows are those of f
+pub record RowsAre (width count : ℕ) (f : ℕ → List ℕ) (words : List ℕ) : Type 0 where
+  pub room : count * width ≤ length words
+  pub each : (k : ℕ) → k < count → rowIn width words k ≡ f k

@@ -10,6 +10,6 @@ pub record Room (text out : List ℕ) (at : ℕ) : Type 0 where
   pub fits : at + length text ≤ length out
 
 -- afterwards the text stands from `at` on, all else is as before, and the answer is the position after it
-pub record Written (text before : List ℕ) (at : ℕ) (after : List ℕ) (answer : ℕ) : Type 0 where
+pub record WrittenAt (text before : List ℕ) (at : ℕ) (after : List ℕ) (answer : ℕ) : Type 0 where
   pub place : answer ≡ at + length text
   pub stored : after ≡ sets before at text

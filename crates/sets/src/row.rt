@@ -2,7 +2,7 @@
 use crate::Found;
 ghost use mathlib.Core.Path.{_≡_};
 ghost use mathlib.Core.Bool.{true, false};
-ghost use Prim.Native.Nat.{ℕ, _+_, _*_, _<_, _≤_, _^_};
+ghost use Prim.Native.Nat.{_+_, _*_, _<_, _≤_, _^_};
 ghost use lib.ListN.{length};
 ghost use lib.Dec.{ltb};
 ghost use Rattle.sets.specs.Bits.{bit};
@@ -10,7 +10,7 @@ ghost use Rattle.sets.specs.Rows.{rowBit, wordOf, rowOf, within, rowJoin
 
 // A set of configurations below 1,024: configuration c is bit c mod 64 of word c div 64.
 pub struct Row {
-    pub words: [u64; 16],
+    pub words: [u64; Row::WORDS],
 }
 
 impl Row {
@@ -19,7 +19,9 @@ impl Row {
     pub fn empty() -> Row
         ensures { λ r. ⌜ r .words ≡ rowOf 16 (λ c. false) ⌝ }
     {
-        Row { words: [0; 16] }
+        Row {
+            words: [0; Row::WORDS],
+        }
     }
 
     // The configurations of n features.
@@ -28,9 +30,9 @@ impl Row {
         ensures { λ r. ⌜ r .words ≡ rowOf 16 (within n (λ c. true)) ⌝ }
     {
         let many: usize = 1 << n;
-        let mut words = [0; 16];
+        let mut words = [0; Row::WORDS];
         let mut w = 0;
-        while w < 16 {
+        while w < Row::WORDS {
             words[w] = below_word(many, w);
             w += 1;
         }
@@ -44,11 +46,13 @@ impl Row {
     {
         if i < 6 {
             let word = MASKS[i];
-            return Row { words: [word; 16] };
+            return Row {
+                words: [word; Row::WORDS],
+            };
         }
-        let mut words = [0; 16];
+        let mut words = [0; Row::WORDS];
         let mut w = 0;
-        while w < 16 {
+        while w < Row::WORDS {
             words[w] = feature_word(i, w);
             w += 1;
         }
@@ -61,9 +65,9 @@ impl Row {
     {
         let a = self.words;
         let b = other.words;
-        let mut words = [0; 16];
+        let mut words = [0; Row::WORDS];
         let mut w = 0;
-        while w < 16 {
+        while w < Row::WORDS {
             words[w] = a[w] | b[w];
             w += 1;
         }
@@ -76,9 +80,9 @@ impl Row {
     {
         let a = self.words;
         let b = other.words;
-        let mut words = [0; 16];
+        let mut words = [0; Row::WORDS];
         let mut w = 0;
-        while w < 16 {
+        while w < Row::WORDS {
             words[w] = a[w] & b[w];
             w += 1;
         }
@@ -91,9 +95,9 @@ impl Row {
     {
         let a = self.words;
         let b = other.words;
-        let mut words = [0; 16];
+        let mut words = [0; Row::WORDS];
         let mut w = 0;
-        while w < 16 {
+        while w < Row::WORDS {
             words[w] = a[w] ^ (a[w] & b[w]);
             w += 1;
         }
@@ -114,7 +118,7 @@ impl Row {
         let words = self.words;
         let mut any = 0;
         let mut w = 0;
-        while w < 16 {
+        while w < Row::WORDS {
             any = any | words[w];
             w += 1;
         }
@@ -127,7 +131,7 @@ impl Row {
     {
         let words = self.words;
         let mut w = 0;
-        while w < 16 {
+        while w < Row::WORDS {
             let word = words[w];
             if word != 0 {
                 return Found::At(w * 64 + u64::trailing_zeros(word) as usize);
@@ -142,10 +146,10 @@ impl Row {
         requires { ⌜ a * 16 + 16 ≤ length (now rows) ⌝ }
         ensures { λ r. ⌜ r .words ≡ rowIn 16 (now (rows .entry)) a ⌝ }
     {
-        let at = a * 16;
-        let mut words = [0; 16];
+        let at = a * Row::WORDS;
+        let mut words = [0; Row::WORDS];
         let mut w = 0;
-        while w < 16 {
+        while w < Row::WORDS {
             words[w] = rows[at + w];
             w += 1;
         }
@@ -158,9 +162,9 @@ impl Row {
         ensures { λ _. ⌜ now (rows .exit) ≡ withRow 16 (now (rows .entry)) a (self .words) ⌝ }
     {
         let words = self.words;
-        let at = a * 16;
+        let at = a * Row::WORDS;
         let mut w = 0;
-        while w < 16 {
+        while w < Row::WORDS {
             rows[at + w] = words[w];
             w += 1;
         }

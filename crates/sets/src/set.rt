@@ -1,13 +1,14 @@
 // Sets of attributes.
 use crate::Found;
 ghost use mathlib.Core.Path.{_≡_};
+ghost use mathlib.Core.Bool.{cond};
 ghost use Prim.Native.Nat.{_<_, _^_};
 ghost use lib.Bits.{bitAnd, bitOr};
 ghost use lib.Dec.{eqb};
 ghost use Rattle.sets.specs.Search.{lowest};
 ghost use Rattle.sets.specs.Bits.{bit, difference, memberCount};
 
-// A set of attributes: attribute a is in it where bit a is 1. The type also holds the limits of document 01.
+// A set of attributes: attribute a is in it where bit a is 1. The type also holds the limits of docs/FORMAT.md.
 pub struct AttributeSet {
     pub bits: u64,
 }
@@ -47,6 +48,17 @@ impl AttributeSet {
         ensures { λ r. ⌜ r .bits ≡ bitOr (self .bits) (2 ^ a) ⌝ }
     {
         self.union(AttributeSet::single(a))
+    }
+
+    // This set, and attribute a if the test is true.
+    pub fn with_if(self, a: usize, test: bool) -> AttributeSet
+        requires { ⌜ a < 64 ⌝ }
+        ensures { λ r. ⌜ r .bits ≡ cond test (bitOr (self .bits) (2 ^ a)) (self .bits) ⌝ }
+    {
+        if test {
+            return self.with(a);
+        }
+        self
     }
 
     pub fn union(self, other: AttributeSet) -> AttributeSet

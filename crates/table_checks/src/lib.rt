@@ -1,4 +1,4 @@
-// Checks 1 to 5 and 7 of document 01's table, one function a row. Each answers the first fault.
+// Checks 1 to 5 and 7 of the table of refusals (docs/FORMAT.md, "Refusals"), one function a row. Each answers the first fault.
 use decoders::comparison_at;
 use decoders::entry_attribute;
 use decoders::entry_expression;
@@ -69,15 +69,22 @@ fn check_length(width: usize, least: usize, most: usize, table: usize, count: us
 }
 
 // Check 2.
-pub fn check_lengths(t0: &[u16], t1: &[u16], t2: &[u16], t3: &[u16], t4: &[u16]) -> Verdict
+pub fn check_lengths(
+    expressions: &[u16],
+    entries: &[u16],
+    relations: &[u16],
+    comparisons: &[u16],
+    queries: &[u16],
+) -> Verdict
     ensures { λ r.
-        ⌜ r ≡ lengthsCheck (tablesOf 0 0 0 (now (t0 .entry)) (now (t1 .entry)) (now (t2 .entry)) (now (t3 .entry)) (now (t4 .entry))) ⌝ }
+        ⌜ r ≡ lengthsCheck (tablesOf 0 0 0 (now (expressions .entry)) (now (entries .entry)) (now (relations .entry)) (now (comparisons .entry))
+        (now (queries .entry))) ⌝ }
 {
-    let a = check_length(3, 1, AttributeSet::MOST_EXPRESSIONS, 0, t0.len());
-    let b = check_length(2, 0, AttributeSet::MOST_ENTRIES, 1, t1.len());
-    let c = check_length(2, 0, AttributeSet::MOST_RELATIONS, 2, t2.len());
-    let d = check_length(5, 0, AttributeSet::MOST_COMPARISONS, 3, t3.len());
-    let e = check_length(4, 1, AttributeSet::MOST_QUERIES, 4, t4.len());
+    let a = check_length(3, 1, AttributeSet::MOST_EXPRESSIONS, 0, expressions.len());
+    let b = check_length(2, 0, AttributeSet::MOST_ENTRIES, 1, entries.len());
+    let c = check_length(2, 0, AttributeSet::MOST_RELATIONS, 2, relations.len());
+    let d = check_length(5, 0, AttributeSet::MOST_COMPARISONS, 3, comparisons.len());
+    let e = check_length(4, 1, AttributeSet::MOST_QUERIES, 4, queries.len());
     or_else(a, or_else(b, or_else(c, or_else(d, e))))
 }
 
@@ -97,13 +104,13 @@ pub fn expression_fits(n: usize, f: usize, x: Expression) -> bool
 }
 
 // Check 3.
-pub fn check_expressions(n: usize, t0: &[u16]) -> Verdict
-    ensures { λ r. ⌜ r ≡ expressionsCheck n (now (t0 .entry)) ⌝ }
+pub fn check_expressions(n: usize, expressions: &[u16]) -> Verdict
+    ensures { λ r. ⌜ r ≡ expressionsCheck n (now (expressions .entry)) ⌝ }
 {
-    let count = t0.len() / 3;
+    let count = expressions.len() / 3;
     let mut f = 0;
     while f < count {
-        let x = expression_at(t0, f);
+        let x = expression_at(expressions, f);
         if !expression_fits(n, f, x) {
             return refuse(3, f);
         }
@@ -120,23 +127,23 @@ pub fn check_model(e: usize, model: usize) -> Verdict
 }
 
 // Entry k, where there are m attributes and e expressions.
-fn entry_fits(m: usize, e: usize, t1: &[u16], k: usize) -> bool
-    requires { ⌜ k < length (now t1) / 2 ⌝ }
-    ensures { λ r. ⌜ r ≡ entryFits m e (now (t1 .entry)) k ⌝ }
+fn entry_fits(m: usize, e: usize, entries: &[u16], k: usize) -> bool
+    requires { ⌜ k < length (now entries) / 2 ⌝ }
+    ensures { λ r. ⌜ r ≡ entryFits m e (now (entries .entry)) k ⌝ }
 {
-    let a = entry_attribute(t1, k);
-    let x = entry_expression(t1, k);
+    let a = entry_attribute(entries, k);
+    let x = entry_expression(entries, k);
     (a < m) & (x < e)
 }
 
 // Check 5.
-pub fn check_entries(m: usize, e: usize, t1: &[u16]) -> Verdict
-    ensures { λ r. ⌜ r ≡ entriesCheck m e (now (t1 .entry)) ⌝ }
+pub fn check_entries(m: usize, e: usize, entries: &[u16]) -> Verdict
+    ensures { λ r. ⌜ r ≡ entriesCheck m e (now (entries .entry)) ⌝ }
 {
-    let count = t1.len() / 2;
+    let count = entries.len() / 2;
     let mut k = 0;
     while k < count {
-        if !entry_fits(m, e, t1, k) {
+        if !entry_fits(m, e, entries, k) {
             return refuse(5, k);
         }
         k += 1;
@@ -162,13 +169,13 @@ fn comparison_fits(m: usize, e: usize, f: usize, x: Comparison) -> bool
 }
 
 // Check 7.
-pub fn check_comparisons(m: usize, e: usize, t3: &[u16]) -> Verdict
-    ensures { λ r. ⌜ r ≡ comparisonsCheck m e (now (t3 .entry)) ⌝ }
+pub fn check_comparisons(m: usize, e: usize, comparisons: &[u16]) -> Verdict
+    ensures { λ r. ⌜ r ≡ comparisonsCheck m e (now (comparisons .entry)) ⌝ }
 {
-    let count = t3.len() / 5;
+    let count = comparisons.len() / 5;
     let mut f = 0;
     while f < count {
-        let x = comparison_at(t3, f);
+        let x = comparison_at(comparisons, f);
         if !comparison_fits(m, e, f, x) {
             return refuse(7, f);
         }

@@ -8,21 +8,21 @@ use native.Mathlib.Nat.{lt-of-lt-of-le}
 use native.Mathlib.Omega.{arith}
 use lib.Pow.{pow-mono}
 use Rattle.sets.specs.declared.Found.{Found}
-use Rattle.sets.specs.Search.{lowest, isFound, someBelow}
-use Rattle.sets.specs.Rows.{rowIn, rowIsEmpty, rowLowest}
-use Rattle.sets.proofs.SearchLaws.{First, lowest-nothing, lowest-at, some-none}
+use Rattle.sets.specs.Search.{lowest, isFound, someBelow, First}
+use Rattle.sets.specs.Rows.{rowIn, rowIsEmpty, rowLowest, RowsAre}
+use Rattle.sets.proofs.SearchLaws.{lowest-nothing, lowest-at, some-none}
 use Rattle.sets.proofs.RowLaws.{empty-rowOf, lowest-rowOf}
 use Rattle.report.specs.Tables.{Tables, queryCount}
 use Rattle.report.specs.Expressions.{configurations}
 use Rattle.report.specs.Typing.{fails}
 use Rattle.report.specs.Checks.{typingCheck}
+use Rattle.report.specs.Formed.{Formed}
+use Rattle.report.specs.TypingFaults.{TypingFault}
 use Rattle.report.specs.declared.Verdict.{Verdict}
-use Rattle.report.proofs.Formed.{Formed}
-use Rattle.report.proofs.TypingLaws.{fails-permitted, typing-accepted, TypingFault, typing-refused}
-use Rattle.attribute_rows.specs.AttributeRows.{RowsAre}
+use Rattle.report.proofs.TypingLaws.{fails-permitted, typing-accepted, typing-refused}
 use Rattle.typing.specs.Typed.{rowed, failsRow, told}
 
-module _ {T : Tables} (F : Formed T) {rows : List ℕ} (R : RowsAre (queryCount T) (failsRow T) rows) where
+module _ {T : Tables} (F : Formed T) {rows : List ℕ} (R : RowsAre 16 (queryCount T) (failsRow T) rows) where
   -- a row is not empty where its form fails at some configuration
   rowed-fails : (q : ℕ) → q < queryCount T → rowed rows q ≡ someBelow (λ c. fails T c q) 1024
   rowed-fails q h =

@@ -17,24 +17,26 @@ use Rattle.report.specs.declared.Refusal.{Refusal}
 use Rattle.report.specs.declared.Verdict.{Verdict}
 use Rattle.report.proofs.FormedFacts.{counts, project-within}
 use Rattle.report.proofs.TypingLaws.{permitted-within, fails-permitted}
-use Rattle.reach.specs.Reach.{Ready, Walked}
+use Rattle.reach.specs.Reach.{WalkReady, Walked}
 use Rattle.reach.proofs.JoinLaws.{joined-length}
 use Rattle.reach.proofs.ReachRows.{fresh-none, reads-permitted, ready-report, walk-reached}
 use Rattle.fault_rows.specs.FaultRows.{FailReads, FailReadable, FailsFilled, ItemReads}
 use Rattle.fault_rows.proofs.FaultLaws.{faulty-fails, columns-shown}
+use Rattle.fault_rows.proofs.FailLaws.{fails-rows}
 use Rattle.typing.specs.Typed.{rowed, StartRead, told, ToldReads, RowsReads, TypingReads, Checked}
 use Rattle.typing.proofs.RowsVerdict.{rows-accepted, form-in, row-some, configuration-fails, rows-refused}
 
 -- ---- the refusal of one form at one configuration
 
-module _ {T : Tables} {conditions full t1 t2 t3 t4 : List ℕ} {first items q c : ℕ} (R : ToldReads T conditions full t1 t2 t3 t4 first items q c) where
-  start-is : first + projectedBefore t4 q ≡ projectStart T q
-  start-is = ap₂ (λ (n : ℕ) (t : List ℕ). n + projectedBefore t q) (R .reads .begins) (R .reads .queries)
+module _ {T : Tables} {conditions full entries relations comparisons queries : List ℕ} {first items q c : ℕ}
+    (R : ToldReads T conditions full entries relations comparisons queries first items q c) where
+  start-is : first + projectedBefore queries q ≡ projectStart T q
+  start-is = ap₂ (λ (n : ℕ) (t : List ℕ). n + projectedBefore t q) (R .reads .begins) (R .reads .queriesAre)
 
-  pub told-in : q < length t4 / 4
-  told-in = let e = ap length (R .reads .queries) in let i = R .inside in omega arith
+  pub told-in : q < length queries / 4
+  told-in = let e = ap length (R .reads .queriesAre) in let i = R .inside in omega arith
 
-  pub told-start : StartRead t4 first q
+  pub told-start : StartRead queries first q
   told-start =
       let i = told-in in
       let e = start-is in
@@ -42,30 +44,31 @@ module _ {T : Tables} {conditions full t1 t2 t3 t4 : List ℕ} {first items q c 
       let m = counts (R .reads .filled .formed) .most1 in
       record { inside = omega arith; small = omega arith }
 
-  module _ {start : ℕ} (s : start ≡ first + projectedBefore t4 q) where
-    pub told-items : ItemReads T conditions full t1 t2 t3 t4 first items q start c
+  module _ {start : ℕ} (s : start ≡ first + projectedBefore queries q) where
+    pub told-items : ItemReads T conditions full entries relations comparisons queries first items q start c
     told-items =
         record { reads = R .reads; enough = R .enough; inside = R .inside; starts = s ∙ start-is; configuration = R .configuration }
 
     -- form q is x, and these items are at fault in it
-    pub told-is : {bits number item : ℕ} {x : Query} → ((T : Tables) → ItemReads T conditions full t1 t2 t3 t4 first items q start c → bits ≡ faults T c q)
-        → x ≡ query t4 q → number ≡ ruleNumber x → item ≡ lowestMember bits → refusal number q item c ≡ told T q c
+    pub told-is : {bits number item : ℕ} {x : Query}
+        → ((T : Tables) → ItemReads T conditions full entries relations comparisons queries first items q start c → bits ≡ faults T c q)
+        → x ≡ query queries q → number ≡ ruleNumber x → item ≡ lowestMember bits → refusal number q item c ≡ told T q c
     told-is found form numbered least =
-        ap₂ (λ (n i : ℕ). refusal n q i c) (numbered ∙ ap ruleNumber (form ∙ ap (λ (t : List ℕ). query t q) (R .reads .queries)))
+        ap₂ (λ (n i : ℕ). refusal n q i c) (numbered ∙ ap ruleNumber (form ∙ ap (λ (t : List ℕ). query t q) (R .reads .queriesAre)))
         (least ∙ ap lowestMember (found T told-items))
 
 -- ---- the answer from the rows
 
-module _ {T : Tables} {conditions full t1 t2 t3 t4 : List ℕ} {first items : ℕ} {rows : List ℕ}
-    (R : RowsReads T conditions full t1 t2 t3 t4 first items rows)
+module _ {T : Tables} {conditions full entries relations comparisons queries : List ℕ} {first items : ℕ} {rows : List ℕ}
+    (R : RowsReads T conditions full entries relations comparisons queries first items rows)
   where
-    count-is : length t4 / 4 ≡ queryCount T
-    count-is = ap (λ (t : List ℕ). length t / 4) (R .reads .queries)
+    count-is : length queries / 4 ≡ queryCount T
+    count-is = ap (λ (t : List ℕ). length t / 4) (R .reads .queriesAre)
 
-    pub rows-room : length t4 / 4 * 16 ≤ length rows
+    pub rows-room : length queries / 4 * 16 ≤ length rows
     rows-room = let e = count-is in let m = R .failing .room in omega arith
 
-    module _ {form : Found} (f : form ≡ lowest (rowed rows) (length t4 / 4)) where
+    module _ {form : Found} (f : form ≡ lowest (rowed rows) (length queries / 4)) where
       found-form : form ≡ lowest (rowed rows) (queryCount T)
       found-form = f ∙ ap (lowest (rowed rows)) count-is
 
@@ -88,7 +91,7 @@ module _ {T : Tables} {conditions full t1 t2 t3 t4 : List ℕ} {first items : �
           no-configuration d = absurd (row-some (R .reads .filled .formed) (R .failing) at-form (sym found-row ∙ d))
 
           module _ {c : ℕ} (d : configuration ≡ Found.At c) where
-            pub form-told : ToldReads T conditions full t1 t2 t3 t4 first items q c
+            pub form-told : ToldReads T conditions full entries relations comparisons queries first items q c
             form-told = record {
               reads = R .reads;
               enough = R .enough;
@@ -97,7 +100,8 @@ module _ {T : Tables} {conditions full t1 t2 t3 t4 : List ℕ} {first items : �
                   (fails-permitted T c q (configuration-fails (R .reads .filled .formed) (R .failing) at-form (sym found-row ∙ d)));
             }
 
-            pub form-refused : {r : Refusal} → ((T : Tables) → ToldReads T conditions full t1 t2 t3 t4 first items q c → r ≡ told T q c)
+            pub form-refused : {r : Refusal}
+                → ((T : Tables) → ToldReads T conditions full entries relations comparisons queries first items q c → r ≡ told T q c)
                 → Verdict.Refused r ≡ typingCheck T
             form-refused tell =
                 ap Verdict.Refused (tell T form-told)
@@ -108,16 +112,16 @@ module _ {T : Tables} {conditions full t1 t2 t3 t4 : List ℕ} {first items : �
 abbrev zeros : ℕ → List ℕ
 zeros n = replicate n 0
 
-module _ {T : Tables} {conditions full permits t1 t2 t3 t4 : List ℕ} {first items : ℕ}
-    (R : TypingReads T conditions full permits t1 t2 t3 t4 first items)
+module _ {T : Tables} {conditions full permits entries relations comparisons queries : List ℕ} {first items : ℕ}
+    (R : TypingReads T conditions full permits entries relations comparisons queries first items)
   where
-    forms-are : length t4 / 4 ≡ queryCount T
-    forms-are = ap (λ (t : List ℕ). length t / 4) (R .reads .queries)
+    forms-are : length queries / 4 ≡ queryCount T
+    forms-are = ap (λ (t : List ℕ). length t / 4) (R .reads .queriesAre)
 
-    pub some-form : 1 ≤ length t4 / 4
+    pub some-form : 1 ≤ length queries / 4
     some-form = let e = forms-are in let s = counts (R .reads .filled .formed) .someQuery in omega arith
 
-    last-is : length t4 / 4 - 1 ≡ report T
+    last-is : length queries / 4 - 1 ≡ report T
     last-is = ap (λ (n : ℕ). n - 1) forms-are
 
     -- of n fresh words, enough for the 256 rows of the most forms there can be
@@ -126,29 +130,29 @@ module _ {T : Tables} {conditions full permits t1 t2 t3 t4 : List ℕ} {first it
       fresh-room = let m = counts (R .reads .filled .formed) .most4 in let e = length-replicate {A = ℕ} n 0 in omega arith
 
       -- the walk may start at the report
-      pub walk-ready : Ready t4 conditions permits (zeros n) (length t4 / 4 - 1)
-      walk-ready = ready-report (R .reads .filled) (R .reads .queries) (R .permitting) last-is (zeros n) fresh-room
+      pub walk-ready : WalkReady queries conditions permits (zeros n) (length queries / 4 - 1)
+      walk-ready = ready-report (R .reads .filled) (R .reads .queriesAre) (R .permitting) last-is (zeros n) fresh-room
 
       -- and leaves the reach rows
-      module _ {reach : List ℕ} (W : Walked t4 conditions (length t4 / 4 - 1) permits (zeros n) reach) where
+      module _ {reach : List ℕ} (W : Walked queries conditions (length queries / 4 - 1) permits (zeros n) reach) where
         reach-length : length reach ≡ length (zeros n)
         reach-length =
-            ap length (W .rows T (reads-permitted (R .reads .filled) (R .reads .queries) (R .permitting)))
-            ∙ joined-length (zeros n) permits (λ c x. leads T c x (length t4 / 4 - 1))
+            ap length (W .rows T (reads-permitted (R .reads .filled) (R .reads .queriesAre) (R .permitting)))
+            ∙ joined-length (zeros n) permits (λ c x. leads T c x (length queries / 4 - 1))
 
-        pub fails-read : FailReads T conditions full permits reach t1 t2 t3 t4 first
+        pub fails-read : FailReads T conditions full permits reach entries relations comparisons queries first
         fails-read = record {
           reads = R .reads;
           permitting = R .permitting;
           reaching = record {
             room = let e = reach-length in let m = fresh-room in omega arith;
             each =
-                walk-reached (R .reads .filled) (R .reads .queries) (R .permitting) last-is (zeros n) fresh-room (fresh-none n) reach W;
+                walk-reached (R .reads .filled) (R .reads .queriesAre) (R .permitting) last-is (zeros n) fresh-room (fresh-none n) reach W;
           };
         }
 
         pub fails-readable : {columns : List ℕ} → columns ≡ replicate 1024 0
-            → FailReadable conditions full permits reach t1 t2 t3 t4 first items (zeros n) columns
+            → FailReadable conditions full permits reach entries relations comparisons queries first items (zeros n) columns
         fails-readable e = record {
           tables = T;
           reads = fails-read;
@@ -158,18 +162,19 @@ module _ {T : Tables} {conditions full permits t1 t2 t3 t4 : List ℕ} {first it
           column = let l = ap length e in let m = R .enough .most in omega (arith, length-replicate {A = ℕ} 1024 0);
         }
 
-    module _ {rows before columns : List ℕ} (L : FailsFilled T items rows before columns) where
-      pub rows-read : RowsReads T conditions full t1 t2 t3 t4 first items rows
+    module _ {lent rows before columns : List ℕ} (L : FailsFilled T items lent rows before columns) where
+      pub rows-read : RowsReads T conditions full entries relations comparisons queries first items rows
       rows-read = record {
         reads = R .reads;
         enough = R .enough;
         failing = record {
-          room = L .rows .room;
-          each = λ q h. L .rows .each q h ∙ faulty-fails (R .reads .filled .formed) (R .enough) q h;
+          room = fails-rows L .room;
+          each = λ q h. fails-rows L .each q h ∙ faulty-fails (R .reads .filled .formed) (R .enough) q h;
         };
       }
 
       pub typing-checked : {v : Verdict} → before ≡ replicate 1024 0
-          → ((T : Tables) → RowsReads T conditions full t1 t2 t3 t4 first items rows → v ≡ typingCheck T) → Checked T v columns
+          → ((T : Tables) → RowsReads T conditions full entries relations comparisons queries first items rows → v ≡ typingCheck T)
+          → Checked T v columns
       typing-checked clear told =
           record { answers = told T rows-read; shows = columns-shown (R .reads .filled .formed) (R .enough) (rw (← clear) (L .shown)) }

@@ -37,14 +37,14 @@ fn lowest_row(rows: &[u64], count: usize) -> Found
 }
 
 // Where the list of the project form q starts; those of all project forms lie from `first` on.
-fn project_start(t4: &[u16], q: usize, first: usize) -> usize
-    requires { ⌜ StartRead (now t4) first q ⌝ }
-    ensures { λ r. ⌜ r ≡ first + projectedBefore (now (t4 .entry)) q ⌝ }
+fn project_start(queries: &[u16], q: usize, first: usize) -> usize
+    requires { ⌜ StartRead (now queries) first q ⌝ }
+    ensures { λ r. ⌜ r ≡ first + projectedBefore (now (queries .entry)) q ⌝ }
 {
     let mut start = first;
     let mut i = 0;
     while i < q {
-        start += project_length(query_at(t4, i));
+        start += project_length(query_at(queries, i));
         i += 1;
     }
     start
@@ -80,10 +80,10 @@ fn lowest_item(found: AttributeSet) -> u64
 
 // The refusal of form q at configuration c.
 fn refusal_at(
-    t1: &[u16],
-    t2: &[u16],
-    t3: &[u16],
-    t4: &[u16],
+    entries: &[u16],
+    relations: &[u16],
+    comparisons: &[u16],
+    queries: &[u16],
     conditions: &[u64],
     full: Row,
     first: usize,
@@ -91,15 +91,28 @@ fn refusal_at(
     q: usize,
     c: usize,
 ) -> Refusal
-    requires { ⌜ ToldReadable (now conditions) (full .words) (now t1) (now t2) (now t3) (now t4) first items q c ⌝ }
+    requires { ⌜ ToldReadable (now conditions) (full .words) (now entries) (now relations) (now comparisons) (now queries) first items q c ⌝ }
     ensures { λ r.
         ⌜ ((T : Tables)
-        → ToldReads T (now (conditions .entry)) (full .words) (now (t1 .entry)) (now (t2 .entry)) (now (t3 .entry)) (now (t4 .entry)) first items q c
+        → ToldReads T (now (conditions .entry)) (full .words) (now (entries .entry)) (now (relations .entry)) (now (comparisons .entry))
+        (now (queries .entry)) first items q c
         → r ≡ told T q c) ⌝ }
 {
-    let start = project_start(t4, q, first);
-    let found = items_at(t1, t2, t3, t4, conditions, full, first, items, q, start, c);
-    let number = rule_number(query_at(t4, q));
+    let start = project_start(queries, q, first);
+    let found = items_at(
+        entries,
+        relations,
+        comparisons,
+        queries,
+        conditions,
+        full,
+        first,
+        items,
+        q,
+        start,
+        c,
+    );
+    let number = rule_number(query_at(queries, q));
     let item = lowest_item(found);
     Refusal {
         number: number,
@@ -112,23 +125,24 @@ fn refusal_at(
 // The answer from the rows of the configurations at which each form fails. A row that is not empty has a lowest configuration, so the second
 // return is never taken.
 fn check_rows(
-    t1: &[u16],
-    t2: &[u16],
-    t3: &[u16],
-    t4: &[u16],
+    entries: &[u16],
+    relations: &[u16],
+    comparisons: &[u16],
+    queries: &[u16],
     conditions: &[u64],
     full: Row,
     first: usize,
     items: usize,
     rows: &[u64],
 ) -> Verdict
-    requires { ⌜ RowsReadable (now conditions) (full .words) (now t1) (now t2) (now t3) (now t4) first items (now rows) ⌝ }
+    requires { ⌜ RowsReadable (now conditions) (full .words) (now entries) (now relations) (now comparisons) (now queries) first items (now rows) ⌝ }
     ensures { λ v.
         ⌜ ((T : Tables)
-        → RowsReads T (now (conditions .entry)) (full .words) (now (t1 .entry)) (now (t2 .entry)) (now (t3 .entry)) (now (t4 .entry)) first items (now (rows .entry))
+        → RowsReads T (now (conditions .entry)) (full .words) (now (entries .entry)) (now (relations .entry)) (now (comparisons .entry))
+        (now (queries .entry)) first items (now (rows .entry))
         → v ≡ typingCheck T) ⌝ }
 {
-    let form = lowest_row(rows, t4.len() / 4);
+    let form = lowest_row(rows, queries.len() / 4);
     let Found::At(q) = form else {
         return Verdict::Accepted;
     };
@@ -136,46 +150,75 @@ fn check_rows(
     let Found::At(c) = configuration else {
         return Verdict::Accepted;
     };
-    let refusal = refusal_at(t1, t2, t3, t4, conditions, full, first, items, q, c);
+    let refusal = refusal_at(
+        entries,
+        relations,
+        comparisons,
+        queries,
+        conditions,
+        full,
+        first,
+        items,
+        q,
+        c,
+    );
     Verdict::Refused(refusal)
 }
 
 // Checks 15 to 19 of tables whose expression rows `conditions` starts with, and the column rows, whatever the answer. `full` has all
-// configurations and `permits` the permitted ones; the lists of project forms lie from `first` on, and every item at fault is below `items`.
+// configurations and `permitted` the permitted ones; the lists of project forms lie from `first` on, and every item at fault is below `items`.
 pub fn check_typing(
-    t1: &[u16],
-    t2: &[u16],
-    t3: &[u16],
-    t4: &[u16],
+    entries: &[u16],
+    relations: &[u16],
+    comparisons: &[u16],
+    queries: &[u16],
     conditions: &[u64],
     full: Row,
-    permits: Row,
+    permitted: Row,
     first: usize,
     items: usize,
     columns: &mut [u64],
 ) -> Verdict
-    requires { ⌜ TypingReadable (now conditions) (full .words) (permits .words) (now t1) (now t2) (now t3) (now t4) first items (now columns) ⌝ }
+    requires { ⌜ TypingReadable (now conditions) (full .words) (permitted .words) (now entries) (now relations) (now comparisons)
+        (now queries) first items (now columns) ⌝ }
     ensures { λ v.
         ⌜ ((T : Tables)
-        → TypingReads T (now (conditions .entry)) (full .words) (permits .words) (now (t1 .entry)) (now (t2 .entry)) (now (t3 .entry)) (now (t4 .entry)) first items
+        → TypingReads T (now (conditions .entry)) (full .words) (permitted .words) (now (entries .entry)) (now (relations .entry))
+        (now (comparisons .entry)) (now (queries .entry)) first items
         → Checked T v (now (columns .exit))) ⌝ }
 {
-    let mut reach = [0; 4096];
-    let mut faults = [0; 4096];
-    walk(t4, conditions, t4.len() / 4 - 1, permits, &mut reach);
+    let mut reach = [0; AttributeSet::MOST_QUERIES * Row::WORDS];
+    let mut faults = [0; AttributeSet::MOST_QUERIES * Row::WORDS];
+    walk(
+        queries,
+        conditions,
+        queries.len() / 4 - 1,
+        permitted,
+        &mut reach,
+    );
     fill_faults(
-        t1,
-        t2,
-        t3,
-        t4,
+        entries,
+        relations,
+        comparisons,
+        queries,
         conditions,
         full,
-        permits,
+        permitted,
         first,
         items,
         &reach,
         &mut faults,
         &mut *columns,
     );
-    check_rows(t1, t2, t3, t4, conditions, full, first, items, &faults)
+    check_rows(
+        entries,
+        relations,
+        comparisons,
+        queries,
+        conditions,
+        full,
+        first,
+        items,
+        &faults,
+    )
 }

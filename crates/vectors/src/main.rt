@@ -1,16 +1,18 @@
 // Runs the stored cases: for each argument, which names a harbour file, the name and then the print of that file. The file `stdout` beside src/
 // has what the reference gives for them (reference/src/bin/make_vectors.rs writes all three).
 use libc::STDOUT_FILENO;
+use report_file::LONGEST_FILE;
+use report_file::LONGEST_PRINT;
 use report_file::PrintRoom;
 
 // One byte more than a harbour file may have.
-const READ_ROOM: usize = 65537;
+const READ_ROOM: usize = LONGEST_FILE + 1;
 
 // The print of the open file.
 fn show_print(fd: i32) {
     let mut text = [0u8; READ_ROOM];
     let length = io::read_full(fd, &mut text);
-    let mut out: PrintRoom = [0; 201653];
+    let mut out: PrintRoom = [0; LONGEST_PRINT];
     let printed = report_file::print_file(&text[..length], &mut out);
     io::write_all(STDOUT_FILENO, &out[..printed]);
 }

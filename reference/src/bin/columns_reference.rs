@@ -1,4 +1,4 @@
-//! The program of document 01: a harbour file in, its print out.
+//! The program of docs/FORMAT.md: a harbour file in, its print out.
 
 use std::io::{self, Read, Write};
 

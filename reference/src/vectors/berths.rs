@@ -1,5 +1,5 @@
-//! Document 01's own cases, as far as a file can give them: "Berths to try"
-//! and "Wrong ships"; and the longest print.
+//! The worked examples of docs/FORMAT.md, as far as a file can give them; cases
+//! that a wrong program gets wrong; and the longest print.
 
 use super::Vector;
 use crate::configure;
@@ -16,7 +16,7 @@ pub fn cases() -> Vec<Vector> {
         .collect()
 }
 
-/// "Berths to try".
+/// H1 to H10.
 fn berths() -> Vec<(&'static str, Tables)> {
     let relation = [1, 0, 0, 0];
     let empty = [0; 4];
@@ -42,7 +42,7 @@ fn berths() -> Vec<(&'static str, Tables)> {
     ]
 }
 
-/// "Wrong ships" and further traps; the least report and the largest print.
+/// Cases that a wrong program gets wrong; the least report and the largest print.
 fn ships() -> Vec<(&'static str, Tables)> {
     let absent = "entry-holds-only-where-its-relation-is-absent";
     vec![

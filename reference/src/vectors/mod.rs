@@ -34,7 +34,7 @@ impl Vector {
     }
 }
 
-/// All cases, their names numbered: document 01's, texts that are read or
+/// All cases, their names numbered: worked examples, texts that are read or
 /// unread, generated reports, and the given examples.
 pub fn all(examples: &[Vector]) -> Vec<Vector> {
     let mut cases = berths::cases();

@@ -1,15 +1,19 @@
 use Prim.Native.Nat.{_-_}
 use native.Mathlib.Omega.{arith}
 use borrow.Author.Needs.{needs}
-use Rattle.attribute_rows.proofs.ListedLaws.{Listing, listing-none, entry-read, listing-more, listing-all}
+use Rattle.attribute_rows.proofs.ListedLaws.{EntriesJoining, listing-none, entry-read, listing-more, listing-all}
 use Rattle.attribute_rows.proofs.list_row.Statement.{statement}
 use Rattle.attribute_rows.proofs.list_row.Tie as tie
 
 abbrev Inv-loop : tie.InvT-loop
-Inv-loop t1 conditions start count a r₀ i₀ r i = Listing conditions t1 a start count (r .words) i
+Inv-loop entries conditions start count a r₀ i₀ r i = EntriesJoining conditions entries a start count (r .words) i
 
 abbrev μ-loop : tie.MeasureT-loop
-μ-loop t1 conditions start count a r₀ i₀ r i = count - i
+μ-loop entries conditions start count a r₀ i₀ r i = count - i
+
+-- places of the code that the needs look back to
+abbrev start-of-turn : tie.In-loop Inv-loop μ-loop → tie.Start Inv-loop μ-loop
+start-of-turn p = p .before .before .before .before .before
 
 pub list-row-spec : {M : Type 1} → statement M
 list-row-spec =
@@ -19,8 +23,8 @@ list-row-spec =
     μ-loop
     (λ c κs. search needs)
     (λ c. listing-none (c .empty .ensures))
-    (λ c. let l = c .before .before .before .before .before .pre .reads .inside in omega arith)
-    (λ c κs. entry-read (c .before .before .before .before .before .pre) _ (c .loop-test .taken))
+    (λ c. let l = start-of-turn c .pre .reads .inside in omega arith)
+    (λ c κs. entry-read (start-of-turn c .pre) _ (c .loop-test .taken))
     (λ c. search needs)
     (λ c. search needs)
     (λ c. listing-more (c .before .before .loop .inv) (c .before .loop-test .taken) (c .with-entry .ensures))

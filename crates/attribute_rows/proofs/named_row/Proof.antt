@@ -5,25 +5,29 @@ use Rattle.attribute_rows.proofs.named_row.Tie as tie
 
 load-requires : tie.Need-load-requires
 load-requires c κs =
-    let b = c .before .before .before .before .before .pre in
+    let start = c .before .before .before .before .before in
+    let b = start .pre in
     let l = rw (c .before .x3 .given .1) at (b .lower) in
     omega arith
 
 joined-row-requires : tie.Need-joined-row-requires
 joined-row-requires c κs =
-    let b = c .before .before .before .before .before .pre in
+    let start = c .before .before .before .before .before in
+    let b = start .pre in
     let l = rw (c .before .x4 .given .1) at (b .lower) in
     omega arith
 
 joined-row-requires-2 : tie.Need-joined-row-requires-2
 joined-row-requires-2 c κs =
-    let b = c .before .before .before .before .before .pre in
+    let start = c .before .before .before .before .before in
+    let b = start .pre in
     let l = rw (c .before .x5 .given .1) at (b .lower) in
     omega arith
 
 chosen-row-requires : tie.Need-chosen-row-requires
 chosen-row-requires c κs =
-    let b = c .before .before .before .before .before .pre in
+    let start = c .before .before .before .before .before in
+    let b = start .pre in
     let l = rw (c .before .x6 .given .1) at (b .lower) in
     omega arith
 

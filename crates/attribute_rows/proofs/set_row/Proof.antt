@@ -8,48 +8,56 @@ use Rattle.attribute_rows.proofs.set_row.Tie as tie
 
 load-requires : tie.Need-load-requires
 load-requires c κs =
-    let b = c .before .before .before .before .before .before .before .pre in
+    let start = c .before .before .before .before .before .before .before in
+    let b = start .pre in
     let l = rw (c .before .x .given .1) at (b .at .lower) in
     omega arith
 
 load-requires-2 : tie.Need-load-requires-2
 load-requires-2 c κs =
-    let b = c .before .before .before .before .before .before .before .pre in
+    let start = c .before .before .before .before .before .before .before in
+    let b = start .pre in
     let l = rw (c .before .x2 .given .1) at (b .at .lower) in
     omega arith
 
 list-row-requires : tie.Need-list-row-requires
 list-row-requires c κs =
-    let b = c .before .before .before .before .before .before .before .pre in
+    let start = c .before .before .before .before .before .before .before in
+    let b = start .pre in
     record { tables = b .tables; reads = project-reads (b .at) (c .before .x3 .given .1) }
 
 load-requires-3 : tie.Need-load-requires-3
 load-requires-3 c κs =
-    let b = c .before .before .before .before .before .before .before .before .pre in
+    let start = c .before .before .before .before .before .before .before .before in
+    let b = start .pre in
     let l = rw (c .before .before .x3 .given .1) at (b .at .lower) in
     omega arith
 
 chosen-row-requires : tie.Need-chosen-row-requires
 chosen-row-requires c κs =
-    let b = c .before .before .before .before .before .before .before .pre in
+    let start = c .before .before .before .before .before .before .before in
+    let b = start .pre in
     let l = rw (c .before .x4 .given .1) at (b .at .lower) in
     omega arith
 
 joined-row-requires : tie.Need-joined-row-requires
 joined-row-requires c κs =
-    let b = c .before .before .before .before .before .before .before .pre in
+    let start = c .before .before .before .before .before .before .before in
+    let b = start .pre in
     let l = rw (c .before .x5 .given .1) at (b .at .lower) in
     omega arith
 
 load-requires-4 : tie.Need-load-requires-4
 load-requires-4 c κs =
-    let b = c .before .before .before .before .before .before .before .pre in
+    let start = c .before .before .before .before .before .before .before in
+    let b = start .pre in
     let l = rw (c .before .x6 .given .1) at (b .at .lower) in
     omega arith
 
 load-requires-5 : tie.Need-load-requires-5
 load-requires-5 c κs =
-    let b = c .before .before .before .before .before .before .before .pre in
+    let start = c .before .before .before .before .before .before .before in
+    let b = start .pre in
     let l = rw (c .before .x7 .given .1) at (b .at .lower) in
     omega arith
 

@@ -5,6 +5,10 @@ use Rattle.checker.proofs.CheckLaws.{forms-refuse, rows-refuse, meaning
 use Rattle.checker.proofs.check.Statement.{statement}
 use Rattle.checker.proofs.check.Tie as tie
 
+-- places of the code that the needs look back to
+abbrev start : tie.After-check-forms → tie.Start
+start p = p .before .before .before .before .before .before .before
+
 returns : tie.Need-returns
 returns c = forms-refuse _ _ (c .before .before .check-forms .ensures) (c .enum-told .given .1)
 
@@ -34,7 +38,7 @@ returns-4 c =
     let i = m .before .before in
     let t = i .before in
     let f = t .before .before in
-    let s = f .before .before .before .before .before .before .before in
+    let s = start f in
     accepts _ (s .args .rows .now) (f .check-forms .ensures) (t .enum-told2 .given .1) (i .if1 .left) (m .check-meaning .ensures)
     (e .enum-told4 .given .1) (w .copy-words .ensures)
 

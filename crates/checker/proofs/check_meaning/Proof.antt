@@ -1,7 +1,7 @@
 use borrow.Author.Needs.{needs}
 use native.Mathlib.Nat.{le-refl}
 use Rattle.report.specs.Tables.{Tables, tablesOf}
-use Rattle.conditions.specs.Conditions.{Reads}
+use Rattle.conditions.specs.Conditions.{SchemaReads}
 use Rattle.checker.proofs.CheckLaws.{begun, typing-reads, model-refuses, schema-refuses, typing-answers}
 use Rattle.checker.proofs.check_meaning.Statement.{statement}
 use Rattle.checker.proofs.check_meaning.Tie as tie
@@ -10,13 +10,21 @@ use Rattle.checker.proofs.check_meaning.Tie as tie
 abbrev start : tie.After-load → tie.Start
 start l = l .before .before .before .before .before .before .before .before .before .before .before
 
+-- places of the code that the needs look back to
+abbrev load-of-conditions4 : tie.After-conditions4 → tie.After-load
+load-of-conditions4 p = p .before .before .before .before
+
+abbrev load : tie.After-full → tie.After-load
+load p = p .before .before .before .before .before .before .before .before .before
+
 abbrev tables : tie.After-load → Tables
 tables l =
     let a = start l .args in
-    tablesOf (a .n) (a .m) (a .model) (a .t0 .now) (a .t1 .now) (a .t2 .now) (a .t3 .now) (a .t4 .now)
+    tablesOf (a .n) (a .m) (a .model) (a .expressions .now) (a .entries .now) (a .relations .now) (a .comparisons .now) (a .queries .now)
 
 reading : (l : tie.After-load)
-    → Reads (tables l) (l .before .before .before .fill-rows .last .1 .1 .0) (l .load .result .words) (start l .args .t1 .now) (start l .args .t2 .now)
+    → SchemaReads (tables l) (l .before .before .before .fill-rows .last .1 .1 .0) (l .load .result .words) (start l .args .entries .now)
+    (start l .args .relations .now)
 reading l = begun (start l .pre .formed) (le-refl 4096) (l .before .before .before .fill-rows .ensures) (l .load .ensures)
 
 returns : tie.Need-returns
@@ -26,7 +34,7 @@ returns c =
 
 check-schema-requires : tie.Need-check-schema-requires
 check-schema-requires c κs =
-    let l = c .before .before .before .before in
+    let l = load-of-conditions4 c in
     record { tables = tables l; reads = reading l }
 
 returns-2 : tie.Need-returns-2
@@ -41,7 +49,7 @@ returns-2 c =
 check-typing-requires : tie.Need-check-typing-requires
 check-typing-requires c κs =
     let f = c .before .before .before in
-    let l = f .before .before .before .before .before .before .before .before .before in
+    let l = load f in
     record {
       tables = tables l;
       reads = typing-reads (reading l) (f .full .ensures) (c .before .before .relations-end .ensures) (c .before .larger .ensures);

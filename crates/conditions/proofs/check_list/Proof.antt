@@ -6,42 +6,55 @@ use Rattle.conditions.proofs.check_list.Statement.{statement}
 use Rattle.conditions.proofs.check_list.Tie as tie
 
 abbrev Inv-loop : tie.InvT-loop
-Inv-loop rows present t1 r start count end k₀ k = Listed rows (present .words) t1 start count k
+Inv-loop rows present entries r start count end k₀ k = Listed rows (present .words) entries start count k
 
 abbrev μ-loop : tie.MeasureT-loop
-μ-loop rows present t1 r start count end k₀ k = start + count - k
+μ-loop rows present entries r start count end k₀ k = start + count - k
+
+-- places of the code that the needs look back to
+abbrev start-of-turn : tie.In-loop Inv-loop μ-loop → tie.Start Inv-loop μ-loop
+start-of-turn p = p .before .before .before .before
+
+abbrev start-of-is-empty : tie.After-is-empty Inv-loop μ-loop → tie.Start Inv-loop μ-loop
+start-of-is-empty p = p .before .before .before .before .before .before .before .before
+
+abbrev turn : tie.After-is-empty Inv-loop μ-loop → tie.In-loop Inv-loop μ-loop
+turn p = p .before .before .before .before
+
+abbrev entry-expression : tie.After-is-empty Inv-loop μ-loop → tie.After-entry-expression Inv-loop μ-loop
+entry-expression p = p .before .before .before
 
 load-requires : tie.Need-load-requires Inv-loop μ-loop
 load-requires c κs =
-    let i = c .before .before .before .before .before .pre .inside in
-    let l = c .before .before .before .before .before .pre .rowed (c .before .before .loop .k) (omega arith) in
+    let i = start-of-turn (c .before) .pre .inside in
+    let l = start-of-turn (c .before) .pre .rowed (c .before .before .loop .k) (omega arith) in
     let e = c .entry-expression .ensures .same in
     omega arith
 
 entry-attribute-requires : tie.Need-entry-attribute-requires Inv-loop μ-loop
 entry-attribute-requires c κs =
-    let i = c .before .before .before .before .before .before .before .before .before .pre .inside in
-    let t = c .before .before .before .before .before .loop-test .taken in
+    let i = start-of-is-empty (c .before) .pre .inside in
+    let t = turn (c .before) .loop-test .taken in
     omega arith
 
 returns : tie.Need-returns Inv-loop μ-loop
 returns c =
     let d = c .before in
-    let i = d .before .before .before .before .before in
-    listed-here _ _ _ _ _ (i .before .loop .inv) (i .loop-test .taken) (d .before .before .before .before .entry-expression .ensures .same)
+    let i = turn (d .before) in
+    listed-here _ _ _ _ _ (i .before .loop .inv) (i .loop-test .taken) (entry-expression (d .before) .entry-expression .ensures .same)
     (d .before .before .before .load .ensures) (d .before .before .intersect .ensures) (d .before .is-empty .ensures) _ (d .if1 .taken)
     (c .entry-attribute .ensures .same)
 
 add-k : tie.Need-add-k Inv-loop μ-loop
 add-k c =
-    let i = c .before .before .before .before .before .before .before .before .before .pre .inside in
-    let t = c .before .before .before .before .before .loop-test .taken in
+    let i = start-of-is-empty (c .before) .pre .inside in
+    let t = turn (c .before) .loop-test .taken in
     omega arith
 
 loop-again : tie.Need-loop-again Inv-loop μ-loop
 loop-again c =
-    let i = c .before .before .before .before .before in
-    listed-more _ _ _ _ _ (i .before .loop .inv) (i .loop-test .taken) (c .before .before .before .before .entry-expression .ensures .same)
+    let i = turn (c .before) in
+    listed-more _ _ _ _ _ (i .before .loop .inv) (i .loop-test .taken) (entry-expression (c .before) .entry-expression .ensures .same)
     (c .before .before .before .load .ensures) (c .before .before .intersect .ensures) (c .before .is-empty .ensures) (c .if1 .left)
 
 pub check-list-spec : {M : Type 1} → statement M
@@ -52,13 +65,13 @@ check-list-spec =
     μ-loop
     (λ c. let i = c .before .before .pre .inside in omega arith)
     (λ c. listed-none _ _ _ _ _)
-    (λ c κs. let i = c .before .before .before .before .pre .inside in omega arith)
+    (λ c κs. let i = start-of-turn c .pre .inside in omega arith)
     load-requires
     (λ c κs. search needs)
     (λ c κs. search needs)
     entry-attribute-requires
     returns
     add-k
-    (λ c. let t = c .before .before .before .before .before .loop-test .taken in omega arith)
+    (λ c. let t = turn (c .before) .loop-test .taken in omega arith)
     loop-again
     (λ c. listed-all _ _ _ _ _ _ (c .before .loop .inv) (c .loop-test .left)))

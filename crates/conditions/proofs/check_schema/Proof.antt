@@ -2,18 +2,25 @@ use Prim.Native.Nat.{_/_, _-_}
 use native.Mathlib.Omega.{arith}
 use borrow.Author.Needs.{needs}
 use lib.ListN.{length}
-use Rattle.conditions.proofs.CheckLaws.{Related, related-none, related-read, related-more, related-here, related-all}
+use Rattle.conditions.proofs.CheckLaws.{RelationsChecked, related-none, related-read, related-more, related-here, related-all}
 use Rattle.conditions.proofs.check_schema.Statement.{statement}
 use Rattle.conditions.proofs.check_schema.Tie as tie
 
 abbrev Inv-loop : tie.InvT-loop
-Inv-loop rows permits t1 t2 count start₀ r₀ start r = Related rows (permits .words) t1 t2 start r
+Inv-loop rows permits entries relations count start₀ r₀ start r = RelationsChecked rows (permits .words) entries relations start r
 
 abbrev μ-loop : tie.MeasureT-loop
-μ-loop rows permits t1 t2 count start₀ r₀ start r = length t2 / 2 - r
+μ-loop rows permits entries relations count start₀ r₀ start r = length relations / 2 - r
+
+-- places of the code that the needs look back to
+abbrev start-of-turn : tie.In-loop Inv-loop μ-loop → tie.Start Inv-loop μ-loop
+start-of-turn p = p .before .before .before .before .before
+
+abbrev turn : tie.After-relation-length Inv-loop μ-loop → tie.In-loop Inv-loop μ-loop
+turn p = p .before .before .before .before
 
 check-relation-requires : tie.Need-check-relation-requires Inv-loop μ-loop
-check-relation-requires c κs = related-read _ _ _ _ (c .before .loop .inv) (c .loop-test .taken) (c .before .before .before .before .before .pre)
+check-relation-requires c κs = related-read _ _ _ _ (c .before .loop .inv) (c .loop-test .taken) (start-of-turn c .pre)
 
 returns : tie.Need-returns Inv-loop μ-loop
 returns c =
@@ -22,14 +29,14 @@ returns c =
 
 add-start : tie.Need-add-start Inv-loop μ-loop
 add-start c =
-    let i = c .before .before .before .before in
-    let l = related-read _ _ _ _ (i .before .loop .inv) (i .loop-test .taken) (i .before .before .before .before .before .pre) .list .inside in
+    let i = turn c in
+    let l = related-read _ _ _ _ (i .before .loop .inv) (i .loop-test .taken) (start-of-turn i .pre) .list .inside in
     let e = c .relation-length .ensures .same in
     omega arith
 
 loop-again : tie.Need-loop-again Inv-loop μ-loop
 loop-again c =
-    let i = c .before .before .before .before in
+    let i = turn c in
     related-more _ _ _ _ (i .before .loop .inv) (i .loop-test .taken) (c .before .before .before .check-relation .ensures)
     (c .before .enum-told2 .given .1) (c .relation-length .ensures .same)
 

@@ -7,32 +7,38 @@ use Rattle.conditions.proofs.expression_row.Tie as tie
 
 load-requires-3 : tie.Need-load-requires-3
 load-requires-3 c κs =
-    let l = rw (c .before .before .x3 .given .1) at (c .before .before .before .before .before .pre) in
+    let start = c .before .before .before .before .before in
+    let l = rw (c .before .before .x3 .given .1) at (start .pre) in
     omega arith
 
 load-requires-5 : tie.Need-load-requires-5
 load-requires-5 c κs =
-    let l = rw (c .before .before .x4 .given .1) at (c .before .before .before .before .before .pre) in
+    let start = c .before .before .before .before .before in
+    let l = rw (c .before .before .x4 .given .1) at (start .pre) in
     omega arith
 
 returns-4 : tie.Need-returns-4
 returns-4 c =
+    let start = c .before .before .before .before .before .before in
     rw (c .before .before .before .x .given .1)
-    (c .intersect .ensures ∙ ap (rowIntersect 16 (c .before .before .before .before .before .before .args .full .words)) (c .before .feature .ensures))
+    (c .intersect .ensures ∙ ap (rowIntersect 16 (start .args .full .words)) (c .before .feature .ensures))
 
 returns-5 : tie.Need-returns-5
 returns-5 c =
+    let start = c .before .before .before .before .before .before in
     rw (c .before .before .before .x2 .given .1)
-    (c .minus .ensures ∙ ap (rowMinus 16 (c .before .before .before .before .before .before .args .full .words)) (c .before .load .ensures))
+    (c .minus .ensures ∙ ap (rowMinus 16 (start .args .full .words)) (c .before .load .ensures))
 
 returns-6 : tie.Need-returns-6
 returns-6 c =
-    rw (c .before .before .before .before .x3 .given .1)
+    let arm = c .before .before .before .before in
+    rw (arm .x3 .given .1)
     (c .intersect2 .ensures ∙ ap₂ (rowIntersect 16) (c .before .before .load2 .ensures) (c .before .load3 .ensures))
 
 returns-7 : tie.Need-returns-7
 returns-7 c =
-    rw (c .before .before .before .before .x4 .given .1)
+    let arm = c .before .before .before .before in
+    rw (arm .x4 .given .1)
     (c .join .ensures ∙ ap₂ (rowJoin 16) (c .before .before .load4 .ensures) (c .before .load5 .ensures))
 
 pub expression-row-spec : {M : Type 1} → statement M
@@ -45,17 +51,17 @@ expression-row-spec =
     (λ c κs. search needs)
     (λ c. search needs)
     (λ c. search needs)
-    (λ c κs. rw (c .before .x .given .1) at (c .before .before .before .before .pre))
+    (λ c κs. let start = c .before .before .before .before in rw (c .before .x .given .1) at (start .pre))
     (λ c κs. search needs)
     (λ c. search needs)
-    (λ c κs. let l = rw (c .before .x2 .given .1) at (c .before .before .before .before .pre) in omega arith)
+    (λ c κs. let start = c .before .before .before .before in let l = rw (c .before .x2 .given .1) at (start .pre) in omega arith)
     (λ c κs. search needs)
     (λ c. search needs)
-    (λ c κs. let l = rw (c .before .x3 .given .1) at (c .before .before .before .before .pre) in omega arith)
+    (λ c κs. let start = c .before .before .before .before in let l = rw (c .before .x3 .given .1) at (start .pre) in omega arith)
     load-requires-3
     (λ c κs. search needs)
     (λ c. search needs)
-    (λ c κs. let l = rw (c .before .x4 .given .1) at (c .before .before .before .before .pre) in omega arith)
+    (λ c κs. let start = c .before .before .before .before in let l = rw (c .before .x4 .given .1) at (start .pre) in omega arith)
     load-requires-5
     (λ c κs. search needs)
     (λ c. search needs)

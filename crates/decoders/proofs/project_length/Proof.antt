@@ -1,5 +1,5 @@
 use Prim.Native.Nat.{ℕ}
-use mathlib.Core.Path.{_≡_, refl}
+use mathlib.Core.Path.{_≡_, sym}
 use mathlib.Core.List.{List, [], _∷_}
 use types.Run.{OneOf, miss}
 use denote.Enum.Declared.{tagOf}
@@ -7,6 +7,7 @@ use borrow.Author.Needs.{needs}
 use Rattle.report.specs.Tables.{projectLength}
 use Rattle.report.specs.declared.Query.{Query}
 use Rattle.report.proofs.Query.{the-type}
+use Rattle.report.proofs.FormFacts.{Listing, project, unlisted, listing}
 use Rattle.decoders.proofs.project_length.Statement.{statement}
 use Rattle.decoders.proofs.project_length.Tie as tie
 
@@ -15,15 +16,11 @@ abbrev others : List ℕ
 others = 0 ∷ 1 ∷ 2 ∷ 3 ∷ 5 ∷ 6 ∷ 7 ∷ 8 ∷ []
 
 no-list : (x : Query) → OneOf others (tagOf the-type x) → 0 ≡ projectLength x
-no-list Query.Malformed h = refl
-no-list Query.Empty h = refl
-no-list (Query.Relation a) h = refl
-no-list (Query.Select a b) h = refl
-no-list (Query.Project a b) h = absurd (miss others 4 tt h)
-no-list (Query.Choice a b d) h = refl
-no-list (Query.Product a b) h = refl
-no-list (Query.Union a b) h = refl
-no-list (Query.Intersection a b) h = refl
+no-list x h = go (listing x)
+  where
+    go : Listing x → 0 ≡ projectLength x
+    go (project a b e) = absurd (miss others 4 tt (rw e at h))
+    go (unlisted e) = sym e
 
 enum-known-x : tie.Need-enum-known-x
 enum-known-x c = search needs

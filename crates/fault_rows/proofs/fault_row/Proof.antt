@@ -2,11 +2,15 @@ use Rattle.fault_rows.proofs.FormLaws.{fault-stands, fault-is, fault-re
 use Rattle.fault_rows.proofs.fault_row.Statement.{statement}
 use Rattle.fault_rows.proofs.fault_row.Tie as tie
 
+-- places of the code that the needs look back to
+abbrev start : tie.After-shared-slice-known6 → tie.Start
+start p = p .before .before .before .before .before .before
+
 query-at-requires : tie.Need-query-at-requires
-query-at-requires c κs = let p = c .before .before .before .before .before .before .pre .at in rw (p .reads .queries) (p .inside)
+query-at-requires c κs = let p = start c .pre .at in rw (p .reads .queriesAre) (p .inside)
 
 form-faults-requires : tie.Need-form-faults-requires
-form-faults-requires c κs = fault-read (c .before .before .before .before .before .before .before .pre) (c .query-at .ensures)
+form-faults-requires c κs = fault-read (start (c .before) .pre) (c .query-at .ensures)
 
 returns : tie.Need-returns
 returns c = λ T A.

@@ -7,47 +7,55 @@ use Rattle.fault_rows.proofs.form_faults.Tie as tie
 
 absent-row-requires : tie.Need-absent-row-requires
 absent-row-requires c κs =
-    let b = c .before .before .before .before .before .before .before .before .pre in
-    absent-read (b .at) (b .relations) (c .before .x .given .1)
+    let start = c .before .before .before .before .before .before .before .before in
+    let b = start .pre in
+    absent-read (b .at) (b .relationsAre) (c .before .x .given .1)
 
 load-requires : tie.Need-load-requires
 load-requires c κs =
-    let b = c .before .before .before .before .before .before .before .before .pre in
+    let start = c .before .before .before .before .before .before .before .before in
+    let b = start .pre in
     let l = rw (c .before .x2 .given .1) at (b .at .lower) in
     omega arith
 
 missing-row-requires : tie.Need-missing-row-requires
 missing-row-requires c κs =
-    let b = c .before .before .before .before .before .before .before .before .before .pre in
+    let start = c .before .before .before .before .before .before .before .before .before in
+    let b = start .pre in
     let l = rw (c .before .before .x2 .given .1) at (b .at .lower) in
     omega arith
 
 list-row-requires : tie.Need-list-row-requires
 list-row-requires c κs =
-    let b = c .before .before .before .before .before .before .before .before .pre in
+    let start = c .before .before .before .before .before .before .before .before in
+    let b = start .pre in
     record { tables = b .tables; reads = project-reads (b .at) (c .before .x3 .given .1) }
 
 missing-row-requires-2 : tie.Need-missing-row-requires-2
 missing-row-requires-2 c κs =
-    let b = c .before .before .before .before .before .before .before .before .before .pre in
+    let start = c .before .before .before .before .before .before .before .before .before in
+    let b = start .pre in
     let l = rw (c .before .before .x3 .given .1) at (b .at .lower) in
     omega arith
 
 common-row-requires : tie.Need-common-row-requires
 common-row-requires c κs =
-    let b = c .before .before .before .before .before .before .before .before .pre in
+    let start = c .before .before .before .before .before .before .before .before in
+    let b = start .pre in
     let l = rw (c .before .x4 .given .1) at (b .at .lower) in
     omega arith
 
 unequal-row-requires : tie.Need-unequal-row-requires
 unequal-row-requires c κs =
-    let b = c .before .before .before .before .before .before .before .before .pre in
+    let start = c .before .before .before .before .before .before .before .before in
+    let b = start .pre in
     let l = rw (c .before .x5 .given .1) at (b .at .lower) in
     omega arith
 
 unequal-row-requires-2 : tie.Need-unequal-row-requires-2
 unequal-row-requires-2 c κs =
-    let b = c .before .before .before .before .before .before .before .before .pre in
+    let start = c .before .before .before .before .before .before .before .before in
+    let b = start .pre in
     let l = rw (c .before .x6 .given .1) at (b .at .lower) in
     omega arith
 

@@ -7,48 +7,70 @@ use Rattle.fault_rows.proofs.items_at.Statement.{statement}
 use Rattle.fault_rows.proofs.items_at.Tie as tie
 
 abbrev Inv-loop : tie.InvT-loop
-Inv-loop t1 t2 t3 t4 conditions full first items q start c named₀ relations₀ sets₀ found₀ a₀ named relations sets found a =
-    Finding conditions (full .words) t1 t2 t3 t4 first items q start c named relations sets (found .bits) a
+Inv-loop entries relations comparisons queries conditions full first items q start c named₀ relationRows₀ sets₀ found₀ a₀ named relationRows sets
+    found a =
+    Finding conditions (full .words) entries relations comparisons queries first items q start c named relationRows sets (found .bits) a
 
 abbrev μ-loop : tie.MeasureT-loop
-μ-loop t1 t2 t3 t4 conditions full first items q start c named₀ relations₀ sets₀ found₀ a₀ named relations sets found a =
+μ-loop entries relations comparisons queries conditions full first items q start c named₀ relationRows₀ sets₀ found₀ a₀ named relationRows sets found
+    a =
     items - a
+
+-- ---- places: from where the rows of an attribute are filled back to the loop's test, from there back to the start, and to where they are filled
+
+abbrev turn : tie.After-fill-attribute Inv-loop μ-loop → tie.In-loop Inv-loop μ-loop
+turn f = f .before .before .before .before
+
+abbrev start : tie.In-loop Inv-loop μ-loop → tie.Start Inv-loop μ-loop
+start i = i .before .before .before .before .before .before .before .before
+
+abbrev filled : tie.After-fault-row Inv-loop μ-loop → tie.After-fill-attribute Inv-loop μ-loop
+filled r = r .before .before .before .before .before .before
+
+-- ---- the needs
+
+-- places of the code that the needs look back to
+abbrev fill-attribute : tie.After-sets3 Inv-loop μ-loop → tie.After-fill-attribute Inv-loop μ-loop
+fill-attribute p = p .before .before .before .before .before
 
 fill-attribute-requires : tie.Need-fill-attribute-requires Inv-loop μ-loop
 fill-attribute-requires c κs =
-    let l = c .before .before .before .before in
-    arrays-readable (l .before .before .before .before .before .before .before .pre .reads .reads) (l .loop .inv .arrays)
+    let i = c .before .before .before in
+    arrays-readable (start i .pre .reads .reads) (i .before .loop .inv .arrays)
 
 fault-row-requires : tie.Need-fault-row-requires Inv-loop μ-loop
 fault-row-requires c κs =
-    let f = c .before .before .before .before .before in
-    finding-some (f .fill-attribute .ensures) (f .before .before .before .before .before .before .before .before .before .before .before .before .pre)
+    let f = fill-attribute c in
+    finding-some (f .fill-attribute .ensures) (start (turn f) .pre)
 
-with-item-requires : tie.Need-with-item-requires Inv-loop μ-loop
-with-item-requires c κs =
-    let i = c .before .before .before .before .before .before .before .before .before .before in
-    let p = i .before .before .before .before .before .before .before .before .pre in
-    let m = p .reads .enough .most in
+has-requires : tie.Need-has-requires Inv-loop μ-loop
+has-requires c κs = finding-small (start (turn (filled c)) .pre .reads)
+
+with-if-requires : tie.Need-with-if-requires Inv-loop μ-loop
+with-if-requires c κs =
+    let i = turn (filled (c .before)) in
+    let m = start i .pre .reads .enough .most in
     let l = i .loop-test .taken in
-    (finding-small (p .reads), omega arith)
+    omega arith
 
 add-a : tie.Need-add-a Inv-loop μ-loop
 add-a c =
-    let i = c .before .before .before .before .before .before .before .before .before .before .before in
-    let m = i .before .before .before .before .before .before .before .before .pre .reads .enough .most in
+    let i = turn (filled (c .before .before)) in
+    let m = start i .pre .reads .enough .most in
     let l = i .loop-test .taken in
     omega arith
 
 loop-again : tie.Need-loop-again Inv-loop μ-loop
 loop-again c =
-    let f = c .before .before .before .before .before .before .before in
-    let i = f .before .before .before .before in
+    let r = c .before .before in
+    let f = filled r in
+    let i = turn f in
     let s = i .before .loop .inv in
     let a = f .fill-attribute in
     finding-more (a .ensures)
     (arrays-kept (s .arrays) (a .kept .1 .1 .1 .1 .1 .1 .1 .1 .0) (a .kept .1 .1 .1 .1 .1 .1 .1 .1 .1 .0) (a .kept .1 .1 .1 .1 .1 .1 .1 .1 .1 .1 .0))
     s (i .loop-test .taken)
-    (c .before .fault-row .ensures) (c .with-item .ensures)
+    (r .fault-row .ensures) (c .before .has .ensures) (c .with-if .ensures)
 
 pub items-at-spec : {M : Type 1} → statement M
 items-at-spec =
@@ -65,7 +87,8 @@ items-at-spec =
     (λ c. search needs)
     (λ c. search needs)
     fault-row-requires
-    with-item-requires
+    has-requires
+    with-if-requires
     add-a
     (λ c. search needs)
     loop-again

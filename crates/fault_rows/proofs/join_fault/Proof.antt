@@ -4,11 +4,18 @@ use Rattle.sets.specs.Rows.{rowJoin, rowIntersect, withRow}
 use Rattle.fault_rows.proofs.join_fault.Statement.{statement}
 use Rattle.fault_rows.proofs.join_fault.Tie as tie
 
+-- places of the code that the needs look back to
+abbrev start : tie.After-intersect → tie.Start
+start p = p .before .before .before .before
+
+abbrev join : tie.After-slice-known2 → tie.After-join
+join p = p .before .before .before .before
+
 returns : tie.Need-returns
 returns c =
-    let j = c .before .before .before .before in
+    let j = join c in
     let i = j .before .before .before in
-    let x = i .before .before .before .before .args in
+    let x = start i .args in
     c .before .before .store .ensures
     ∙ ap (withRow 16 (x .faults .now) (x .q))
     (j .join .ensures

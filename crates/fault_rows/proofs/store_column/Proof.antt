@@ -22,7 +22,8 @@ same-length c = search needs
 returns : tie.Need-returns
 returns c =
     let m = c .before .before .before .before in
-    let x = m .before .before .before .before .before .args in
+    let start = m .before .before .before .before .before in
+    let x = start .args in
     c .before .before .store .ensures
     ∙ ap (withRow 16 (x .columns .now) (x .a)) (rw (m .before .load .ensures) at (m .intersect .ensures))
 

@@ -4,6 +4,10 @@ use Rattle.sets.specs.Rows.{rowJoin, rowMinus}
 use Rattle.fault_rows.proofs.unequal_row.Statement.{statement}
 use Rattle.fault_rows.proofs.unequal_row.Tie as tie
 
+-- places of the code that the needs look back to
+abbrev load : tie.After-join → tie.After-load
+load p = p .before .before .before .before
+
 load-requires : tie.Need-load-requires
 load-requires c κs = search needs
 
@@ -22,7 +26,7 @@ join-requires c κs = search needs
 returns : tie.Need-returns
 returns c =
     let y = c .before .before .before .load2 .ensures in
-    let x = c .before .before .before .before .load .ensures in
+    let x = load c .load .ensures in
     c .join .ensures
     ∙ ap₂ (rowJoin 16) (c .before .before .minus .ensures ∙ ap₂ (rowMinus 16) x y) (c .before .minus2 .ensures ∙ ap₂ (rowMinus 16) y x)
 

@@ -4,6 +4,10 @@ use Rattle.forms.proofs.Chain.{stops, goes-on, lists-ready}
 use Rattle.forms.proofs.check_contents.Statement.{statement}
 use Rattle.forms.proofs.check_contents.Tie as tie
 
+-- places of the code that the needs look back to
+abbrev start : tie.After-enum-told4 → tie.Start
+start p = p .before .before .before .before .before .before .before .before .before .before .before
+
 returns-2 : tie.Need-returns-2
 returns-2 c =
     let d = c .before .before .before in
@@ -21,7 +25,7 @@ returns-3 c =
 check-lists-requires : tie.Need-check-lists-requires
 check-lists-requires c κs =
     let w = c .before .before .before in
-    let s = w .before .before .before .before .before .before .before .before .before .before .before in
+    let s = start w in
     lists-ready _ _ _ _ _ (sym (c .before .before .check-entries .ensures) ∙ c .enum-told6 .given .1) (s .pre)
 
 returns-4 : tie.Need-returns-4

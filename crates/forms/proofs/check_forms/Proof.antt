@@ -6,6 +6,10 @@ use Rattle.forms.proofs.Chain.{stops, goes-on, contents-ready}
 use Rattle.forms.proofs.check_forms.Statement.{statement}
 use Rattle.forms.proofs.check_forms.Tie as tie
 
+-- places of the code that the needs look back to
+abbrev start : tie.After-enum-told2 → tie.Start
+start p = p .before .before .before .before .before .before .before .before
+
 returns : tie.Need-returns
 unfolding formCheck
 returns c = stops _ (c .before .before .check-head .ensures) (c .enum-told .given .1)
@@ -20,8 +24,9 @@ returns-2 c =
 check-contents-requires : tie.Need-check-contents-requires
 check-contents-requires c κs =
     let d = c .before .before .before in
-    let a = d .before .before .before .before .before .before .before .before .args in
-    contents-ready (tablesOf (a .n) (a .m) (a .model) (a .t0 .now) (a .t1 .now) (a .t2 .now) (a .t3 .now) (a .t4 .now))
+    let a = start d .args in
+    contents-ready (tablesOf (a .n) (a .m) (a .model) (a .expressions .now) (a .entries .now) (a .relations .now) (a .comparisons .now)
+    (a .queries .now))
     (sym (d .before .before .check-head .ensures) ∙ d .enum-told2 .given .1) (sym (c .before .before .check-lengths .ensures) ∙ c .enum-told4 .given .1)
 
 returns-3 : tie.Need-returns-3

@@ -4,6 +4,13 @@ use Rattle.forms.proofs.Chain.{stops, goes-on, ready}
 use Rattle.forms.proofs.check_lists.Statement.{statement}
 use Rattle.forms.proofs.check_lists.Tie as tie
 
+-- places of the code that the needs look back to
+abbrev start : tie.After-enum-told2 → tie.Start
+start p = p .before .before .before .before .before .before .before
+
+abbrev told2 : tie.After-relations-end → tie.After-enum-told2
+told2 p = p .before .before .before .before
+
 returns-2 : tie.Need-returns-2
 returns-2 c =
     let d = c .before .before .before in
@@ -12,8 +19,8 @@ returns-2 c =
 
 check-queries-requires : tie.Need-check-queries-requires
 check-queries-requires c κs =
-    let d = c .before .before .before .before in
-    let s = d .before .before .before .before .before .before .before in
+    let d = told2 c in
+    let s = start d in
     ready _ _ _ (sym (d .before .before .check-relations .ensures) ∙ d .enum-told2 .given .1) _ (s .pre) (c .relations-end .ensures)
 
 returns-3 : tie.Need-returns-3

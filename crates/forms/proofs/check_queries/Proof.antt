@@ -2,15 +2,22 @@ use borrow.Author.Needs.{needs}
 use Prim.Native.Nat.{_-_, _/_}
 use native.Mathlib.Omega.{arith}
 use lib.ListN.{length}
-use Rattle.forms.proofs.Queries.{Walked, walked-none, walked-first, walked-markable, walked-inside, walked-more, walked-all}
+use Rattle.forms.proofs.Queries.{QueriesPassed, walked-none, walked-first, walked-below, walked-inside, walked-more, walked-all}
 use Rattle.forms.proofs.check_queries.Statement.{statement}
 use Rattle.forms.proofs.check_queries.Tie as tie
 
 abbrev Inv-loop : tie.InvT-loop
-Inv-loop counts t1 start t4 marks₀ count end₀ q₀ marks end q = Walked counts t1 start t4 marks end q
+Inv-loop counts entries start queries marks₀ count end₀ q₀ marks end q = QueriesPassed counts entries start queries marks end q
 
 abbrev μ-loop : tie.MeasureT-loop
-μ-loop counts t1 start t4 marks₀ count end₀ q₀ marks end q = length t4 / 4 - q
+μ-loop counts entries start queries marks₀ count end₀ q₀ marks end q = length queries / 4 - q
+
+-- places of the code that the needs look back to
+abbrev query-fits : tie.After-project-length Inv-loop μ-loop → tie.After-query-fits Inv-loop μ-loop
+query-fits p = p .before .before .before .before .before .before
+
+abbrev else1 : tie.After-project-length Inv-loop μ-loop → tie.Else1 Inv-loop μ-loop
+else1 p = p .before .before .before .before .before
 
 query-fits-requires : tie.Need-query-fits-requires Inv-loop μ-loop
 query-fits-requires c κs =
@@ -30,30 +37,31 @@ returns c =
 
 mark-operands-requires : tie.Need-mark-operands-requires Inv-loop μ-loop
 mark-operands-requires c κs =
-    let f = c .before .before in
+    let f = c .before .before .before in
     let d = f .before .before in
     let l = d .before .before in
-    walked-markable _ _ _ _ (l .before .before .before .pre) (l .loop .inv) (d .before .loop-test .taken) (d .query-at .ensures) (f .query-fits .ensures)
-    (c .before .if1 .left)
+    walked-below _ _ _ _ (l .before .before .before .pre) (l .loop .inv) (d .before .loop-test .taken) (d .query-at .ensures) (f .query-fits .ensures)
+    (c .before .before .if1 .left) (c .query-operands .ensures)
 
 add-end : tie.Need-add-end Inv-loop μ-loop
 add-end c =
-    let f = c .before .before .before .before .before in
+    let f = query-fits c in
     let d = f .before .before in
     let l = d .before .before in
     let p = l .before .before .before .pre in
     let i = walked-inside _ _ _ _ p (l .loop .inv) (d .before .loop-test .taken) (d .query-at .ensures) (f .query-fits .ensures)
-    (c .before .before .before .before .if1 .left) (c .project-length .ensures) in
+    (else1 c .if1 .left) (c .project-length .ensures) in
     let m = p .few in
     omega arith
 
 loop-again : tie.Need-loop-again Inv-loop μ-loop
 loop-again c =
-    let f = c .before .before .before .before .before in
+    let f = query-fits c in
     let d = f .before .before in
     let l = d .before .before in
     walked-more _ _ _ _ (l .before .before .before .pre) (l .loop .inv) (d .before .loop-test .taken) (d .query-at .ensures) (f .query-fits .ensures)
-    (c .before .before .before .before .if1 .left) (c .before .before .mark-operands .ensures) (c .project-length .ensures)
+    (else1 c .if1 .left) (c .before .before .before .query-operands .ensures)
+    (c .before .before .mark-operands .ensures) (c .project-length .ensures)
 
 returns-2 : tie.Need-returns-2 Inv-loop μ-loop
 returns-2 c =
@@ -73,6 +81,7 @@ check-queries-spec =
     (λ c κs. search needs)
     returns
     (λ c. search needs)
+    (λ c κs. search needs)
     mark-operands-requires
     (λ c κs. search needs)
     add-end

@@ -4,15 +4,15 @@ use mathlib.Core.Path.{_∙_}
 use lib.ListN.{length}
 use Rattle.report.specs.FormChecks.{relationsCheck}
 use Rattle.table_checks.proofs.FormLoops.{passed-first, passed-all}
-use Rattle.forms.proofs.Lists.{Related, related-none, relation-is, related-inside, related-more}
+use Rattle.forms.proofs.Lists.{RelationsPassed, related-none, relation-is, related-inside, related-more}
 use Rattle.forms.proofs.check_relations.Statement.{statement}
 use Rattle.forms.proofs.check_relations.Tie as tie
 
 abbrev Inv-loop : tie.InvT-loop
-Inv-loop e t1 t2 count start₀ r₀ start r = Related e t1 t2 start r
+Inv-loop e entries relations count start₀ r₀ start r = RelationsPassed e entries relations start r
 
 abbrev μ-loop : tie.MeasureT-loop
-μ-loop e t1 t2 count start₀ r₀ start r = length t2 / 2 - r
+μ-loop e entries relations count start₀ r₀ start r = length relations / 2 - r
 
 list-fits-requires : tie.Need-list-fits-requires Inv-loop μ-loop
 list-fits-requires c κs =

@@ -15,12 +15,12 @@ no-repeat-requires c κs = search needs
 returns : tie.Need-returns
 returns c =
     let a = c .before .before .before .args in
-    rw (le-leb (a .start + a .count) (length (a .t1 .now) / 2) (omega arith)) (c .no-repeat .ensures)
+    rw (le-leb (a .start + a .count) (length (a .entries .now) / 2) (omega arith)) (c .no-repeat .ensures)
 
 returns-2 : tie.Need-returns-2
 returns-2 c =
     let a = c .before .before .args in
-    rw (lt-leb (a .start + a .count) (length (a .t1 .now) / 2) (omega arith))
+    rw (lt-leb (a .start + a .count) (length (a .entries .now) / 2) (omega arith))
 
 pub list-fits-spec : {M : Type 1} → statement M
 list-fits-spec = tie.close (tie.spec sub-if1 no-repeat-requires returns returns-2)

@@ -5,13 +5,17 @@ use Rattle.forms.proofs.no_repeat.Statement.{statement}
 use Rattle.forms.proofs.no_repeat.Tie as tie
 
 abbrev Inv-loop : tie.InvT-loop
-Inv-loop t1 start count seen₀ k₀ seen k = Seen t1 start count (seen .bits) k
+Inv-loop entries start count seen₀ k₀ seen k = Seen entries start count (seen .bits) k
 
 abbrev μ-loop : tie.MeasureT-loop
-μ-loop t1 start count seen₀ k₀ seen k = count - k
+μ-loop entries start count seen₀ k₀ seen k = count - k
+
+-- places of the code that the needs look back to
+abbrev start-of-entry-attribute : tie.After-entry-attribute Inv-loop μ-loop → tie.Start Inv-loop μ-loop
+start-of-entry-attribute p = p .before .before .before .before .before
 
 has-requires : tie.Need-has-requires Inv-loop μ-loop
-has-requires c κs = narrow-at (c .before .before .before .before .before .pre) _ _ (c .before .loop-test .taken) (c .entry-attribute .ensures .same)
+has-requires c κs = narrow-at (start-of-entry-attribute c .pre) _ _ (c .before .loop-test .taken) (c .entry-attribute .ensures .same)
 
 returns : tie.Need-returns Inv-loop μ-loop
 returns c =
@@ -22,7 +26,7 @@ returns c =
 with-requires : tie.Need-with-requires Inv-loop μ-loop
 with-requires c κs =
     let d = c .before .before in
-    narrow-at (d .before .before .before .before .before .pre) _ _ (d .before .loop-test .taken) (d .entry-attribute .ensures .same)
+    narrow-at (start-of-entry-attribute d .pre) _ _ (d .before .loop-test .taken) (d .entry-attribute .ensures .same)
 
 loop-again : tie.Need-loop-again Inv-loop μ-loop
 loop-again c =

@@ -6,10 +6,10 @@ use Rattle.forms.proofs.relations_end.Statement.{statement}
 use Rattle.forms.proofs.relations_end.Tie as tie
 
 abbrev Inv-loop : tie.InvT-loop
-Inv-loop t2 count end₀ r₀ end r = Summed t2 end r
+Inv-loop relations count end₀ r₀ end r = Summed relations end r
 
 abbrev μ-loop : tie.MeasureT-loop
-μ-loop t2 count end₀ r₀ end r = length t2 / 2 - r
+μ-loop relations count end₀ r₀ end r = length relations / 2 - r
 
 pub relations-end-spec : {M : Type 1} → statement M
 relations-end-spec =

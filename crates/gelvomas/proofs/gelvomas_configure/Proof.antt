@@ -12,14 +12,16 @@ start k = k .before .before .before .before .before .before .before .before .bef
 abbrev tables : tie.After-configure → Tables
 tables k =
     let a = start k .args in
-    tablesOf (a .features) (a .attributes) (a .model) (a .t0 .now) (a .t1 .now) (a .t2 .now) (a .t3 .now) (a .t4 .now)
+    tablesOf (a .features) (a .attributes) (a .model) (a .expressions .now) (a .entries .now) (a .relations .now) (a .comparisons .now)
+    (a .queries .now)
 
 returns : tie.Need-returns
 returns c =
     let m = c .before .before in
     let k = m .before .before .before .before .before .before .before .before .before .before in
     let a = start k .args in
-    configure-answered (tables k) (a .c) (a .o1 .now) (a .o2 .now) (a .o3 .now) (a .o4 .now) (rw (m .made .given .1) at (k .configure .ensures))
+    configure-answered (tables k) (a .c) (a .new-entries .now) (a .new-relations .now) (a .new-comparisons .now) (a .new-queries .now)
+    (rw (m .made .given .1) at (k .configure .ensures))
 
 returns-2 : tie.Need-returns-2
 returns-2 c =
@@ -27,7 +29,7 @@ returns-2 c =
     let k = m .before .before .before .before .before .before .before .before .before .before in
     let a = start k .args in
     let left = rw (m .made2 .given .1) at (k .configure .ensures) in
-    let e = configure-answered (tables k) (a .c) (a .o1 .now) (a .o2 .now) (a .o3 .now) (a .o4 .now) left in
+    let e = configure-answered (tables k) (a .c) (a .new-entries .now) (a .new-relations .now) (a .new-comparisons .now) (a .new-queries .now) left in
     (e .0, (c .refusal-words .ensures ∙ e .1 .0, e .1 .1))
 
 pub gelvomas-configure-spec : {M : Type 1} → statement M

@@ -6,15 +6,15 @@ use Rattle.kept_forms.proofs.query_kept.Statement.{statement}
 use Rattle.kept_forms.proofs.query_kept.Tie as tie
 
 returns : tie.Need-returns
-returns c = λ T d. rw (c .enum-told .given .1) (ap (λ (t : Bool). cond t 1 0) (sym (and-false (c .before .before .args .reached))))
+returns c = rw (c .enum-told .given .1) (ap (λ (t : Bool). cond t 1 0) (sym (and-false (c .before .before .args .reached))))
 
 returns-2 : tie.Need-returns-2
-returns-2 c = λ T d.
-    ap₂ (λ (t p : Bool). cond (t && not p) 1 0) (sym (c .if1 .taken)) (sym (plain-query T d (c .before .before .args .x) (c .before .match .keys2)))
+returns-2 c =
+    ap₂ (λ (t p : Bool). cond (t && not p) 1 0) (sym (c .if1 .taken)) (sym (plain-query (c .before .before .args .x) (c .before .match .keys2)))
 
 returns-3 : tie.Need-returns-3
-returns-3 c = λ T d.
-    ap₂ (λ (t p : Bool). cond (t && not p) 1 0) (sym (c .if1 .left)) (sym (plain-query T d (c .before .before .args .x) (c .before .match .keys2)))
+returns-3 c =
+    ap₂ (λ (t p : Bool). cond (t && not p) 1 0) (sym (c .if1 .left)) (sym (plain-query (c .before .before .args .x) (c .before .match .keys2)))
 
 pub query-kept-spec : {M : Type 1} → statement M
 query-kept-spec = tie.close (tie.spec (λ c. search needs) returns returns-2 returns-3)

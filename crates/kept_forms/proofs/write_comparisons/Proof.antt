@@ -8,16 +8,23 @@ use Rattle.kept_forms.proofs.write_comparisons.Statement.{statement}
 use Rattle.kept_forms.proofs.write_comparisons.Tie as tie
 
 abbrev Inv-loop : tie.InvT-loop
-Inv-loop t3 numbers out₀ count p₀ f₀ out p f = ComparisonWriting t3 numbers out₀ out f p
+Inv-loop comparisons numbers out₀ count p₀ f₀ out p f = ComparisonWriting comparisons numbers out₀ out f p
 
 abbrev μ-loop : tie.MeasureT-loop
-μ-loop t3 numbers out₀ count p₀ f₀ out p f = length t3 / 5 - f
+μ-loop comparisons numbers out₀ count p₀ f₀ out p f = length comparisons / 5 - f
+
+-- places of the code that the needs look back to
+abbrev start : tie.After-loop Inv-loop μ-loop → tie.Start Inv-loop μ-loop
+start p = p .before .before .before .before .before
+
+abbrev known : tie.In-loop Inv-loop μ-loop → tie.After-shared-slice-known Inv-loop μ-loop
+known p = p .before .before .before .before
 
 write-comparison-requires : tie.Need-write-comparison-requires Inv-loop μ-loop
 write-comparison-requires c κs =
     let x = c .before in
     let i = x .before in
-    let k = i .before .before .before .before in
+    let k = known i in
     comparison-forms-read (i .before .loop .inv) (i .loop-test .taken) (x .comparison-at .ensures)
     (λ j. omega (arith, k .shared-slice-known .given j)) (k .before .pre)
 
@@ -40,5 +47,5 @@ write-comparisons-spec =
     (λ c. search needs)
     (λ c. search needs)
     loop-again
-    (λ c. comparison-forms-long (c .before .loop .inv) (c .before .before .before .before .before .pre))
+    (λ c. comparison-forms-long (c .before .loop .inv) (start c .pre))
     (λ c. comparison-forms-all (c .before .loop .inv) (c .loop-test .left)))

@@ -9,16 +9,24 @@ use Rattle.kept_forms.proofs.write_queries.Statement.{statement}
 use Rattle.kept_forms.proofs.write_queries.Tie as tie
 
 abbrev Inv-loop : tie.InvT-loop
-Inv-loop t1 t2 t4 conditions reach c first comparisons queries out₀ count start₀ p₀ q₀ out start p q =
-    QueryWriting conditions reach t1 t2 t4 first c comparisons queries out₀ out q start p
+Inv-loop entries relations queries conditions reach c first comparisonNumbers queryNumbers out₀ count start₀ p₀ q₀ out start p q =
+    QueryWriting conditions reach entries relations queries first c comparisonNumbers queryNumbers out₀ out q start p
 
 abbrev μ-loop : tie.MeasureT-loop
-μ-loop t1 t2 t4 conditions reach c first comparisons queries out₀ count start₀ p₀ q₀ out start p q = length t4 / 4 - q
+μ-loop entries relations queries conditions reach c first comparisonNumbers queryNumbers out₀ count start₀ p₀ q₀ out start p q =
+    length queries / 4 - q
+
+-- places of the code that the needs look back to
+abbrev start-of-loop : tie.At-loop Inv-loop μ-loop → tie.Start Inv-loop μ-loop
+start-of-loop p = p .before .before .before .before .before .before .before .before .before
+
+abbrev query-at : tie.After-project-length Inv-loop μ-loop → tie.After-query-at Inv-loop μ-loop
+query-at p = p .before .before .before .before .before .before
 
 row-has-requires : tie.Need-row-has-requires Inv-loop μ-loop
 row-has-requires c κs =
     let i = c .before in
-    reach-rowed (i .before .before .before .before .before .before .before .before .before .before .pre .reads .reads) (i .loop-test .taken)
+    reach-rowed (start-of-loop (i .before) .pre .reads .reads) (i .loop-test .taken)
 
 write-reached-requires : tie.Need-write-reached-requires Inv-loop μ-loop
 write-reached-requires c κs =
@@ -26,14 +34,14 @@ write-reached-requires c κs =
     let x = r .before in
     let i = x .before in
     query-forms-read (i .before .loop .inv) (i .loop-test .taken) (x .query-at .ensures) (r .row-has .ensures)
-    (i .before .before .before .before .before .before .before .before .before .before .pre)
+    (start-of-loop (i .before) .pre)
 
 add-start : tie.Need-add-start Inv-loop μ-loop
 add-start c =
-    let x = c .before .before .before .before .before .before in
+    let x = query-at c in
     let i = x .before in
     let l = query-forms-small (i .before .loop .inv) (i .loop-test .taken) (x .query-at .ensures)
-    (i .before .before .before .before .before .before .before .before .before .before .pre) in
+    (start-of-loop (i .before) .pre) in
     let e = c .project-length .ensures in
     omega arith
 
@@ -61,5 +69,5 @@ write-queries-spec =
     (λ c. search needs)
     (λ c. search needs)
     loop-again
-    (λ c. query-forms-long (c .before .loop .inv) (c .before .before .before .before .before .before .before .before .before .before .pre))
+    (λ c. query-forms-long (c .before .loop .inv) (start-of-loop (c .before) .pre))
     (λ c. query-forms-all (c .before .loop .inv) (c .loop-test .left)))

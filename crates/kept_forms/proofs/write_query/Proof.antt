@@ -7,69 +7,80 @@ use Rattle.kept_forms.proofs.write_query.Tie as tie
 
 put-query-requires : tie.Need-put-query-requires
 put-query-requires c κs =
-    rw (c .before .enum-told2 .given .1) at (c .before .before .before .before .before .before .before .before .before .pre .room)
+    let start = c .before .before .before .before .before .before .before .before .before in
+    rw (c .before .enum-told2 .given .1) at (start .pre .room)
 
 relation-word-requires : tie.Need-relation-word-requires
 relation-word-requires c κs =
     let k = c .before .before in
-    some-relation (k .before .before .before .before .before .before .before .before .pre) (k .x .given .1)
+    let start = k .before .before .before .before .before .before .before .before in
+    some-relation (start .pre) (k .x .given .1)
 
 put-query-requires-2 : tie.Need-put-query-requires-2
 put-query-requires-2 c κs =
     let k = c .before .before .before in
-    record { fits = (rw (k .x .given .1) at (k .before .before .before .before .before .before .before .before .pre .room)) .fits }
+    let start = k .before .before .before .before .before .before .before .before in
+    record { fits = (rw (k .x .given .1) at (start .pre .room)) .fits }
 
 mul-put-over : tie.Need-mul-put-over
 mul-put-over c =
     let k = c .before .before in
-    let A = k .before .before .before .before .before .before .before .before .pre in
+    let start = k .before .before .before .before .before .before .before .before in
+    let A = start .pre in
     let l = rw (k .x2 .given .1) at (A .stands .stands .lower) in
     omega arith
 
 shared-slice-read-put-over : tie.Need-shared-slice-read-put-over
 shared-slice-read-put-over c =
     let k = c .before .before .before in
-    let A = k .before .before .before .before .before .before .before .before .pre in
+    let start = k .before .before .before .before .before .before .before .before in
+    let A = start .pre in
     let l = rw (k .x2 .given .1) at (A .stands .stands .lower) in
     omega arith
 
 put-over-requires : tie.Need-put-over-requires
 put-over-requires c κs =
     let k = c .before .before .before in
-    let A = k .before .before .before .before .before .before .before .before .pre in
+    let start = k .before .before .before .before .before .before .before .before in
+    let A = start .pre in
     let l = rw (k .x2 .given .1) at (A .stands .stands .lower) in
     record { second = omega arith; room = rw (k .x2 .given .1) at (A .room) }
 
 length-word-requires : tie.Need-length-word-requires
 length-word-requires c κs =
     let k = c .before in
-    some-project (k .before .before .before .before .before .before .before .before .pre) (k .x3 .given .1)
+    let start = k .before .before .before .before .before .before .before .before in
+    some-project (start .pre) (k .x3 .given .1)
 
 put-over-requires-2 : tie.Need-put-over-requires-2
 put-over-requires-2 c κs =
     let k = c .before .before .before in
-    let A = k .before .before .before .before .before .before .before .before .pre in
+    let start = k .before .before .before .before .before .before .before .before in
+    let A = start .pre in
     let l = rw (k .x3 .given .1) at (A .stands .stands .lower) in
     record { second = omega arith; room = record { fits = (rw (k .x3 .given .1) at (A .room)) .fits } }
 
 put-pair-requires : tie.Need-put-pair-requires
 put-pair-requires c κs =
     let k = c .before .before in
-    let A = k .before .before .before .before .before .before .before .before .pre in
+    let start = k .before .before .before .before .before .before .before .before in
+    let A = start .pre in
     let l = rw (k .x4 .given .1) at (A .stands .stands .lower) in
     record { first = omega arith; second = omega arith; room = rw (k .x4 .given .1) at (A .room) }
 
 put-pair-requires-2 : tie.Need-put-pair-requires-2
 put-pair-requires-2 c κs =
     let k = c .before .before in
-    let A = k .before .before .before .before .before .before .before .before .pre in
+    let start = k .before .before .before .before .before .before .before .before in
+    let A = start .pre in
     let l = rw (k .x5 .given .1) at (A .stands .stands .lower) in
     record { first = omega arith; second = omega arith; room = rw (k .x5 .given .1) at (A .room) }
 
 put-pair-requires-3 : tie.Need-put-pair-requires-3
 put-pair-requires-3 c κs =
     let k = c .before .before in
-    let A = k .before .before .before .before .before .before .before .before .pre in
+    let start = k .before .before .before .before .before .before .before .before in
+    let A = start .pre in
     let l = rw (k .x6 .given .1) at (A .stands .stands .lower) in
     record { first = omega arith; second = omega arith; room = rw (k .x6 .given .1) at (A .room) }
 
@@ -112,17 +123,17 @@ write-query-spec =
     put-pair-requires-3
     (λ c. λ T q A. rw (c .enum-told .given .1) (none-written _ _))
     (λ c. search needs)
-    (λ c. λ T q A. rw (c .before .before .before .before .enum-told2 .given .1) (c .before .before .put-query .ensures))
+    (λ c. let arm = c .before .before .before .before in λ T q A. rw (arm .enum-told2 .given .1) (c .before .before .put-query .ensures))
     (λ c. search needs)
     returns-3
     (λ c. search needs)
-    (λ c. λ T q A. rw (c .before .before .before .before .before .before .x2 .given .1) (c .before .before .put-over .ensures))
+    (λ c. let arm = c .before .before .before .before .before .before in λ T q A. rw (arm .x2 .given .1) (c .before .before .put-over .ensures))
     (λ c. search needs)
     returns-5
     (λ c. λ T q A. rw (c .enum-told3 .given .1) (none-written _ _))
     (λ c. search needs)
-    (λ c. λ T q A. rw (c .before .before .before .before .before .x4 .given .1) (c .before .before .put-pair .ensures))
+    (λ c. let arm = c .before .before .before .before .before in λ T q A. rw (arm .x4 .given .1) (c .before .before .put-pair .ensures))
     (λ c. search needs)
-    (λ c. λ T q A. rw (c .before .before .before .before .before .x5 .given .1) (c .before .before .put-pair2 .ensures))
+    (λ c. let arm = c .before .before .before .before .before in λ T q A. rw (arm .x5 .given .1) (c .before .before .put-pair2 .ensures))
     (λ c. search needs)
-    (λ c. λ T q A. rw (c .before .before .before .before .before .x6 .given .1) (c .before .before .put-pair3 .ensures)))
+    (λ c. let arm = c .before .before .before .before .before in λ T q A. rw (arm .x6 .given .1) (c .before .before .put-pair3 .ensures)))

@@ -8,7 +8,7 @@ pub write-reached-spec : {M : Type 1} → statement M
 write-reached-spec =
     tie.close
     (tie.spec
-    (λ c κs. rw (c .before .if1 .taken) at (c .before .before .before .before .before .before .before .before .pre))
+    (λ c κs. let start = c .before .before .before .before .before .before .before .before in rw (c .before .if1 .taken) at (start .pre))
     (λ c. search needs)
-    (λ c. λ T q A. rw (c .before .before .before .before .if1 .taken) (c .before .before .write-query .ensures T q A))
+    (λ c. let at-if1 = c .before .before .before .before in λ T q A. rw (at-if1 .if1 .taken) (c .before .before .write-query .ensures T q A))
     (λ c. λ T q A. rw (c .if1 .left) (none-written _ _)))

@@ -2,6 +2,10 @@ use Rattle.kept_lists.proofs.KeepingLaws.{relation-read, relation-rowed
 use Rattle.kept_lists.proofs.is_present.Statement.{statement}
 use Rattle.kept_lists.proofs.is_present.Tie as tie
 
+-- places of the code that the needs look back to
+abbrev start : tie.After-row-has → tie.Start
+start p = p .before .before .before .before
+
 row-has-requires : tie.Need-row-has-requires
 row-has-requires c κs =
     let p = c .before .before .before .pre in
@@ -9,7 +13,7 @@ row-has-requires c κs =
 
 returns : tie.Need-returns
 returns c = λ T R.
-    relation-present R (relation-read (c .before .before .before .before .pre)) (c .before .relation-expression .ensures .same) (c .row-has .ensures)
+    relation-present R (relation-read (start c .pre)) (c .before .relation-expression .ensures .same) (c .row-has .ensures)
 
 pub is-present-spec : {M : Type 1} → statement M
 is-present-spec = tie.close (tie.spec (λ c κs. relation-read (c .before .before .pre)) row-has-requires returns)

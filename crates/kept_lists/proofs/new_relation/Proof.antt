@@ -8,10 +8,14 @@ use Rattle.kept_lists.proofs.new_relation.Statement.{statement}
 use Rattle.kept_lists.proofs.new_relation.Tie as tie
 
 abbrev Inv-loop : tie.InvT-loop
-Inv-loop t2 conditions c r kept₀ i₀ kept i = Counting (λ T. PresentReads T conditions t2 c) (λ T. present T c) r kept i
+Inv-loop relations conditions c r kept₀ i₀ kept i = Counting (λ T. PresentReads T conditions relations c) (λ T. present T c) r kept i
 
 abbrev μ-loop : tie.MeasureT-loop
-μ-loop t2 conditions c r kept₀ i₀ kept i = r - i
+μ-loop relations conditions c r kept₀ i₀ kept i = r - i
+
+-- places of the code that the needs look back to
+abbrev start : tie.In-loop Inv-loop μ-loop → tie.Start Inv-loop μ-loop
+start p = p .before .before .before .before
 
 more-if-requires : tie.Need-more-if-requires Inv-loop μ-loop
 more-if-requires c κs =
@@ -32,7 +36,7 @@ new-relation-spec =
     Inv-loop
     μ-loop
     (λ c. counting-none)
-    (λ c κs. some-relation (c .before .before .before .before .pre) _ (c .loop-test .taken))
+    (λ c κs. some-relation (start c .pre) _ (c .loop-test .taken))
     more-if-requires
     (λ c. search needs)
     (λ c. search needs)

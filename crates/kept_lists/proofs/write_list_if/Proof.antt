@@ -4,9 +4,13 @@ use Rattle.report.specs.Configuring.{keptList}
 use Rattle.kept_lists.proofs.write_list_if.Statement.{statement}
 use Rattle.kept_lists.proofs.write_list_if.Tie as tie
 
+-- places of the code that the needs look back to
+abbrev start : tie.After-slice-known → tie.Start
+start p = p .before .before .before
+
 write-list-requires : tie.Need-write-list-requires
 write-list-requires c κs =
-    let s = c .before .before .before .before .before in
+    let s = start (c .before .before) in
     let a = s .args in
     record {
       tables = s .pre .tables;
@@ -17,19 +21,19 @@ write-list-requires c κs =
 same-size : tie.Need-same-length
 same-size c =
     let w = c .before .before in
-    let s = w .before .before .before .before .before .before in
+    let s = start (w .before .before .before) in
     same-length (w .write-list .ensures (s .pre .tables) (s .pre .reads))
 
 returns : tie.Need-returns
 returns c = λ T R.
     let w = c .before .before in
     let i = w .before .before in
-    let a = i .before .before .before .before .args in
+    let a = start (i .before) .args in
     kept-written (keptList T (a .c) (a .start) (a .count)) (i .if1 .taken) (w .write-list .ensures T R)
 
 returns-2 : tie.Need-returns-2
 returns-2 c = λ T R.
-    let a = c .before .before .before .before .args in
+    let a = start (c .before) .args in
     dropped-written (keptList T (a .c) (a .start) (a .count)) (now (a .out)) (a .at) (c .if1 .left)
 
 pub write-list-if-spec : {M : Type 1} → statement M

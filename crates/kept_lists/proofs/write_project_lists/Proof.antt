@@ -9,15 +9,23 @@ use Rattle.kept_lists.proofs.write_project_lists.Statement.{statement}
 use Rattle.kept_lists.proofs.write_project_lists.Tie as tie
 
 abbrev Inv-loop : tie.InvT-loop
-Inv-loop t1 t4 conditions reach c first out₀ at count start₀ p₀ q₀ out start p q = Projecting conditions reach t1 t4 first c out₀ at out q start p
+Inv-loop entries queries conditions reach c first out₀ at count start₀ p₀ q₀ out start p q =
+    Projecting conditions reach entries queries first c out₀ at out q start p
 
 abbrev μ-loop : tie.MeasureT-loop
-μ-loop t1 t4 conditions reach c first out₀ at count start₀ p₀ q₀ out start p q = length t4 / 4 - q
+μ-loop entries queries conditions reach c first out₀ at count start₀ p₀ q₀ out start p q = length queries / 4 - q
+
+-- places of the code that the needs look back to
+abbrev start-of-loop : tie.At-loop Inv-loop μ-loop → tie.Start Inv-loop μ-loop
+start-of-loop p = p .before .before .before .before .before .before
+
+abbrev project-length : tie.After-slice-known2 Inv-loop μ-loop → tie.After-project-length Inv-loop μ-loop
+project-length p = p .before .before .before .before .before
 
 row-has-requires : tie.Need-row-has-requires Inv-loop μ-loop
 row-has-requires c κs =
     let i = c .before .before in
-    projecting-rowed (i .before .before .before .before .before .before .before .pre) (i .loop-test .taken)
+    projecting-rowed (start-of-loop (i .before) .pre) (i .loop-test .taken)
 
 write-list-if-requires : tie.Need-write-list-if-requires Inv-loop μ-loop
 write-list-if-requires c κs =
@@ -26,15 +34,15 @@ write-list-if-requires c κs =
     let x = n .before in
     let i = x .before in
     projecting-room (i .before .loop .inv) (i .loop-test .taken) (x .query-at .ensures) (n .project-length .ensures) (b .row-has .ensures)
-    (i .before .before .before .before .before .before .before .pre)
+    (start-of-loop (i .before) .pre)
 
 add-start : tie.Need-add-start Inv-loop μ-loop
 add-start c =
-    let n = c .before .before .before .before .before in
+    let n = project-length c in
     let x = n .before in
     let i = x .before in
     let l = projecting-small (i .before .loop .inv) (i .loop-test .taken) (x .query-at .ensures) (n .project-length .ensures)
-    (i .before .before .before .before .before .before .before .pre) in
+    (start-of-loop (i .before) .pre) in
     omega arith
 
 loop-again : tie.Need-loop-again Inv-loop μ-loop
@@ -62,5 +70,5 @@ write-project-lists-spec =
     (λ c. search needs)
     (λ c. search needs)
     loop-again
-    (λ c. keeping-length (c .before .loop .inv .kept) (c .before .before .before .before .before .before .before .pre .reads))
+    (λ c. keeping-length (c .before .loop .inv .kept) (start-of-loop (c .before) .pre .reads))
     (λ c. projecting-all (c .before .loop .inv) (c .loop-test .left)))

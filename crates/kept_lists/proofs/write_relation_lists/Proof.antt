@@ -9,13 +9,21 @@ use Rattle.kept_lists.proofs.write_relation_lists.Statement.{statement}
 use Rattle.kept_lists.proofs.write_relation_lists.Tie as tie
 
 abbrev Inv-loop : tie.InvT-loop
-Inv-loop t1 t2 conditions c out₀ count start₀ p₀ r₀ out start p r = Relating relationListAt conditions t1 t2 c out₀ out r start p
+Inv-loop entries relations conditions c out₀ count start₀ p₀ r₀ out start p r =
+    Relating relationListAt conditions entries relations c out₀ out r start p
 
 abbrev μ-loop : tie.MeasureT-loop
-μ-loop t1 t2 conditions c out₀ count start₀ p₀ r₀ out start p r = length t2 / 2 - r
+μ-loop entries relations conditions c out₀ count start₀ p₀ r₀ out start p r = length relations / 2 - r
+
+-- places of the code that the needs look back to
+abbrev start-of-loop : tie.At-loop Inv-loop μ-loop → tie.Start Inv-loop μ-loop
+start-of-loop p = p .before .before .before .before .before
+
+abbrev relation-length : tie.After-slice-known2 Inv-loop μ-loop → tie.After-relation-length Inv-loop μ-loop
+relation-length p = p .before .before .before .before .before
 
 is-present-requires : tie.Need-is-present-requires Inv-loop μ-loop
-is-present-requires c κs = let i = c .before in relating-present (i .before .before .before .before .before .before .pre) (i .loop-test .taken)
+is-present-requires c κs = let i = c .before in relating-present (start-of-loop (i .before) .pre) (i .loop-test .taken)
 
 write-list-if-requires : tie.Need-write-list-if-requires Inv-loop μ-loop
 write-list-if-requires c κs =
@@ -23,14 +31,14 @@ write-list-if-requires c κs =
     let n = b .before in
     let i = n .before in
     lists-room (i .loop-test .taken) (n .relation-length .ensures) (b .is-present .ensures) (i .before .loop .inv)
-    (i .before .before .before .before .before .before .pre)
+    (start-of-loop (i .before) .pre)
 
 add-start : tie.Need-add-start Inv-loop μ-loop
 add-start c =
-    let n = c .before .before .before .before .before in
+    let n = relation-length c in
     let i = n .before in
     let l = relating-small (i .before .loop .inv) (i .loop-test .taken) (n .relation-length .ensures)
-    (i .before .before .before .before .before .before .pre) in
+    (start-of-loop (i .before) .pre) in
     omega arith
 
 loop-again : tie.Need-loop-again Inv-loop μ-loop
@@ -55,5 +63,5 @@ write-relation-lists-spec =
     (λ c. search needs)
     (λ c. search needs)
     loop-again
-    (λ c. keeping-length (c .before .loop .inv .kept) (c .before .before .before .before .before .before .pre .reads))
+    (λ c. keeping-length (c .before .loop .inv .kept) (start-of-loop (c .before) .pre .reads))
     (λ c. λ T R. lists-all (c .loop-test .left) T R (c .before .loop .inv)))

@@ -93,7 +93,8 @@ put-decimal-slice-write-out-2 : (t : ℕ) → put-decimal-lts.Need-slice-write-o
 put-decimal-slice-write-out-2 t c =
     let d = c .before .before .before .before .before .before in
     let q = c .before .before .put-decimal in
-    let h = c .before .before .before .before .if1 .left in
+    let at-if1 = c .before .before .before .before in
+    let h = at-if1 .if1 .left in
     last-place (now (d .args .out)) (d .args .at) (d .args .n) h (d .pre .1) (q .ensures)
 
 put-decimal-add-result-2 : (t : ℕ) → put-decimal-lts.Need-add-result-2 (
@@ -103,7 +104,8 @@ put-decimal-add-result-2 : (t : ℕ) → put-decimal-lts.Need-add-result-2 (
 put-decimal-add-result-2 t c =
     let d = c .before .before .before .before .before .before in
     let q = c .before .before .put-decimal in
-    let h = c .before .before .before .before .if1 .left in
+    let at-if1 = c .before .before .before .before in
+    let h = at-if1 .if1 .left in
     omega (arith, last-place (now (d .args .out)) (d .args .at) (d .args .n) h (d .pre .1) (q .ensures))
 
 put-decimal-same-length-2 : (t : ℕ) → put-decimal-lts.Need-same-length-2 (
@@ -113,7 +115,8 @@ put-decimal-same-length-2 : (t : ℕ) → put-decimal-lts.Need-same-length-2 (
 put-decimal-same-length-2 t c =
     let d = c .before .before .before .before .before .before in
     let q = c .before .before .put-decimal in
-    let h = c .before .before .before .before .if1 .left in
+    let at-if1 = c .before .before .before .before in
+    let h = at-if1 .if1 .left in
     same-length (last-written (now (d .args .out)) (d .args .at) (d .args .n) h (q .ensures))
 
 put-decimal-returns-2 : (t : ℕ) → put-decimal-lts.Need-returns-2 (
@@ -123,7 +126,8 @@ put-decimal-returns-2 : (t : ℕ) → put-decimal-lts.Need-returns-2 (
 put-decimal-returns-2 t c =
     let d = c .before .before .before .before .before .before in
     let q = c .before .before .put-decimal in
-    let h = c .before .before .before .before .if1 .left in
+    let at-if1 = c .before .before .before .before in
+    let h = at-if1 .if1 .left in
     last-written (now (d .args .out)) (d .args .at) (d .args .n) h (q .ensures)
 
 pub +put-decimal-spec : {M : Type 1} → statement M

@@ -5,6 +5,22 @@ use borrow.Author.Needs.{needs}
 use Rattle.printing.proofs.put_at_line.Statement.{statement}
 use Rattle.printing.proofs.put_at_line.Tie as tie
 
+-- places of the code that the needs look back to
+abbrev start : tie.After-put-bytes → tie.Start
+start p = p .before .before .before .before
+
+abbrev put-bytes : tie.After-put-spaced → tie.After-put-bytes
+put-bytes p = p .before .before .before .before
+
+abbrev put-spaced : tie.After-put-bytes-arg4 → tie.After-put-spaced
+put-spaced p = p .before .before .before .before
+
+abbrev put-bytes2 : tie.After-put-members → tie.After-put-bytes2
+put-bytes2 p = p .before .before .before .before
+
+abbrev put-members : tie.After-put-bytes-arg6 → tie.After-put-members
+put-members p = p .before .before .before .before
+
 slice-aggregate-put-bytes : tie.Need-slice-aggregate-put-bytes
 slice-aggregate-put-bytes c = search needs
 
@@ -16,7 +32,7 @@ put-bytes-requires c κs =
 put-spaced-requires : tie.Need-put-spaced-requires
 put-spaced-requires c κs =
     let one = c .before .before .before in
-    let s = one .before .before .before .before in
+    let s = start one in
     room-first _ (room-next (same-room (configuration-pieces (s .args .c) (s .args .s .bits)) (s .pre)) (one .put-bytes .ensures))
 
 slice-aggregate-put-bytes-2 : tie.Need-slice-aggregate-put-bytes-2
@@ -24,9 +40,9 @@ slice-aggregate-put-bytes-2 c = search needs
 
 put-bytes-requires-2 : tie.Need-put-bytes-requires-2
 put-bytes-requires-2 c κs =
-    let two = c .before .before .before .before in
-    let one = two .before .before .before .before in
-    let s = one .before .before .before .before in
+    let two = put-spaced c in
+    let one = put-bytes two in
+    let s = start one in
     let r0 = same-room (configuration-pieces (s .args .c) (s .args .s .bits)) (s .pre) in
     let r1 = room-next r0 (one .put-bytes .ensures) in
     let r2 = room-next r1 (two .put-spaced .ensures) in
@@ -35,9 +51,9 @@ put-bytes-requires-2 c κs =
 put-members-requires : tie.Need-put-members-requires
 put-members-requires c κs =
     let three = c .before .before .before in
-    let two = three .before .before .before .before .before in
-    let one = two .before .before .before .before in
-    let s = one .before .before .before .before in
+    let two = put-spaced (three .before) in
+    let one = put-bytes two in
+    let s = start one in
     let r0 = same-room (configuration-pieces (s .args .c) (s .args .s .bits)) (s .pre) in
     let r1 = room-next r0 (one .put-bytes .ensures) in
     let r2 = room-next r1 (two .put-spaced .ensures) in
@@ -49,11 +65,11 @@ slice-aggregate-put-bytes-3 c = search needs
 
 put-bytes-requires-3 : tie.Need-put-bytes-requires-3
 put-bytes-requires-3 c κs =
-    let four = c .before .before .before .before in
-    let three = four .before .before .before .before in
-    let two = three .before .before .before .before .before in
-    let one = two .before .before .before .before in
-    let s = one .before .before .before .before in
+    let four = put-members c in
+    let three = put-bytes2 four in
+    let two = put-spaced (three .before) in
+    let one = put-bytes two in
+    let s = start one in
     let r0 = same-room (configuration-pieces (s .args .c) (s .args .s .bits)) (s .pre) in
     let r1 = room-next r0 (one .put-bytes .ensures) in
     let r2 = room-next r1 (two .put-spaced .ensures) in
@@ -66,11 +82,11 @@ same-length c = search needs
 returns : tie.Need-returns
 returns c =
     let five = c .before .before in
-    let four = five .before .before .before .before .before in
-    let three = four .before .before .before .before in
-    let two = three .before .before .before .before .before in
-    let one = two .before .before .before .before in
-    let s = one .before .before .before .before in
+    let four = put-members (five .before) in
+    let three = put-bytes2 four in
+    let two = put-spaced (three .before) in
+    let one = put-bytes two in
+    let s = start one in
     let w4 = five .put-bytes3 .ensures in
     let w3 = and-then (four .put-members .ensures) w4 in
     let w2 = and-then (three .put-bytes2 .ensures) w3 in

@@ -1,6 +1,5 @@
 -- After a turns the members below a stand one after another.
 use Prim.Native.Nat.{_-_}
-use denote.Ref.{now}
 use Rattle.sets.proofs.WritingLaws.{Writing, same-length, same-room, same-written, writing-all, writing-more, writing-none, writing-room}
 use Rattle.printing.specs.Lines.{memberText}
 use Rattle.printing.proofs.LinePieces.{members-concat}

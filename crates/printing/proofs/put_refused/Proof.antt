@@ -5,6 +5,25 @@ use borrow.Author.Needs.{needs}
 use Rattle.printing.proofs.put_refused.Statement.{statement}
 use Rattle.printing.proofs.put_refused.Tie as tie
 
+-- places of the code that the needs look back to
+abbrev start : tie.After-put-bytes → tie.Start
+start p = p .before .before .before .before
+
+abbrev put-bytes : tie.After-put-spaced → tie.After-put-bytes
+put-bytes p = p .before .before .before .before
+
+abbrev put-spaced : tie.After-put-spaced2 → tie.After-put-spaced
+put-spaced p = p .before .before .before .before
+
+abbrev put-spaced2 : tie.After-put-spaced3 → tie.After-put-spaced2
+put-spaced2 p = p .before .before .before .before
+
+abbrev put-spaced3 : tie.After-put-spaced4 → tie.After-put-spaced3
+put-spaced3 p = p .before .before .before .before
+
+abbrev put-spaced4 : tie.After-put-bytes-arg4 → tie.After-put-spaced4
+put-spaced4 p = p .before .before .before .before
+
 slice-aggregate-put-bytes : tie.Need-slice-aggregate-put-bytes
 slice-aggregate-put-bytes c = search needs
 
@@ -16,14 +35,14 @@ put-bytes-requires c κs =
 put-spaced-requires : tie.Need-put-spaced-requires
 put-spaced-requires c κs =
     let one = c .before .before .before in
-    let s = one .before .before .before .before in
+    let s = start one in
     room-first _ (room-next (same-room (refusal-pieces (s .args .f)) (s .pre)) (one .put-bytes .ensures))
 
 put-spaced-requires-2 : tie.Need-put-spaced-requires-2
 put-spaced-requires-2 c κs =
     let two = c .before .before .before in
-    let one = two .before .before .before .before in
-    let s = one .before .before .before .before in
+    let one = put-bytes two in
+    let s = start one in
     let r0 = same-room (refusal-pieces (s .args .f)) (s .pre) in
     let r1 = room-next r0 (one .put-bytes .ensures) in
     let r2 = room-next r1 (two .put-spaced .ensures) in
@@ -32,9 +51,9 @@ put-spaced-requires-2 c κs =
 put-spaced-requires-3 : tie.Need-put-spaced-requires-3
 put-spaced-requires-3 c κs =
     let three = c .before .before .before in
-    let two = three .before .before .before .before in
-    let one = two .before .before .before .before in
-    let s = one .before .before .before .before in
+    let two = put-spaced three in
+    let one = put-bytes two in
+    let s = start one in
     let r0 = same-room (refusal-pieces (s .args .f)) (s .pre) in
     let r1 = room-next r0 (one .put-bytes .ensures) in
     let r2 = room-next r1 (two .put-spaced .ensures) in
@@ -44,10 +63,10 @@ put-spaced-requires-3 c κs =
 put-spaced-requires-4 : tie.Need-put-spaced-requires-4
 put-spaced-requires-4 c κs =
     let four = c .before .before .before in
-    let three = four .before .before .before .before in
-    let two = three .before .before .before .before in
-    let one = two .before .before .before .before in
-    let s = one .before .before .before .before in
+    let three = put-spaced2 four in
+    let two = put-spaced three in
+    let one = put-bytes two in
+    let s = start one in
     let r0 = same-room (refusal-pieces (s .args .f)) (s .pre) in
     let r1 = room-next r0 (one .put-bytes .ensures) in
     let r2 = room-next r1 (two .put-spaced .ensures) in
@@ -60,12 +79,12 @@ slice-aggregate-put-bytes-2 c = search needs
 
 put-bytes-requires-2 : tie.Need-put-bytes-requires-2
 put-bytes-requires-2 c κs =
-    let five = c .before .before .before .before in
-    let four = five .before .before .before .before in
-    let three = four .before .before .before .before in
-    let two = three .before .before .before .before in
-    let one = two .before .before .before .before in
-    let s = one .before .before .before .before in
+    let five = put-spaced4 c in
+    let four = put-spaced3 five in
+    let three = put-spaced2 four in
+    let two = put-spaced three in
+    let one = put-bytes two in
+    let s = start one in
     let r0 = same-room (refusal-pieces (s .args .f)) (s .pre) in
     let r1 = room-next r0 (one .put-bytes .ensures) in
     let r2 = room-next r1 (two .put-spaced .ensures) in
@@ -79,12 +98,12 @@ same-length c = search needs
 returns : tie.Need-returns
 returns c =
     let six = c .before .before in
-    let five = six .before .before .before .before .before in
-    let four = five .before .before .before .before in
-    let three = four .before .before .before .before in
-    let two = three .before .before .before .before in
-    let one = two .before .before .before .before in
-    let s = one .before .before .before .before in
+    let five = put-spaced4 (six .before) in
+    let four = put-spaced3 five in
+    let three = put-spaced2 four in
+    let two = put-spaced three in
+    let one = put-bytes two in
+    let s = start one in
     let w5 = six .put-bytes2 .ensures in
     let w4 = and-then (five .put-spaced4 .ensures) w5 in
     let w3 = and-then (four .put-spaced3 .ensures) w4 in

@@ -6,6 +6,10 @@ use Rattle.sets.proofs.WritingLaws.{and-then, one-written, room-next, same-leng
 use Rattle.printing.proofs.put_spaced.Statement.{statement}
 use Rattle.printing.proofs.put_spaced.Tie as tie
 
+-- places of the code that the needs look back to
+abbrev start : tie.After-slice-known2 → tie.Start
+start p = p .before .before .before .before .before
+
 slice-write-out : tie.Need-slice-write-out
 slice-write-out c = search needs
 
@@ -19,12 +23,12 @@ put-decimal-requires c κs =
 
 long : tie.Need-same-length
 long c =
-    let d = c .before .before .before .before .before in
+    let d = start c in
     same-length (and-then (one-written (now (d .args .out)) (d .args .at) 32) (c .before .before .put-decimal .ensures))
 
 returns : tie.Need-returns
 returns c =
-    let d = c .before .before .before .before .before in
+    let d = start c in
     and-then (one-written (now (d .args .out)) (d .args .at) 32) (c .before .before .put-decimal .ensures)
 
 pub put-spaced-spec : {M : Type 1} → statement M

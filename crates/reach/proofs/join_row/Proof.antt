@@ -12,6 +12,19 @@ use Rattle.reach.proofs.JoinLaws.{join-here}
 use Rattle.reach.proofs.join_row.Statement.{statement}
 use Rattle.reach.proofs.join_row.Tie as tie
 
+-- places of the code that the needs look back to
+abbrev start : tie.After-slice-known2 → tie.Start
+start p = p .before .before .before .before .before .before .before .before
+
+abbrev known : tie.After-slice-known2 → tie.After-slice-known
+known p = p .before .before .before .before .before .before .before
+
+abbrev load : tie.After-slice-known2 → tie.After-load
+load p = p .before .before .before .before .before
+
+abbrev join : tie.After-slice-known2 → tie.After-join
+join p = p .before .before .before .before
+
 load-requires : tie.Need-load-requires
 load-requires c κs = search needs
 
@@ -26,15 +39,15 @@ same-length c = search needs
 
 returns : tie.Need-returns
 returns c =
-    let b = c .before .before .before .before .before .before .before .before in
+    let b = start c in
     let a = b .args in
     let fits : (i : ℕ) → getD (now (a .out)) i 0 < 2 ^ 64 =
-    λ i. let k = c .before .before .before .before .before .before .before .slice-known .given i in omega (arith, k) in
+    λ i. let k = known c .slice-known .given i in omega (arith, k) in
     let fit : (i : ℕ) → getD (a .reach .words) i 0 < 2 ^ 64 = λ i. let k : Fits w64 (getD (a .reach .words) i 0) = search needs in k .fits in
     c .before .before .store .ensures
     ∙ ap (withRow 16 (now (a .out)) (a .form))
-    (c .before .before .before .before .join .ensures
-    ∙ ap (λ (w : List ℕ). rowJoin 16 w (a .reach .words)) (c .before .before .before .before .before .load .ensures))
+    (join c .join .ensures
+    ∙ ap (λ (w : List ℕ). rowJoin 16 w (a .reach .words)) (load c .load .ensures))
     ∙ join-here (now (a .out)) (a .reach .words) (a .form) (b .pre) fits fit
 
 pub join-row-spec : {M : Type 1} → statement M

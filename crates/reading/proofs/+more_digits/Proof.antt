@@ -32,7 +32,8 @@ requires : (t : ℕ) → more-digits-lts.Need-more-digits-requires (claims t) (m
 requires t c κs =
     let w = c .before in
     let d = w .before .before in
-    (omega (arith, d .before .before .before .before .pre .0), value-fits _ _ (sym (w .w .given .1) ∙ d .next-digit .ensures))
+    let start = d .before .before .before .before in
+    (omega (arith, start .pre .0), value-fits _ _ (sym (w .w .given .1) ∙ d .next-digit .ensures))
 
 returns-2 : (t : ℕ) → more-digits-lts.Need-returns-2 (claims t) (more-digits-at t) more-digits.Post
 returns-2 t c =

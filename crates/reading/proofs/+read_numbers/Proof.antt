@@ -41,14 +41,16 @@ returns-2 t c =
 
 same-length : (t : ℕ) → read-numbers-lts.Need-same-length (claims t) (read-numbers-at t) read-numbers.Post
 same-length t c =
-    let a = c .before .before .before .before .before .before .before .before .before .before .before .args in
+    let start = c .before .before .before .before .before .before .before .before .before .before .before in
+    let a = start .args in
     stored-same (c .before .before .read-numbers .ensures) ∙ length-set (now (a .out)) (a .to) _
 
 returns-3 : (t : ℕ) → read-numbers-lts.Need-returns-3 (claims t) (read-numbers-at t) read-numbers.Post
 returns-3 t c =
     let v = c .before .before .before .before .before in
     let d = v .before .before in
-    let a = d .before .before .before .before .args in
+    let start = d .before .before .before .before in
+    let a = start .args in
     numbers-more (now (a .s)) (a .count) (a .at) (a .to) (now (a .out)) (d .before .if1 .left) (sym (d .spaced-at .ensures) ∙ v .v .given .1)
     (c .before .before .read-numbers .ensures)
 

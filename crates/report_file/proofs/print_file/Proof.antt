@@ -21,6 +21,13 @@ use Rattle.report_file.proofs.print_file.Tie as tie
 abbrev start : tie.After-read-file → tie.Start
 start f = f .before .before .before .before .before .before .before .before
 
+-- places of the code that the needs look back to
+abbrev read-file : tie.After-queries2 → tie.After-read-file
+read-file p = p .before .before .before .before .before .before
+
+abbrev file2 : tie.After-queries3 → tie.After-file2
+file2 p = p .before .before .before .before .before .before .before
+
 -- a line number is a number of 64 bits
 short : (p : tie.After-put-unread-arg) → length (unreadLine (p .before .before .file .given .0 .0)) ≤ 201653
 short p = unread-room (p .before .before .file .given .0 .0) (omega arith)
@@ -28,30 +35,30 @@ short p = unread-room (p .before .before .file .given .0 .0) (omega arith)
 returns : tie.Need-returns
 returns c =
     let k = c .before .before .before in
-    let f = k .before .before .before .before .before .before .before .before in
+    let f = read-file (k .before .before) in
     unread-printed (now (start f .args .text)) refl (bad-told _ _ _ _ _ _ _ (f .read-file .ensures) (k .file .given .1))
     (prints (short (c .before)) (omega arith) (c .put-unread .ensures))
 
 -- the tables that were read
 told : (k : tie.After-file2)
-    → let f = k .before .before .before .before .before .before .before .before in
+    → let f = read-file (k .before .before) in
     let l = f .read-file .last .1 in
     let n = k .file2 .given .0 in
     (T : Tables) × (readFile (now (start f .args .text)) ≡ File.holds T)
     × Held T (Outcome.Read (n .0) (n .1 .0) (n .1 .1 .0) (n .1 .1 .1 .0) (n .1 .1 .1 .1 .0))
     (l .0) (l .1 .0) (l .1 .1 .0) (l .1 .1 .1 .0) (l .1 .1 .1 .1 .0) (l .1 .1 .1 .1 .1 .0)
-told k = read-told _ _ _ _ _ _ _ (k .before .before .before .before .before .before .before .before .read-file .ensures) (k .file2 .given .1)
+told k = read-told _ _ _ _ _ _ _ (read-file (k .before .before) .read-file .ensures) (k .file2 .given .1)
 
 print-read-requires : tie.Need-print-read-requires
 print-read-requires c κs =
-    let k = c .before .before .before .before .before .before .before .before in
+    let k = file2 (c .before) in
     let t = told k in
     record { tables = t .0; held = t .2; whole = omega arith; room = omega arith }
 
 returns-2 : tie.Need-returns-2
 returns-2 c =
-    let k = c .before .before .before .before .before .before .before .before .before in
-    let f = k .before .before .before .before .before .before .before .before in
+    let k = file2 (c .before .before) in
+    let f = read-file (k .before .before) in
     let t = told k in
     text-printed (now (start f .args .text)) (t .1) (c .print-read .ensures (t .0) (t .2))
 

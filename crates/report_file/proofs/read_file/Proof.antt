@@ -7,17 +7,27 @@ use Rattle.report_file.proofs.GroupSteps.{long-file, short-file}
 use Rattle.report_file.proofs.read_file.Statement.{statement}
 use Rattle.report_file.proofs.read_file.Tie as tie
 
+-- places of the code that the needs look back to
+abbrev start : tie.After-slice-known6 → tie.Start
+start p = p .before .before .before .before .before .before .before
+
+abbrev else1 : tie.After-read-groups → tie.Else1
+else1 p = p .before .before .before .before .before .before .before
+
+abbrev read-groups : tie.After-slice-known12 → tie.After-read-groups
+read-groups p = p .before .before .before .before .before .before .before .before .before .before .before .before
+
 returns : tie.Need-returns
 unfolding Filed
 returns c =
-    let a = c .before .before .before .before .before .before .before .before .args in
+    let a = start (c .before) .args in
     rw (long-file (now (a .s)) (c .if1 .taken)) refl
 
 returns-2 : tie.Need-returns-2
 returns-2 c =
-    let g = c .before .before .before .before .before .before .before .before .before .before .before .before in
-    let i = g .before .before .before .before .before .before .before in
-    let a = i .before .before .before .before .before .before .before .before .args in
+    let g = read-groups c in
+    let i = else1 g in
+    let a = start (i .before) .args in
     rw (short-file (now (a .s)) (i .if1 .left)) (g .read-groups .ensures)
 
 pub read-file-spec : {M : Type 1} → statement M

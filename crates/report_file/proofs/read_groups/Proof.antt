@@ -43,7 +43,7 @@ requires-4 c κs =
     let x = expressions-read e in
     let h = head-read x in
     record {
-      words = start h .pre .relations;
+      words = start h .pre .relationsRoom;
       lines = omega (arith, h .read-lines .ensures .few, x .read-lines2 .ensures .few, e .read-lines3 .ensures .few);
     }
 
@@ -54,7 +54,7 @@ requires-5 c κs =
     let x = expressions-read e in
     let h = head-read x in
     record {
-      words = start h .pre .comparisons;
+      words = start h .pre .comparisonsRoom;
       lines = omega (arith, h .read-lines .ensures .few, x .read-lines2 .ensures .few, e .read-lines3 .ensures .few, r .read-lines4 .ensures .few);
     }
 
@@ -66,7 +66,7 @@ requires-6 c κs =
     let x = expressions-read e in
     let h = head-read x in
     record {
-      words = start h .pre .queries;
+      words = start h .pre .queriesRoom;
       lines =
           omega (
             arith,
@@ -129,23 +129,23 @@ read-groups-spec =
     requires-5
     (λ c. search needs)
     requires-6
-    (λ c. omega (arith, head-read (expressions-read (to-entries (c .before .before .before .before))) .read-lines))
-    (λ c. omega (arith, expressions-read (to-entries (c .before .before .before .before)) .read-lines2))
+    (λ c. let place = c .before .before .before .before in omega (arith, head-read (expressions-read (to-entries (place))) .read-lines))
+    (λ c. let place = c .before .before .before .before in omega (arith, expressions-read (to-entries (place)) .read-lines2))
     (λ c. search needs)
     (λ c. search needs)
     (λ c. search needs)
     (λ c. search needs)
     returns
-    (λ c. omega (arith, head-read (expressions-read (to-entries (c .before .before .before .before .before .before))) .read-lines))
-    (λ c. omega (arith, expressions-read (to-entries (c .before .before .before .before .before .before)) .read-lines2))
-    (λ c. omega (arith, to-entries (c .before .before .before .before .before .before) .read-lines3))
+    (λ c. let place = c .before .before .before .before .before .before in omega (arith, head-read (expressions-read (to-entries (place))) .read-lines))
+    (λ c. let place = c .before .before .before .before .before .before in omega (arith, expressions-read (to-entries (place)) .read-lines2))
+    (λ c. let place = c .before .before .before .before .before .before in omega (arith, to-entries (place) .read-lines3))
     (λ c. search needs)
     (λ c. search needs)
     (λ c. search needs)
     returns-2
-    (λ c. omega (arith, head-read (expressions-read (to-entries (c .before .before .before .before .before .before))) .read-lines))
-    (λ c. omega (arith, expressions-read (to-entries (c .before .before .before .before .before .before)) .read-lines2))
-    (λ c. omega (arith, to-entries (c .before .before .before .before .before .before) .read-lines3))
+    (λ c. let place = c .before .before .before .before .before .before in omega (arith, head-read (expressions-read (to-entries (place))) .read-lines))
+    (λ c. let place = c .before .before .before .before .before .before in omega (arith, expressions-read (to-entries (place)) .read-lines2))
+    (λ c. let place = c .before .before .before .before .before .before in omega (arith, to-entries (place) .read-lines3))
     (λ c. search needs)
     (λ c. search needs)
     (λ c. search needs)

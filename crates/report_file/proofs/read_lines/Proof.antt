@@ -15,6 +15,16 @@ Inv-loop s word width most out₀ line at₀ k₀ to₀ out at k to = LinesRead 
 abbrev μ-loop : tie.MeasureT-loop
 μ-loop s word width most out₀ line at₀ k₀ to₀ out at k to = most - k
 
+-- places of the code that the needs look back to
+abbrev loop : tie.After-enum-told Inv-loop μ-loop → tie.At-loop Inv-loop μ-loop
+loop p = p .before .before .before .before .before .before .before
+
+abbrev turn : tie.After-known-told Inv-loop μ-loop → tie.In-loop Inv-loop μ-loop
+turn p = p .before .before .before .before .before .before .before
+
+abbrev read-line : tie.After-slice-known2 Inv-loop μ-loop → tie.After-read-line Inv-loop μ-loop
+read-line p = p .before .before
+
 loop-holds : tie.Need-loop-holds Inv-loop μ-loop
 loop-holds c =
     let d = c .before .before .before in
@@ -25,27 +35,27 @@ read-line-requires c κs = lines-room (c .before .before .loop .inv) (c .before 
 
 add-t16 : tie.Need-add-t16 Inv-loop μ-loop
 add-t16 c =
-    let i = c .before .before .before .before .before .before .before .loop .inv in
+    let i = loop c .loop .inv in
     omega (arith, i .room .lines, i .within)
 
 same-length : tie.Need-same-length Inv-loop μ-loop
 same-length c =
-    let d = c .before .before .before .before in
+    let d = read-line (c .before .before) in
     stored-same (d .read-line .ensures) ∙ d .before .before .before .loop .inv .long
 
 returns : tie.Need-returns Inv-loop μ-loop
 returns c =
-    let d = c .before .before .before .before in
+    let d = read-line (c .before .before) in
     lines-stop (d .before .before .before .loop .inv) (d .before .before .loop-test .taken) (d .read-line .ensures) (c .enum-told .given .1)
 
 add-to : tie.Need-add-to Inv-loop μ-loop
 add-to c =
-    let t = c .before .before .before .before .before .before .before in
+    let t = turn c in
     omega (arith, lines-room (t .before .loop .inv) (t .loop-test .taken))
 
 loop-again : tie.Need-loop-again Inv-loop μ-loop
 loop-again c =
-    let d = c .before .before .before .before .before in
+    let d = read-line (c .before .before .before) in
     lines-more (d .before .before .before .loop .inv) (d .before .before .loop-test .taken) (d .read-line .ensures) (c .before .p .given .1)
 
 add-t17 : tie.Need-add-t17 Inv-loop μ-loop

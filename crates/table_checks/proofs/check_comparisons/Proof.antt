@@ -4,15 +4,15 @@ use mathlib.Core.Path.{_∙_}
 use lib.ListN.{length}
 use Rattle.report.specs.Tables.{comparison}
 use Rattle.report.specs.FormChecks.{comparisonFits, comparisonsCheck}
-use Rattle.table_checks.proofs.FormLoops.{Passed, passed-none, passed-more, passed-first, passed-all}
+use Rattle.table_checks.proofs.FormLoops.{FormsPassed, passed-none, passed-more, passed-first, passed-all}
 use Rattle.table_checks.proofs.check_comparisons.Statement.{statement}
 use Rattle.table_checks.proofs.check_comparisons.Tie as tie
 
 abbrev Inv-loop : tie.InvT-loop
-Inv-loop m e t3 count f₀ f = Passed (λ j. comparisonFits m e j (comparison t3 j)) (length t3 / 5) f
+Inv-loop m e comparisons count f₀ f = FormsPassed (λ j. comparisonFits m e j (comparison comparisons j)) (length comparisons / 5) f
 
 abbrev μ-loop : tie.MeasureT-loop
-μ-loop m e t3 count f₀ f = length t3 / 5 - f
+μ-loop m e comparisons count f₀ f = length comparisons / 5 - f
 
 returns : tie.Need-returns Inv-loop μ-loop
 unfolding comparisonsCheck

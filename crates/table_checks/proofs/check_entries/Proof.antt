@@ -3,15 +3,15 @@ use Prim.Native.Nat.{_-_, _/_}
 use mathlib.Core.Path.{_∙_}
 use lib.ListN.{length}
 use Rattle.report.specs.FormChecks.{entryFits, entriesCheck}
-use Rattle.table_checks.proofs.FormLoops.{Passed, passed-none, passed-more, passed-first, passed-all}
+use Rattle.table_checks.proofs.FormLoops.{FormsPassed, passed-none, passed-more, passed-first, passed-all}
 use Rattle.table_checks.proofs.check_entries.Statement.{statement}
 use Rattle.table_checks.proofs.check_entries.Tie as tie
 
 abbrev Inv-loop : tie.InvT-loop
-Inv-loop m e t1 count k₀ k = Passed (entryFits m e t1) (length t1 / 2) k
+Inv-loop m e entries count k₀ k = FormsPassed (entryFits m e entries) (length entries / 2) k
 
 abbrev μ-loop : tie.MeasureT-loop
-μ-loop m e t1 count k₀ k = length t1 / 2 - k
+μ-loop m e entries count k₀ k = length entries / 2 - k
 
 returns : tie.Need-returns Inv-loop μ-loop
 unfolding entriesCheck

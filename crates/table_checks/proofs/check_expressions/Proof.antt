@@ -4,15 +4,15 @@ use mathlib.Core.Path.{_∙_}
 use lib.ListN.{length}
 use Rattle.report.specs.Tables.{expression}
 use Rattle.report.specs.FormChecks.{expressionFits, expressionsCheck}
-use Rattle.table_checks.proofs.FormLoops.{Passed, passed-none, passed-more, passed-first, passed-all}
+use Rattle.table_checks.proofs.FormLoops.{FormsPassed, passed-none, passed-more, passed-first, passed-all}
 use Rattle.table_checks.proofs.check_expressions.Statement.{statement}
 use Rattle.table_checks.proofs.check_expressions.Tie as tie
 
 abbrev Inv-loop : tie.InvT-loop
-Inv-loop n t0 count f₀ f = Passed (λ j. expressionFits n j (expression t0 j)) (length t0 / 3) f
+Inv-loop n expressions count f₀ f = FormsPassed (λ j. expressionFits n j (expression expressions j)) (length expressions / 3) f
 
 abbrev μ-loop : tie.MeasureT-loop
-μ-loop n t0 count f₀ f = length t0 / 3 - f
+μ-loop n expressions count f₀ f = length expressions / 3 - f
 
 returns : tie.Need-returns Inv-loop μ-loop
 unfolding expressionsCheck

@@ -3,8 +3,15 @@ use Rattle.typing.proofs.TypingSteps.{rows-room, no-form, form-room, no
 use Rattle.typing.proofs.check_rows.Statement.{statement}
 use Rattle.typing.proofs.check_rows.Tie as tie
 
+-- places of the code that the needs look back to
+abbrev start : tie.After-shared-slice-known6 → tie.Start
+start p = p .before .before .before .before .before .before
+
+abbrev lowest : tie.After-refusal-at → tie.After-lowest
+lowest p = p .before .before .before .before
+
 lowest-row-requires : tie.Need-lowest-row-requires
-lowest-row-requires c κs = rows-room (c .before .before .before .before .before .before .pre .reads)
+lowest-row-requires c κs = rows-room (start c .pre .reads)
 
 returns : tie.Need-returns
 returns c = λ T R. no-form R (c .before .before .lowest-row .ensures) (c .enum-told .given .1)
@@ -12,7 +19,7 @@ returns c = λ T R. no-form R (c .before .before .lowest-row .ensures) (c .enum-
 load-requires : tie.Need-load-requires
 load-requires c κs =
     let r = c .before .before .before in
-    form-room (r .before .before .before .before .before .before .before .pre .reads) (r .lowest-row .ensures) (c .before .form .given .1)
+    form-room (start (r .before) .pre .reads) (r .lowest-row .ensures) (c .before .form .given .1)
 
 returns-2 : tie.Need-returns-2
 returns-2 c =
@@ -26,7 +33,7 @@ refusal-at-requires c κs =
     let l = c .before .before .before in
     let f = l .before .before .before in
     let r = f .before .before in
-    let p = r .before .before .before .before .before .before .before .pre in
+    let p = start (r .before) .pre in
     record {
       tables = p .tables;
       reads =
@@ -36,7 +43,7 @@ refusal-at-requires c κs =
 
 returns-3 : tie.Need-returns-3
 returns-3 c =
-    let l = c .before .before .before .before in
+    let l = lowest c in
     let f = l .before .before .before in
     λ T R. form-refused R (f .before .before .lowest-row .ensures) (f .form .given .1) (l .before .load .ensures) (l .lowest .ensures)
     (c .before .before .configuration .given .1) (c .refusal-at .ensures)

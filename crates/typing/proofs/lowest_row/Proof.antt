@@ -1,11 +1,11 @@
 use Prim.Native.Nat.{_-_}
 use borrow.Author.Needs.{needs}
-use Rattle.typing.proofs.RowSearch.{Passed, passed-none, passed-more, passed-here, passed-all}
+use Rattle.typing.proofs.RowSearch.{RowsPassed, passed-none, passed-more, passed-here, passed-all}
 use Rattle.typing.proofs.lowest_row.Statement.{statement}
 use Rattle.typing.proofs.lowest_row.Tie as tie
 
 abbrev Inv-loop : tie.InvT-loop
-Inv-loop rows count q₀ q = Passed rows count q
+Inv-loop rows count q₀ q = RowsPassed rows count q
 
 abbrev μ-loop : tie.MeasureT-loop
 μ-loop rows count q₀ q = count - q

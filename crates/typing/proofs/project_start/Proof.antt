@@ -6,10 +6,10 @@ use Rattle.typing.proofs.project_start.Statement.{statement}
 use Rattle.typing.proofs.project_start.Tie as tie
 
 abbrev Inv-loop : tie.InvT-loop
-Inv-loop t4 q first start₀ i₀ start i = Started t4 first q start i
+Inv-loop queries q first start₀ i₀ start i = Started queries first q start i
 
 abbrev μ-loop : tie.MeasureT-loop
-μ-loop t4 q first start₀ i₀ start i = q - i
+μ-loop queries q first start₀ i₀ start i = q - i
 
 loop-holds : tie.Need-loop-holds Inv-loop μ-loop
 loop-holds c = started-none

@@ -3,16 +3,20 @@ use Rattle.typing.proofs.TypingSteps.{told-in, told-start, told-items, 
 use Rattle.typing.proofs.refusal_at.Statement.{statement}
 use Rattle.typing.proofs.refusal_at.Tie as tie
 
+-- places of the code that the needs look back to
+abbrev start : tie.After-shared-slice-known5 → tie.Start
+start p = p .before .before .before .before .before
+
 project-start-requires : tie.Need-project-start-requires
-project-start-requires c κs = told-start (c .before .before .before .before .before .pre .reads)
+project-start-requires c κs = told-start (start c .pre .reads)
 
 items-at-requires : tie.Need-items-at-requires
 items-at-requires c κs =
-    let p = c .before .before .before .before .before .before .pre in
+    let p = start (c .before) .pre in
     record { tables = p .tables; reads = told-items (p .reads) (c .project-start .ensures) }
 
 query-at-requires : tie.Need-query-at-requires
-query-at-requires c κs = told-in (c .before .before .before .before .before .before .before .pre .reads)
+query-at-requires c κs = told-in (start (c .before .before) .pre .reads)
 
 returns : tie.Need-returns
 returns c =

@@ -3,6 +3,10 @@ use Rattle.checker.proofs.ConfigureLaws.{room-answers}
 use Rattle.checker.proofs.configuring.check_room.Statement.{statement}
 use Rattle.checker.proofs.configuring.check_room.Tie as tie
 
+-- places of the code that the needs look back to
+abbrev start : tie.After-refuse-if → tie.Start
+start p = p .before .before .before .before .before
+
 returns : tie.Need-returns
 returns c T R =
     let y = c .before in
@@ -11,8 +15,9 @@ returns c T R =
     let third = d .before in
     let b = third .before in
     let a = b .before in
-    let r = a .before .before .before .before .before .args in
-    room-answers R (r .r1) (r .r2) (r .r3) (r .r4) (a .refuse-if .ensures) (b .refuse-if2 .ensures) (third .refuse-if3 .ensures)
+    let r = start a .args in
+    room-answers R (r .entries-room) (r .relations-room) (r .comparisons-room) (r .queries-room) (a .refuse-if .ensures) (b .refuse-if2 .ensures)
+    (third .refuse-if3 .ensures)
     (d .refuse-if4 .ensures) (x .or-else .ensures) (y .or-else2 .ensures) (c .or-else3 .ensures)
 
 pub check-room-spec : {M : Type 1} → statement M

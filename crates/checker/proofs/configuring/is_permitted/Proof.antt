@@ -5,6 +5,13 @@ use Rattle.checker.proofs.ConfigureLaws.{few, small, rows-fillable, mod
 use Rattle.checker.proofs.configuring.is_permitted.Statement.{statement}
 use Rattle.checker.proofs.configuring.is_permitted.Tie as tie
 
+-- places of the code that the needs look back to
+abbrev start : tie.After-conditions3 → tie.Start
+start p = p .before .before .before .before .before .before
+
+abbrev else1 : tie.After-load → tie.Else1
+else1 p = p .before .before .before .before .before
+
 shl-many : tie.Need-shl-many
 shl-many c = few (c .before .pre .reads)
 
@@ -15,11 +22,11 @@ fill-rows-requires : tie.Need-fill-rows-requires
 fill-rows-requires c κs = rows-fillable (c .before .before .before .pre .reads) refl
 
 load-requires : tie.Need-load-requires
-load-requires c κs = let m = model-room (c .before .before .before .before .before .before .pre .reads) in search needs
+load-requires c κs = let m = model-room (start c .pre .reads) in search needs
 
 has-requires : tie.Need-has-requires
 has-requires c κs =
-    let i = c .before .before .before .before .before in
+    let i = else1 c in
     let s = i .before .before in
     small (s .pre .reads) (shl-one 64 (s .args .n) (few (s .pre .reads))) (i .if1 .left)
 

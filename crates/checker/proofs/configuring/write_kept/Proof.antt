@@ -30,8 +30,15 @@ compared n = n .before .before .before .before
 abbrev counted : tie.After-write-queries → tie.After-number-queries
 counted w = w .before .before .before .before .before
 
+-- places of the code that the needs look back to
+abbrev start-of-write-relation-lists-arg : tie.After-write-relation-lists-arg → tie.Start
+start-of-write-relation-lists-arg p = p .before .before .before .before .before .before .before .before .before .before .before
+
+abbrev number-queries : tie.After-write-queries-arg → tie.After-number-queries
+number-queries p = p .before .before .before .before
+
 write-relation-lists-requires : tie.Need-write-relation-lists-requires
-write-relation-lists-requires c κs = lists-writable (c .before .before .before .before .before .before .before .before .before .before .before .pre)
+write-relation-lists-requires c κs = lists-writable (start-of-write-relation-lists-arg c .pre)
 
 write-project-lists-requires : tie.Need-write-project-lists-requires
 write-project-lists-requires c κs =
@@ -56,7 +63,7 @@ number-queries-requires c κs = queries-numberable (start (lists (projects (form
 
 write-queries-requires : tie.Need-write-queries-requires
 write-queries-requires c κs =
-    let q = c .before .before .before .before in
+    let q = number-queries c in
     let n = numbers (compared q) in
     let W = start (lists (projects (forms n))) .pre in
     queries-writable W (n .number-comparisons .ensures (W .tables) (comparison-reads (W .reads)))

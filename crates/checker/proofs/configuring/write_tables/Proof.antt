@@ -18,8 +18,18 @@ loaded w = w .before .before .before
 abbrev walked : tie.After-relations-end → tie.After-walk
 walked e = e .before .before
 
+-- places of the code that the needs look back to
+abbrev start-of-conditions : tie.After-conditions → tie.Start
+start-of-conditions p = p .before .before .before .before .before .before .before .before .before .before
+
+abbrev relations-end : tie.After-write-kept-arg4 → tie.After-relations-end
+relations-end p = p .before .before .before .before .before .before
+
+abbrev write-kept : tie.After-slice-known8 → tie.After-write-kept
+write-kept p = p .before .before .before .before .before .before .before .before
+
 fill-rows-requires : tie.Need-fill-rows-requires
-fill-rows-requires c κs = rows-fillable (c .before .before .before .before .before .before .before .before .before .before .pre .reads .head) refl
+fill-rows-requires c κs = rows-fillable (start-of-conditions c .pre .reads .head) refl
 
 load-requires : tie.Need-load-requires
 load-requires c κs = let m = model-room (start (c .before .before) .pre .reads .head) in search needs
@@ -37,7 +47,7 @@ relations-end-requires c κs = few-relations (start (filled (loaded (c .before))
 
 write-kept-requires : tie.Need-write-kept-requires
 write-kept-requires c κs =
-    let e = c .before .before .before .before .before .before in
+    let e = relations-end c in
     let w = walked e in
     let l = loaded w in
     let W = start (filled l) .pre in
@@ -49,8 +59,8 @@ write-kept-requires c κs =
 
 returns : tie.Need-returns
 returns c T R =
-    let k = c .before .before .before .before .before .before .before .before in
-    let e = k .before .before .before .before .before .before .before in
+    let k = write-kept c in
+    let e = relations-end (k .before) in
     let w = walked e in
     let l = loaded w in
     k .write-kept .ensures T (kept-reads R (filled l .fill-rows .ensures) (l .load .ensures) (w .walk .ensures) (e .relations-end .ensures))

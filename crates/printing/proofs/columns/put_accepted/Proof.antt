@@ -15,22 +15,29 @@ Inv-loop out₀ at permits count rows p₀ c₀ out p c = Writing (configuration
 abbrev μ-loop : tie.MeasureT-loop
 μ-loop out₀ at permits count rows p₀ c₀ out p c = count - c
 
+-- places of the code that the needs look back to
+abbrev start : tie.After-put-bytes-arg2 Inv-loop μ-loop → tie.Start Inv-loop μ-loop
+start p = p .before .before .before .before
+
+abbrev put-bytes : tie.After-loop Inv-loop μ-loop → tie.After-put-bytes Inv-loop μ-loop
+put-bytes p = p .before .before .before .before
+
 put-bytes-requires : tie.Need-put-bytes-requires Inv-loop μ-loop
 put-bytes-requires c κs =
-    let s = c .before .before .before .before in
-    room-first _ (same-room (accepted-pieces (s .args .permits .words) (s .args .count) (now (s .args .rows))) (s .pre .room))
+    let s = start c in
+    room-first _ (same-room (accepted-pieces (s .args .permitted .words) (s .args .count) (now (s .args .rows))) (s .pre .room))
 
 put-configuration-requires : tie.Need-put-configuration-requires Inv-loop μ-loop
 put-configuration-requires c κs =
     let l = c .before .before in
     let first = l .before .before .before in
-    let s = first .before .before .before .before .before in
+    let s = start (first .before) in
     let h = c .before .loop-test .taken in
     record {
       reads = record { long = s .pre .long; small = omega (arith, h, s .pre .few) };
       room =
           writing-room (l .loop .inv)
-          (room-next (same-room (accepted-pieces (s .args .permits .words) (s .args .count) (now (s .args .rows))) (s .pre .room))
+          (room-next (same-room (accepted-pieces (s .args .permitted .words) (s .args .count) (now (s .args .rows))) (s .pre .room))
           (first .put-bytes .ensures)) h;
     }
 
@@ -42,9 +49,9 @@ loop-again c =
 
 returns : tie.Need-returns Inv-loop μ-loop
 returns c =
-    let first = c .before .before .before .before in
-    let s = first .before .before .before .before .before in
-    same-written (accepted-pieces (s .args .permits .words) (s .args .count) (now (s .args .rows)))
+    let first = put-bytes c in
+    let s = start (first .before) in
+    same-written (accepted-pieces (s .args .permitted .words) (s .args .count) (now (s .args .rows)))
     (and-then (first .put-bytes .ensures) (writing-all (c .before .loop .inv) (c .loop-test .left)))
 
 pub put-accepted-spec : {M : Type 1} → statement M
@@ -60,5 +67,5 @@ put-accepted-spec =
     (λ c. search needs)
     (λ c. search needs)
     loop-again
-    (λ c. same-length (and-then (c .before .before .before .before .put-bytes .ensures) (c .before .loop .inv .written)))
+    (λ c. same-length (and-then (put-bytes c .put-bytes .ensures) (c .before .loop .inv .written)))
     returns)

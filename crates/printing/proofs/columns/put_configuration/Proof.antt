@@ -12,7 +12,7 @@ put-at-line-requires c κs =
     let shown = c .before in
     let h = shown .before .before in
     let s = h .before .before .before in
-    same-room (configuration-yes (s .args .permits .words) (now (s .args .rows)) (s .args .c) (sym (h .has .ensures) ∙ shown .before .if1 .taken)
+    same-room (configuration-yes (s .args .permitted .words) (now (s .args .rows)) (s .args .c) (sym (h .has .ensures) ∙ shown .before .if1 .taken)
     (shown .shown-at .ensures)) (s .pre .room)
 
 returns : tie.Need-returns
@@ -22,7 +22,7 @@ returns c =
     let h = shown .before .before in
     let s = h .before .before .before in
     same-written
-    (configuration-yes (s .args .permits .words) (now (s .args .rows)) (s .args .c) (sym (h .has .ensures) ∙ shown .before .if1 .taken)
+    (configuration-yes (s .args .permitted .words) (now (s .args .rows)) (s .args .c) (sym (h .has .ensures) ∙ shown .before .if1 .taken)
     (shown .shown-at .ensures))
     (put .put-at-line .ensures)
 
@@ -30,7 +30,7 @@ returns-2 : tie.Need-returns-2
 returns-2 c =
     let h = c .before in
     let s = h .before .before .before in
-    same-written (configuration-no (s .args .permits .words) (now (s .args .rows)) (s .args .c) (sym (h .has .ensures) ∙ c .if1 .left))
+    same-written (configuration-no (s .args .permitted .words) (now (s .args .rows)) (s .args .c) (sym (h .has .ensures) ∙ c .if1 .left))
     (none-written (now (s .args .out)) (s .args .at))
 
 pub put-configuration-spec : {M : Type 1} → statement M

@@ -1,26 +1,24 @@
--- From the highest attribute down: the set of those passed, counted from the lowest of them.
-use native.Mathlib.Omega.{arith}
+-- Attribute by attribute: of those passed the set has the ones that the rows show.
+use Prim.Native.Nat.{_-_}
 use borrow.Author.Needs.{needs}
-use Rattle.printing.proofs.ColumnLaws.{Showing, showing-none, showing-fits, showing-more, showing-all}
+use Rattle.printing.proofs.ColumnLaws.{Showing, showing-none, showing-more, showing-all}
 use Rattle.printing.proofs.columns.shown_at.Statement.{statement}
 use Rattle.printing.proofs.columns.shown_at.Tie as tie
 
 abbrev Inv-loop : tie.InvT-loop
-Inv-loop rows c bits₀ a₀ bits a = Showing rows c bits a
+Inv-loop rows c found₀ a₀ found a = Showing rows c (found .bits) a
 
 abbrev μ-loop : tie.MeasureT-loop
-μ-loop rows c bits₀ a₀ bits a = a
+μ-loop rows c found₀ a₀ found a = 64 - a
 
-mul-bits : tie.Need-mul-bits Inv-loop μ-loop
-mul-bits c = let f = showing-fits _ _ (c .before .before .loop .inv) (c .before .loop-test .taken) in omega arith
-
-add-bits : tie.Need-add-bits Inv-loop μ-loop
-add-bits c = let f = showing-fits _ _ (c .before .before .loop .inv) (c .before .loop-test .taken) in omega arith
+-- places of the code that the needs look back to
+abbrev start : tie.In-loop Inv-loop μ-loop → tie.Start Inv-loop μ-loop
+start p = p .before .before .before .before
 
 loop-again : tie.Need-loop-again Inv-loop μ-loop
 loop-again c =
-    let l = c .before .before in
-    showing-more _ _ (l .loop .inv) (c .before .loop-test .taken) (l .before .pre .small)
+    let i = c .before .before in
+    showing-more _ _ (i .before .loop .inv) (i .loop-test .taken) (start i .pre .small) (c .with-if .ensures)
 
 pub shown-at-spec : {M : Type 1} → statement M
 shown-at-spec =
@@ -28,15 +26,15 @@ shown-at-spec =
     (tie.spec
     Inv-loop
     μ-loop
-    (λ c. showing-none _ _)
+    (λ c κs. search needs)
+    (λ c. showing-none _ _ (c .empty .ensures))
     (λ c. search needs)
     (λ c. search needs)
     (λ c. search needs)
     (λ c. search needs)
     (λ c. search needs)
-    mul-bits
+    (λ c κs. search needs)
     (λ c. search needs)
-    add-bits
     (λ c. search needs)
     loop-again
     (λ c. showing-all _ _ (c .before .loop .inv) (c .loop-test .left)))

@@ -19,7 +19,8 @@ start k = k .before .before .before .before .before .before .before .before
 abbrev tables : tie.After-check → Tables
 tables k =
     let a = start k .args in
-    tablesOf (a .features) (a .attributes) (a .model) (a .t0 .now) (a .t1 .now) (a .t2 .now) (a .t3 .now) (a .t4 .now)
+    tablesOf (a .features) (a .attributes) (a .model) (a .expressions .now) (a .entries .now) (a .relations .now) (a .comparisons .now)
+    (a .queries .now)
 
 -- the fields of a refusal are numbers of 64 bits
 short : (p : tie.After-put-refused-arg) → length (refusalLine (p .before .before .v .given .0 .0)) ≤ 201653
@@ -38,7 +39,8 @@ returns c =
 -- the tables passed the check, and the rows are their column rows
 reading : (t : tie.After-enum-told)
     → let k = t .before .before .before in
-    ColumnReads (tables k) (start k .args .features) (start k .args .model) (start k .args .t0 .now) (k .check .last .1 .1 .1 .1 .1 .1 .1 .1 .0)
+    ColumnReads (tables k) (start k .args .features) (start k .args .model) (start k .args .expressions .now)
+    (k .check .last .1 .1 .1 .1 .1 .1 .1 .1 .0)
 reading t =
     let k = t .before .before .before in
     accepted-reads (tables k) (k .check .ensures .0) (t .enum-told .given .1) (replicate 1024 0) refl (k .check .ensures .1)

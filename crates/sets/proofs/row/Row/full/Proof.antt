@@ -1,5 +1,5 @@
 -- Word after word: the invariant is Filled of ListLaws, and all else is bounds. At the end the bound is 2 ^ n.
-use mathlib.Core.Path.{_≡_, sym, ap, _∙_}
+use mathlib.Core.Path.{sym, ap, _∙_}
 use mathlib.Core.Bool.{true}
 use Prim.Native.Nat.{ℕ, _-_, _^_}
 use native.Mathlib.Omega.{arith}

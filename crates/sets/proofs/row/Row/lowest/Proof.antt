@@ -18,6 +18,10 @@ Inv-loop words w₀ w = (w ≤ 16) × ZeroWords w words
 abbrev μ-loop : tie.MeasureT-loop
 μ-loop words w₀ w = 16 - w
 
+-- places of the code that the needs look back to
+abbrev start : tie.Then1 Inv-loop μ-loop → tie.Start Inv-loop μ-loop
+start p = p .before .before .before .before
+
 loop-holds : tie.Need-loop-holds Inv-loop μ-loop
 loop-holds c = (omega arith, below-none _)
 
@@ -31,14 +35,14 @@ mul-t10 : tie.Need-mul-t10 Inv-loop μ-loop
 mul-t10 c = omega arith
 
 cast-t12 : tie.Need-cast-t12 Inv-loop μ-loop
-cast-t12 c = omega (arith, trailing-le 64 (getD (c .before .before .before .before .args .self .words) (c .before .before .loop .w) 0))
+cast-t12 c = omega (arith, trailing-le 64 (getD (start c .args .self .words) (c .before .before .loop .w) 0))
 
 add-t13 : tie.Need-add-t13 Inv-loop μ-loop
-add-t13 c = omega (arith, trailing-le 64 (getD (c .before .before .before .before .args .self .words) (c .before .before .loop .w) 0))
+add-t13 c = omega (arith, trailing-le 64 (getD (start c .args .self .words) (c .before .before .loop .w) 0))
 
 returns : tie.Need-returns Inv-loop μ-loop
 returns c =
-    let l = c .before .before .before .before .args .self .words in
+    let l = start c .args .self .words in
     let w = c .before .before .loop .w in
     let f : Fits w64 (getD l w 0) = search needs in
     sym (found-at 16 l w (c .before .loop-test .taken) (c .before .before .loop .inv .1) (f .fits) (c .if1 .taken))

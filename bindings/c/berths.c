@@ -1,0 +1,195 @@
+/* include/gelvomas.h as a C program uses it: H1, H2 and H4 of docs/FORMAT.md, tables
+   that are NULL, and the words lent. ../../test compiles and runs it. */
+
+#include <inttypes.h>
+#include <stdio.h>
+#include <string.h>
+
+#include "gelvomas.h"
+
+#define LENGTH(table) (sizeof(table) / sizeof((table)[0]))
+
+/* What the words are before a call. */
+#define STALE 0xBEEF
+
+static int differences = 0;
+
+static void expect(const char *what, uint64_t found, uint64_t wanted)
+{
+    if (found != wanted) {
+        printf("%s: %" PRIu64 " and not %" PRIu64 "\n", what, found, wanted);
+        differences++;
+    }
+}
+
+static void expect_refusal(
+    const char *what, const struct gelvomas_refusal *found, uint64_t number, uint64_t place,
+    uint64_t item, uint64_t configuration)
+{
+    if (found->number != number || found->place != place || found->item != item ||
+        found->configuration != configuration) {
+        printf("%s: refused %" PRIu64 " %" PRIu64 " %" PRIu64 " %" PRIu64
+               " and not %" PRIu64 " %" PRIu64 " %" PRIu64 " %" PRIu64 "\n",
+               what, found->number, found->place, found->item, found->configuration,
+               number, place, item, configuration);
+        differences++;
+    }
+}
+
+/* The first words as wanted, all after them stale. */
+static void expect_table(
+    const char *what, const uint16_t *found, size_t length, const uint16_t *wanted,
+    size_t wanted_length)
+{
+    for (size_t at = 0; at < length; at++) {
+        uint16_t word = at < wanted_length ? wanted[at] : STALE;
+        if (found[at] != word) {
+            printf("%s: word %zu is %u and not %u\n", what, at, found[at], word);
+            differences++;
+        }
+    }
+}
+
+static void make_stale(uint16_t *table, size_t length)
+{
+    for (size_t at = 0; at < length; at++) {
+        table[at] = STALE;
+    }
+}
+
+/* Attributes vessel, berth and ramp; features swaps and ramps. */
+enum { VESSEL, BERTH, RAMP };
+enum { SWAPS, RAMPS };
+enum { ALWAYS, WITH_SWAPS, WITH_RAMPS };
+
+static const uint16_t expressions[] = {
+    GELVOMAS_EXPRESSION_TRUE,    0,     0,
+    GELVOMAS_EXPRESSION_FEATURE, SWAPS, 0,
+    GELVOMAS_EXPRESSION_FEATURE, RAMPS, 0
+};
+static const uint16_t h1_entries[] = {
+    VESSEL, ALWAYS, BERTH, ALWAYS, RAMP, WITH_RAMPS, /* the relation's */
+    VESSEL, ALWAYS, RAMP, WITH_RAMPS                 /* the project's */
+};
+static const uint16_t h2_entries[] = {
+    VESSEL, ALWAYS, BERTH, ALWAYS, RAMP, WITH_RAMPS,
+    VESSEL, ALWAYS, RAMP, WITH_SWAPS
+};
+static const uint16_t relations[] = {ALWAYS, 3};
+static const uint16_t queries[] = {
+    GELVOMAS_QUERY_RELATION, 0, 0, 0,
+    GELVOMAS_QUERY_PROJECT,  2, 0, 0
+};
+
+/* The report of H1, with these entries. It has no comparisons: they are NULL. */
+static struct gelvomas_tables with_entries(const uint16_t *entries, size_t length)
+{
+    struct gelvomas_tables tables = {
+        .features = 2,
+        .attributes = 3,
+        .model = ALWAYS,
+        .expressions = expressions,
+        .expressions_length = LENGTH(expressions),
+        .entries = entries,
+        .entries_length = length,
+        .relations = relations,
+        .relations_length = LENGTH(relations),
+        .queries = queries,
+        .queries_length = LENGTH(queries)
+    };
+    return tables;
+}
+
+static void check_h1(const struct gelvomas_tables *h1)
+{
+    uint64_t rows[GELVOMAS_ROWS];
+    struct gelvomas_refusal refusal = {7, 7, 7, 7};
+    memset(rows, 0xFF, sizeof rows);
+    expect("H1 checked", (uint64_t)gelvomas_check_tables(h1, rows, &refusal), 0);
+    expect_refusal("H1 accepted", &refusal, 7, 7, 7, 7);
+    for (size_t at = 0; at < GELVOMAS_ROWS; at++) {
+        /* Four configurations: vessel at all, ramp at 2 and 3. */
+        uint64_t wanted = at == VESSEL * GELVOMAS_ROW_WORDS  ? 0xF
+                          : at == RAMP * GELVOMAS_ROW_WORDS ? 0xC
+                                                            : 0;
+        expect("H1, a word of the rows", rows[at], wanted);
+    }
+}
+
+/* Refused so, with the rows as they were. */
+static void check_refused(
+    const char *what, const struct gelvomas_tables *tables, uint64_t number, uint64_t place,
+    uint64_t item, uint64_t configuration)
+{
+    uint64_t rows[GELVOMAS_ROWS];
+    struct gelvomas_refusal refusal = {0, 0, 0, 0};
+    memset(rows, 0xFF, sizeof rows);
+    expect(what, (uint64_t)gelvomas_check_tables(tables, rows, &refusal), 1);
+    expect_refusal(what, &refusal, number, place, item, configuration);
+    for (size_t at = 0; at < GELVOMAS_ROWS; at++) {
+        expect(what, rows[at], UINT64_MAX);
+    }
+}
+
+static void configure_h1(const struct gelvomas_tables *h1)
+{
+    static const uint16_t h4_entries[] = {VESSEL, 0, BERTH, 0, VESSEL, 0};
+    static const uint16_t h4_relations[] = {0, 2};
+    static const uint16_t h4_queries[] = {
+        GELVOMAS_QUERY_RELATION, 0, 0, 0,
+        GELVOMAS_QUERY_PROJECT,  1, 0, 0
+    };
+    uint16_t new_entries[LENGTH(h1_entries) + 3];
+    uint16_t new_relations[LENGTH(relations)];
+    uint16_t new_queries[LENGTH(queries) + 1];
+    /* No comparisons here either. */
+    struct gelvomas_lent lent = {
+        .entries = new_entries,
+        .entries_length = LENGTH(new_entries),
+        .relations = new_relations,
+        .relations_length = LENGTH(new_relations),
+        .queries = new_queries,
+        .queries_length = LENGTH(new_queries)
+    };
+    struct gelvomas_counts counts = {7, 7, 7, 7};
+    struct gelvomas_refusal refusal = {0, 0, 0, 0};
+    make_stale(new_entries, LENGTH(new_entries));
+    make_stale(new_relations, LENGTH(new_relations));
+    make_stale(new_queries, LENGTH(new_queries));
+
+    /* Configuration 4 needs a third feature. Nothing is written. */
+    expect("H1 at 4", (uint64_t)gelvomas_configure_tables(h1, 4, &lent, &counts, &refusal), 1);
+    expect_refusal("H1 at 4", &refusal, GELVOMAS_REFUSED_CONFIGURATION, 0, 0, 4);
+    expect("H1 at 4, count", counts.entries, 7);
+    expect_table("H1 at 4, entries", new_entries, LENGTH(new_entries), NULL, 0);
+    expect_table("H1 at 4, relations", new_relations, LENGTH(new_relations), NULL, 0);
+    expect_table("H1 at 4, queries", new_queries, LENGTH(new_queries), NULL, 0);
+
+    expect("H4", (uint64_t)gelvomas_configure_tables(h1, 0, &lent, &counts, &refusal), 0);
+    expect_refusal("H4, refusal of before", &refusal, GELVOMAS_REFUSED_CONFIGURATION, 0, 0, 4);
+    expect("H4, entries", counts.entries, 3);
+    expect("H4, relations", counts.relations, 1);
+    expect("H4, comparisons", counts.comparisons, 0);
+    expect("H4, queries", counts.queries, 2);
+    expect_table("H4, entries", new_entries, LENGTH(new_entries), h4_entries, LENGTH(h4_entries));
+    expect_table("H4, relations", new_relations, LENGTH(new_relations), h4_relations, LENGTH(h4_relations));
+    expect_table("H4, queries", new_queries, LENGTH(new_queries), h4_queries, LENGTH(h4_queries));
+}
+
+int main(void)
+{
+    struct gelvomas_tables h1 = with_entries(h1_entries, LENGTH(h1_entries));
+    struct gelvomas_tables h2 = with_entries(h2_entries, LENGTH(h2_entries));
+    struct gelvomas_tables none = {0};
+    struct gelvomas_lent no_room = {0};
+    struct gelvomas_counts counts;
+    struct gelvomas_refusal refusal = {0, 0, 0, 0};
+
+    check_h1(&h1);
+    check_refused("H2", &h2, GELVOMAS_REFUSED_PROJECTED_MISSING, 1, RAMP, 1);
+    check_refused("no tables", &none, GELVOMAS_REFUSED_LENGTH, 0, 0, 0);
+    configure_h1(&h1);
+    expect("no room", (uint64_t)gelvomas_configure_tables(&h1, 0, &no_room, &counts, &refusal), 1);
+    expect_refusal("no room", &refusal, GELVOMAS_REFUSED_ROOM, 1, 0, 0);
+    return differences == 0 ? 0 : 1;
+}

@@ -1,0 +1,64 @@
+//! The numbers that stand in the words of tables, named as in
+//! ../../include/gelvomas.h.
+
+/// Kinds of expressions: word 0 of a form of table 0.
+pub mod expression {
+    pub const FALSE: u16 = 0;
+    pub const TRUE: u16 = 1;
+    /// Feature a.
+    pub const FEATURE: u16 = 2;
+    /// Not expression a.
+    pub const NOT: u16 = 3;
+    /// Expressions a and b.
+    pub const AND: u16 = 4;
+    /// Expression a or b.
+    pub const OR: u16 = 5;
+}
+
+/// Kinds of comparisons: word 0 of a form of table 3.
+pub mod comparison {
+    pub const NEVER: u16 = 0;
+    pub const ALWAYS: u16 = 1;
+    /// Attribute a with constant b.
+    pub const CONSTANT: u16 = 2;
+    /// Attribute a with attribute b.
+    pub const ATTRIBUTE: u16 = 3;
+    /// Not comparison a.
+    pub const NOT: u16 = 4;
+    /// Comparisons a and b.
+    pub const AND: u16 = 5;
+    /// Comparison a or b.
+    pub const OR: u16 = 6;
+    /// Comparison b where expression a holds, c elsewhere.
+    pub const CHOICE: u16 = 7;
+}
+
+/// Operators of comparisons with a constant or an attribute: word 1 of a form of
+/// table 3, which is 0 in other kinds.
+pub mod operator {
+    pub const LESS: u16 = 0;
+    pub const LESS_OR_EQUAL: u16 = 1;
+    pub const EQUAL: u16 = 2;
+    pub const NOT_EQUAL: u16 = 3;
+    pub const GREATER: u16 = 4;
+    pub const GREATER_OR_EQUAL: u16 = 5;
+}
+
+/// Kinds of queries: word 0 of a form of table 4.
+pub mod query {
+    pub const EMPTY: u16 = 0;
+    /// Relation a.
+    pub const RELATION: u16 = 1;
+    /// By comparison a, of query b.
+    pub const SELECT: u16 = 2;
+    /// To a entries, of query b.
+    pub const PROJECT: u16 = 3;
+    /// Query b where expression a holds, c elsewhere.
+    pub const CHOICE: u16 = 4;
+    /// Of queries a and b.
+    pub const PRODUCT: u16 = 5;
+    /// Of queries a and b.
+    pub const UNION: u16 = 6;
+    /// Of queries a and b.
+    pub const INTERSECTION: u16 = 7;
+}

@@ -1,0 +1,45 @@
+-- docs/FORMAT.md, tables 3 and 4: what a form refers to in its own table, said once for comparisons and query forms.
+use Prim.Native.Nat.{ℕ}
+use mathlib.Core.Bool.{Bool, true, false, _||_}
+use lib.Dec.{eqb}
+use Rattle.report.specs.declared.Comparison.{Comparison}
+use Rattle.report.specs.declared.Query.{Query}
+use Rattle.report.specs.declared.Operands.{Operands}
+
+-- the comparisons that a comparison refers to
+abbrev pub comparisonOperands : Comparison → Operands
+comparisonOperands Comparison.Malformed = Operands.Nothing
+comparisonOperands Comparison.Never = Operands.Nothing
+comparisonOperands Comparison.Always = Operands.Nothing
+comparisonOperands (Comparison.Constant o a b) = Operands.Nothing
+comparisonOperands (Comparison.Attribute o a b) = Operands.Nothing
+comparisonOperands (Comparison.Not a) = Operands.One a
+comparisonOperands (Comparison.And a b) = Operands.Both a b
+comparisonOperands (Comparison.Or a b) = Operands.Both a b
+comparisonOperands (Comparison.Choice e a b) = Operands.Choice e a b
+
+-- the query forms that a query form refers to
+abbrev pub queryOperands : Query → Operands
+queryOperands Query.Malformed = Operands.Nothing
+queryOperands Query.Empty = Operands.Nothing
+queryOperands (Query.Relation a) = Operands.Nothing
+queryOperands (Query.Select a b) = Operands.One b
+queryOperands (Query.Project a b) = Operands.One b
+queryOperands (Query.Choice e a b) = Operands.Choice e a b
+queryOperands (Query.Product a b) = Operands.Both a b
+queryOperands (Query.Union a b) = Operands.Both a b
+queryOperands (Query.Intersection a b) = Operands.Both a b
+
+-- form x is among them
+abbrev pub isAmong : ℕ → Operands → Bool
+isAmong x Operands.Nothing = false
+isAmong x (Operands.One a) = eqb x a
+isAmong x (Operands.Both a b) = eqb x a || eqb x b
+isAmong x (Operands.Choice e a b) = eqb x a || eqb x b
+
+-- they are the alternatives of a choice. A form that is no choice is called plain
+abbrev pub isChoice : Operands → Bool
+isChoice Operands.Nothing = false
+isChoice (Operands.One a) = false
+isChoice (Operands.Both a b) = false
+isChoice (Operands.Choice e a b) = true

@@ -1,0 +1,57 @@
+-- What the tables are that configuring writes at c for an accepted report (the end of specs/Configuring): the configured report as a tree and the
+-- configured schema (specs/ConfiguredReport), with the relations renumbered; accepted by the checker, with the columns shown at c.
+use Prim.Native.Nat.{ℕ, _<_, _≤_}
+use mathlib.Core.Path.{_≡_}
+use mathlib.Core.Logic.{_≢_}
+use mathlib.Core.Bool.{true, false}
+use mathlib.Core.Option.{none}
+use lib.ListN.{length}
+use Rattle.sets.specs.Search.{Nth}
+use Rattle.report.specs.Tables.{Tables, relationCount, report}
+use Rattle.report.specs.Typing.{present}
+use Rattle.report.specs.ColumnRows.{hasColumn, columnRows, shown}
+use Rattle.report.specs.PlainAlgebra.{PlainQuery}
+use Rattle.report.specs.Configuring.{newRelation, configured}
+use Rattle.report.specs.ConfiguredReport.{plainQueryAt, configuredReport, configuredSchema}
+use Rattle.report.specs.FormChecks.{formCheck}
+use Rattle.report.specs.Calls.{answer, Sound, checking}
+use Rattle.report.specs.declared.Verdict.{Verdict}
+
+-- a tree with other numbers for its relations
+abbrev pub renamed : (ℕ → ℕ) → PlainQuery → PlainQuery
+renamed f PlainQuery.empty = PlainQuery.empty
+renamed f (PlainQuery.relation r) = PlainQuery.relation (f r)
+renamed f (PlainQuery.select t q) = PlainQuery.select t (renamed f q)
+renamed f (PlainQuery.project l q) = PlainQuery.project l (renamed f q)
+renamed f (PlainQuery.product p q) = PlainQuery.product (renamed f p) (renamed f q)
+renamed f (PlainQuery.union p q) = PlainQuery.union (renamed f p) (renamed f q)
+renamed f (PlainQuery.intersection p q) = PlainQuery.intersection (renamed f p) (renamed f q)
+
+-- what the tables written at c are
+pub record WrittenTables (T : Tables) (c : ℕ) : Type 0 where
+  -- checks 1 to 10 accept them
+  pub accepted : formCheck (configured T c) ≡ Verdict.Accepted
+  -- as a tree, the configured report with its relations renumbered
+  pub tree : plainQueryAt (configured T c) 0 (report (configured T c)) ≡ renamed (newRelation T c) (configuredReport T c)
+  -- their schema is the configured schema, renumbered
+  pub schema : (r : ℕ) → present T c r ≡ true → configuredSchema (configured T c) 0 (newRelation T c r) ≡ configuredSchema T c r
+  pub schemaEnd : (k : ℕ) → relationCount (configured T c) ≤ k → configuredSchema (configured T c) 0 k ≡ none
+  -- the new numbers are those of the present relations in order, and there are no others
+  pub inOrder : (r s : ℕ) → r < s → present T c r ≡ true → newRelation T c r < newRelation T c s
+  pub numbered : (r : ℕ) → present T c r ≡ true → newRelation T c r < relationCount (configured T c)
+  pub onto : (k : ℕ) → k < relationCount (configured T c) → Nth (present T c) (relationCount T) k
+
+-- what is written of an accepted report at c
+pub record WrittenAccepted (T : Tables) (c : ℕ) : Type 0 where
+  pub writes : WrittenTables T c
+  pub sound : Sound (configured T c)
+  pub checked : answer (configured T c) (checking 1024) ≡ Verdict.Accepted
+  pub column : (a : ℕ) → hasColumn (configured T c) a 0 ≡ hasColumn T a c
+  pub noOther : (a d : ℕ) → d ≢ 0 → hasColumn (configured T c) a d ≡ false
+  pub shows : shown (columnRows (configured T c)) 0 ≡ shown (columnRows T) c
+  pub showsNothing : (d : ℕ) → d ≢ 0 → d < 1024 → shown (columnRows (configured T c)) d ≡ 0
+  -- no table is longer than its source, so that what check 21 asks for is room enough
+  pub room1 : length (configured T c .entries) ≤ length (T .entries)
+  pub room2 : length (configured T c .relations) ≤ length (T .relations)
+  pub room3 : length (configured T c .comparisons) ≤ length (T .comparisons)
+  pub room4 : length (configured T c .queries) ≤ length (T .queries)
