@@ -87,7 +87,8 @@ module _ {T : Tables} {entries relations comparisons queries : List ℕ} (R : So
       ∙ sym (first-room T entriesRoom relationsRoom comparisonsRoom queriesRoom)
 
 -- where they accept there is room for each table
-pub room-accepted : (T : Tables) (newEntries newRelations newComparisons newQueries : List ℕ) → firstOf (roomConditions (length newEntries) (length newRelations) (length newComparisons) (length newQueries) T) ≡ Verdict.Accepted
+pub room-accepted : (T : Tables) (newEntries newRelations newComparisons newQueries : List ℕ)
+    → firstOf (roomConditions (length newEntries) (length newRelations) (length newComparisons) (length newQueries) T) ≡ Verdict.Accepted
     → Rooms T newEntries newRelations newComparisons newQueries
 room-accepted T newEntries newRelations newComparisons newQueries e =
     let h = room-fits T (length newEntries) (length newRelations) (length newComparisons) (length newQueries) .0 e in

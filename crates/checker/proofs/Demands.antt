@@ -164,7 +164,8 @@ module _ (T : Tables) (sound : Sound T) where
   pub which-check : (rows : List ℕ) → GetsAsFarAsTyping T (checking (length rows)) ↔ (length rows ≡ 1024)
   which-check rows = check-gets T sound (length rows)
 
-  pub which-configure : (c entriesRoom relationsRoom comparisonsRoom queriesRoom : ℕ) → GetsAsFarAsTyping T (configuring c entriesRoom relationsRoom comparisonsRoom queriesRoom)
+  pub which-configure : (c entriesRoom relationsRoom comparisonsRoom queriesRoom : ℕ)
+      → GetsAsFarAsTyping T (configuring c entriesRoom relationsRoom comparisonsRoom queriesRoom)
   which-configure = configure-gets T sound
 
   -- checking

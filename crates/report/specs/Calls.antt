@@ -40,7 +40,7 @@ module _ (T : Tables) where
   abbrev pub GetsAsFarAsTyping : Call → Type 0
   GetsAsFarAsTyping call = beforeTyping call ≡ Verdict.Accepted
 
--- the numbers of the refusals that conditions give
+-- the refusals that conditions give have such numbers
 abbrev pub allGive : (ℕ → Bool) → List Condition → Bool
 allGive test [] = true
 allGive test (x ∷ xs) = test (x .gives .number) && allGive test xs
@@ -72,12 +72,15 @@ permittedCondition c T = not (permitted T c) gives refusal 20 0 0 c
 
 -- 21: a table lent for writing (1 to 4) shorter than its source
 abbrev pub roomConditions : ℕ → ℕ → ℕ → ℕ → Tables → List Condition
-roomConditions r1 r2 r3 r4 T =
-    (ltb r1 (length (T .entries)) gives refusal 21 1 0 0)
-    ++ (ltb r2 (length (T .relations)) gives refusal 21 2 0 0)
-    ++ (ltb r3 (length (T .comparisons)) gives refusal 21 3 0 0)
-    ++ (ltb r4 (length (T .queries)) gives refusal 21 4 0 0)
+roomConditions entriesRoom relationsRoom comparisonsRoom queriesRoom T =
+    (ltb entriesRoom (length (T .entries)) gives refusal 21 1 0 0)
+    ++ (ltb relationsRoom (length (T .relations)) gives refusal 21 2 0 0)
+    ++ (ltb comparisonsRoom (length (T .comparisons)) gives refusal 21 3 0 0)
+    ++ (ltb queriesRoom (length (T .queries)) gives refusal 21 4 0 0)
 
 -- at c, with tables 1 to 4 of so many words lent for writing
 abbrev pub configuring : ℕ → ℕ → ℕ → ℕ → ℕ → Call
-configuring c r1 r2 r3 r4 = record { beforeModel = λ T. []; afterTyping = λ T. permittedCondition c T ++ roomConditions r1 r2 r3 r4 T }
+configuring c entriesRoom relationsRoom comparisonsRoom queriesRoom = record {
+  beforeModel = λ T. [];
+  afterTyping = λ T. permittedCondition c T ++ roomConditions entriesRoom relationsRoom comparisonsRoom queriesRoom T;
+}

@@ -21,8 +21,16 @@ pub record Tables : Type 0 where
   pub queries : List ℕ
 
 abbrev pub tablesOf : ℕ → ℕ → ℕ → List ℕ → List ℕ → List ℕ → List ℕ → List ℕ → Tables
-tablesOf n m k t0 t1 t2 t3 t4 =
-    record { features = n; attributes = m; model = k; expressions = t0; entries = t1; relations = t2; comparisons = t3; queries = t4 }
+tablesOf features attributes model expressions entries relations comparisons queries = record {
+  features = features;
+  attributes = attributes;
+  model = model;
+  expressions = expressions;
+  entries = entries;
+  relations = relations;
+  comparisons = comparisons;
+  queries = queries;
+}
 
 -- the words of tables 0 to 4
 abbrev pub words : Tables → List (List ℕ)
