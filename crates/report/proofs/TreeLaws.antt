@@ -137,14 +137,14 @@ module _ (T : Tables) (c : ℕ) where
       back f false i = refl
 
   -- below q, a tree that passes has the set of its form for columns
-  abbrev Agree : ℕ → Type 0
-  Agree q = (k : ℕ) → k < q → treePasses k ≡ true → treeColumns k ≡ setOf T c k
+  abbrev ColumnsAgree : ℕ → Type 0
+  ColumnsAgree q = (k : ℕ) → k < q → treePasses k ≡ true → treeColumns k ≡ setOf T c k
 
   relation-passes : (t : Bool) (s a : ℕ) → inSchema (cond t (some s) none) ≡ eqb (cond t 0 (2 ^ a)) 0
   relation-passes true s a = refl
   relation-passes false s a = sym (ne-eqb (2 ^ a) 0 (λ e. let p = pow-pos a in omega arith))
 
-  passes-rule : (q : ℕ) (y : Query) → OperandsBelow q (queryOperands y) → Agree q
+  passes-rule : (q : ℕ) (y : Query) → OperandsBelow q (queryOperands y) → ColumnsAgree q
       → passes (configuredSchema T c) (plainQueryOf T c (plainQueryAt T c) q y) ≡ (operandsPass y && eqb (faultsOf T c q y) 0)
   passes-rule q Query.Malformed l ih = refl
   passes-rule q Query.Empty l ih = refl
@@ -165,7 +165,7 @@ module _ (T : Tables) (c : ℕ) where
   relation-columns true s = refl
   relation-columns false s = refl
 
-  columns-rule : (q : ℕ) (y : Query) → OperandsBelow q (queryOperands y) → Agree q → operandsPass y ≡ true → faultsOf T c q y ≡ 0
+  columns-rule : (q : ℕ) (y : Query) → OperandsBelow q (queryOperands y) → ColumnsAgree q → operandsPass y ≡ true → faultsOf T c q y ≡ 0
       → columns (configuredSchema T c) (plainQueryOf T c (plainQueryAt T c) q y) ≡ setRule T c (setOf T c) q y
   columns-rule q Query.Malformed l ih e f = refl
   columns-rule q Query.Empty l ih e f = refl
@@ -180,11 +180,11 @@ module _ (T : Tables) (c : ℕ) where
   columns-rule q (Query.Intersection a b) l ih e f = ih a (l .0) (two-pass (treePasses a) (treePasses b) e .0)
 
 module _ {T : Tables} (F : Formed T) (c : ℕ) where
-  passes-at : (q : ℕ) → q < queryCount T → Agree T c q → treePasses T c q ≡ (operandsPass T c (formAt T q) && eqb (faults T c q) 0)
+  passes-at : (q : ℕ) → q < queryCount T → ColumnsAgree T c q → treePasses T c q ≡ (operandsPass T c (formAt T q) && eqb (faults T c q) 0)
   unfolding faults
   passes-at q h ih = ap (passes (configuredSchema T c)) (plain-query-in F c q h) ∙ passes-rule T c q (formAt T q) (query-operands F q h) ih
 
-  columns-at : (q : ℕ) → q < queryCount T → Agree T c q → operandsPass T c (formAt T q) ≡ true → faults T c q ≡ 0 → treeColumns T c q ≡ setOf T c q
+  columns-at : (q : ℕ) → q < queryCount T → ColumnsAgree T c q → operandsPass T c (formAt T q) ≡ true → faults T c q ≡ 0 → treeColumns T c q ≡ setOf T c q
   unfolding faults
   columns-at q h ih e f =
       ap (columns (configuredSchema T c)) (plain-query-in F c q h) ∙ columns-rule T c q (formAt T q) (query-operands F q h) ih e f
@@ -196,7 +196,7 @@ module _ {T : Tables} (F : Formed T) (c : ℕ) where
   passes-columns =
       strong (λ q. q < queryCount T → treePasses T c q ≡ true → treeColumns T c q ≡ setOf T c q)
       (λ q ih h e.
-      let agree : Agree T c q = λ k l. ih k l (omega arith) in
+      let agree : ColumnsAgree T c q = λ k l. ih k l (omega arith) in
       let p = and-eq-true-iff (operandsPass T c (formAt T q)) (eqb (faults T c q) 0) .0 (sym (passes-at q h agree) ∙ e) in
       columns-at q h agree (p .0) (eqb-true (faults T c q) 0 (p .1)))
 

@@ -38,17 +38,17 @@ use Rattle.report.proofs.WrittenFormed.{RelationsPresent, written-forme
 
 module _ (old new : Schema) (f : ℕ → ℕ) where
   -- each relation of a tree is under its new number what it was
-  abbrev pub Agree : PlainQuery → Type 0
-  Agree PlainQuery.empty = Unit {0}
-  Agree (PlainQuery.relation r) = new (f r) ≡ old r
-  Agree (PlainQuery.select t q) = Agree q
-  Agree (PlainQuery.project l q) = Agree q
-  Agree (PlainQuery.product p q) = Agree p × Agree q
-  Agree (PlainQuery.union p q) = Agree p × Agree q
-  Agree (PlainQuery.intersection p q) = Agree p × Agree q
+  abbrev pub RelationsAgree : PlainQuery → Type 0
+  RelationsAgree PlainQuery.empty = Unit {0}
+  RelationsAgree (PlainQuery.relation r) = new (f r) ≡ old r
+  RelationsAgree (PlainQuery.select t q) = RelationsAgree q
+  RelationsAgree (PlainQuery.project l q) = RelationsAgree q
+  RelationsAgree (PlainQuery.product p q) = RelationsAgree p × RelationsAgree q
+  RelationsAgree (PlainQuery.union p q) = RelationsAgree p × RelationsAgree q
+  RelationsAgree (PlainQuery.intersection p q) = RelationsAgree p × RelationsAgree q
 
   -- then the tree has the columns that it had, and passes where it passed
-  pub columns-renamed : (t : PlainQuery) → Agree t → columns new (renamed f t) ≡ columns old t
+  pub columns-renamed : (t : PlainQuery) → RelationsAgree t → columns new (renamed f t) ≡ columns old t
   columns-renamed PlainQuery.empty a = refl
   columns-renamed (PlainQuery.relation r) a = ap attributesIn a
   columns-renamed (PlainQuery.select t q) a = columns-renamed q a
@@ -57,13 +57,13 @@ module _ (old new : Schema) (f : ℕ → ℕ) where
   columns-renamed (PlainQuery.union p q) a = columns-renamed p (a .0)
   columns-renamed (PlainQuery.intersection p q) a = columns-renamed p (a .0)
 
-  two-pass : (rule : ℕ → ℕ → Bool) (p q : PlainQuery) → Agree p × Agree q → passes new (renamed f p) ≡ passes old p
+  two-pass : (rule : ℕ → ℕ → Bool) (p q : PlainQuery) → RelationsAgree p × RelationsAgree q → passes new (renamed f p) ≡ passes old p
       → passes new (renamed f q) ≡ passes old q
       → (passes new (renamed f p) && passes new (renamed f q) && rule (columns new (renamed f p)) (columns new (renamed f q)))
       ≡ (passes old p && passes old q && rule (columns old p) (columns old q))
   two-pass rule p q a x y = λ i. x i && y i && rule (columns-renamed p (a .0) i) (columns-renamed q (a .1) i)
 
-  pub passes-renamed : (t : PlainQuery) → Agree t → passes new (renamed f t) ≡ passes old t
+  pub passes-renamed : (t : PlainQuery) → RelationsAgree t → passes new (renamed f t) ≡ passes old t
   passes-renamed PlainQuery.empty a = refl
   passes-renamed (PlainQuery.relation r) a = ap inSchema a
   passes-renamed (PlainQuery.select t q) a = ap₂ (λ (b : Bool) (x : ℕ). b && subset (named t) x) (passes-renamed q a) (columns-renamed q a)
@@ -75,7 +75,7 @@ module _ (old new : Schema) (f : ℕ → ℕ) where
 -- u is the tree t of T at c with its relations renumbered, each of which the tables written have as it was
 pub record Renumbered (T : Tables) (c : ℕ) (u t : PlainQuery) : Type 0 where
   pub same : u ≡ renamed (newRelation T c) t
-  pub agree : Agree (configuredSchema T c) (configuredSchema (configured T c) 0) (newRelation T c) t
+  pub agree : RelationsAgree (configuredSchema T c) (configuredSchema (configured T c) 0) (newRelation T c) t
 
 -- ---- the tree of the tables written
 
@@ -89,15 +89,15 @@ module _ {T : Tables} (F : Formed T) (c : ℕ) (ok : permitted T c ≡ true) (P 
       (let l = count-lt (queryKept T c) q (queryCount T) h k in let e = queries-count F c in omega arith)
       ∙ ap (plainQueryOf (configured T c) 0 (plainQueryAt (configured T c) 0) (countBelow (queryKept T c) q)) (query-written F c q h k)
 
-  abbrev Same : ℕ → Type 0
-  Same q = Renumbered T c (plainQueryAt (configured T c) 0 (newQuery T c q)) (plainQueryAt T c q)
+  abbrev SameTree : ℕ → Type 0
+  SameTree q = Renumbered T c (plainQueryAt (configured T c) 0 (newQuery T c q)) (plainQueryAt T c q)
 
-  both : (a b : ℕ) → ((x : ℕ) → (eqb x a || eqb x b) ≡ true → Same x) → Same a × Same b
+  both : (a b : ℕ) → ((x : ℕ) → (eqb x a || eqb x b) ≡ true → SameTree x) → SameTree a × SameTree b
   both a b ih = (ih a (or-first _ _ (same-number a)), ih b (or-second (eqb b a) _ (same-number b)))
 
   -- a plain form, from its operands
   plain-same : (q : ℕ) → q < queryCount T → queryKept T c q ≡ true → reached T c q ≡ true → (y : Query) → formAt T q ≡ y → isChoice (queryOperands y) ≡ false
-      → QueryLower T q y → ((x : ℕ) → isOperand x y ≡ true → Same x)
+      → QueryLower T q y → ((x : ℕ) → isOperand x y ≡ true → SameTree x)
       → Renumbered T c (plainQueryOf (configured T c) 0 (plainQueryAt (configured T c) 0) (countBelow (queryKept T c) q) (renumberedQuery T c q y))
       (plainQueryOf T c (plainQueryAt T c) q y)
   plain-same q h k r Query.Malformed e v l ih = absurd l
@@ -128,10 +128,10 @@ module _ {T : Tables} (F : Formed T) (c : ℕ) (ok : permitted T c ≡ true) (P 
   -- the tree that a reached reference leads to is the one that it was, its relations renumbered
   pub tree-same : (q : ℕ) → q < queryCount T → reached T c q ≡ true
       → Renumbered T c (plainQueryAt (configured T c) 0 (newQuery T c q)) (plainQueryAt T c q)
-  tree-same = strong (λ q. q < queryCount T → reached T c q ≡ true → Same q) (λ q ih h r. go q ih h r (view (operandsAt T q)))
+  tree-same = strong (λ q. q < queryCount T → reached T c q ≡ true → SameTree q) (λ q ih h r. go q ih h r (view (operandsAt T q)))
     where
-      go : (q : ℕ) → ((k : ℕ) → k < q → k < queryCount T → reached T c k ≡ true → Same k) → q < queryCount T → reached T c q ≡ true
-          → View (operandsAt T q) → Same q
+      go : (q : ℕ) → ((k : ℕ) → k < q → k < queryCount T → reached T c k ≡ true → SameTree k) → q < queryCount T → reached T c q ≡ true
+          → View (operandsAt T q) → SameTree q
       go q ih h r (plain v) =
           let k = both-kept T c q r v in
           rw (target-plain F c q h v, written-step q h k, plain-query-in F c q h)

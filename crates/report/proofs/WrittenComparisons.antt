@@ -54,21 +54,21 @@ module _ (T : Tables) (c : ℕ) where
   five-words m e f (Comparison.Choice a b d) l p = absurd (false≢true (sym p))
 
   -- a reference to f leads to a plain one, no higher
-  record Lead (f t : ℕ) : Type 0 where
+  record ComparisonLead (f t : ℕ) : Type 0 where
     low : t ≤ f
     isKept : comparisonKept T c t ≡ true
 
 -- ---- table 3 of accepted tables, and the one written
 
 module _ {T : Tables} (F : Formed T) (c : ℕ) where
-  lead : (f : ℕ) → f < comparisonCount T → Lead T c f (comparisonTarget T c f)
+  lead : (f : ℕ) → f < comparisonCount T → ComparisonLead T c f (comparisonTarget T c f)
   lead =
-      strong (λ f. f < comparisonCount T → Lead T c f (comparisonTarget T c f))
+      strong (λ f. f < comparisonCount T → ComparisonLead T c f (comparisonTarget T c f))
       (λ f ih h. go f ih h (comparison-operands F f h) (comparison-target-in F c f h) (view (operandsAt T f)))
     where
-      go : (f : ℕ) → ((k : ℕ) → k < f → k < comparisonCount T → Lead T c k (comparisonTarget T c k)) → f < comparisonCount T
+      go : (f : ℕ) → ((k : ℕ) → k < f → k < comparisonCount T → ComparisonLead T c k (comparisonTarget T c k)) → f < comparisonCount T
           → OperandsBelow f (operandsAt T f) → comparisonTarget T c f ≡ targetOf T c (comparisonTarget T c) f (operandsAt T f)
-          → View (operandsAt T f) → Lead T c f (comparisonTarget T c f)
+          → View (operandsAt T f) → ComparisonLead T c f (comparisonTarget T c f)
       go f ih h b t (plain p) =
           rw (t ∙ plain-target T c (comparisonTarget T c) f (operandsAt T f) p) (record { low = le-refl f; isKept = ap not p })
       go f ih h b t (choice x y z e) =
@@ -154,10 +154,10 @@ module _ {T : Tables} (F : Formed T) (c : ℕ) where
 
   -- ---- and says what it said
 
-  abbrev Same : ℕ → Type 0
-  Same f = plainComparisonAt (configured T c) 0 (newComparison T c f) ≡ plainComparisonAt T c f
+  abbrev SameComparison : ℕ → Type 0
+  SameComparison f = plainComparisonAt (configured T c) 0 (newComparison T c f) ≡ plainComparisonAt T c f
 
-  same-rule : (f : ℕ) (x : Comparison) → isChoice (comparisonOperands x) ≡ false → OperandsBelow f (comparisonOperands x) → ((k : ℕ) → k < f → Same k)
+  same-rule : (f : ℕ) (x : Comparison) → isChoice (comparisonOperands x) ≡ false → OperandsBelow f (comparisonOperands x) → ((k : ℕ) → k < f → SameComparison k)
       → plainComparisonOf (configured T c) 0 (plainComparisonAt (configured T c) 0) (renumberedComparison T c x)
       ≡ plainComparisonOf T c (plainComparisonAt T c) x
   same-rule f Comparison.Malformed p l ih = refl
@@ -173,10 +173,10 @@ module _ {T : Tables} (F : Formed T) (c : ℕ) where
   -- the plain comparison that a reference leads to is the one that it was at c
   pub plain-comparison-same : (f : ℕ) → f < comparisonCount T → plainComparisonAt (configured T c) 0 (newComparison T c f) ≡ plainComparisonAt T c f
   plain-comparison-same =
-      strong (λ f. f < comparisonCount T → Same f)
+      strong (λ f. f < comparisonCount T → SameComparison f)
       (λ f ih h. go f ih h (view (operandsAt T f)) ∙ sym (plain-comparison-in F c f h))
     where
-      go : (f : ℕ) → ((k : ℕ) → k < f → k < comparisonCount T → Same k) → f < comparisonCount T → View (operandsAt T f)
+      go : (f : ℕ) → ((k : ℕ) → k < f → k < comparisonCount T → SameComparison k) → f < comparisonCount T → View (operandsAt T f)
           → plainComparisonAt (configured T c) 0 (newComparison T c f) ≡ plainComparisonOf T c (plainComparisonAt T c) (comparison (T .comparisons) f)
       go f ih h (plain p) =
           ap (λ (t : ℕ). plainComparisonAt (configured T c) 0 (countBelow (comparisonKept T c) t))

@@ -36,11 +36,11 @@ module _ (T : Tables) (c q : ℕ) where
       queryOf (getD (queryFormOf T c q x) 0 0) (getD (queryFormOf T c q x) 1 0) (getD (queryFormOf T c q x) 2 0) (getD (queryFormOf T c q x) 3 0)
 
   -- for a plain form that stands in the table four words are written, and its list
-  record Form (x : Query) : Type 0 where
+  record QueryForm (x : Query) : Type 0 where
     wide : length (queryFormOf T c q x) ≡ 4
     lists : length (projectListOf T c q x) ≡ projectLength (renumberedQuery x) * 2
 
-  form : (x : Query) → QueryLower T q x → isChoice (queryOperands x) ≡ false → Form x
+  form : (x : Query) → QueryLower T q x → isChoice (queryOperands x) ≡ false → QueryForm x
   form Query.Malformed l p = absurd l
   form Query.Empty l p = record { wide = refl; lists = refl }
   form (Query.Relation a) l p = record { wide = refl; lists = refl }
@@ -64,7 +64,7 @@ module _ {T : Tables} (F : Formed T) (c : ℕ) where
   abbrev projectList : ℕ → List ℕ
   projectList q = projectListOf T c q (query (T .queries) q)
 
-  form-of : (q : ℕ) → q < queryCount T → queryKept T c q ≡ true → Form T c q (formAt T q)
+  form-of : (q : ℕ) → q < queryCount T → queryKept T c q ≡ true → QueryForm T c q (formAt T q)
   form-of q h k = form T c q (formAt T q) (query-at F q h) (kept-both T c q k .1)
 
   wide : (q : ℕ) → q < queryCount T → queryKept T c q ≡ true → length (blockOf q) ≡ 4

@@ -178,30 +178,30 @@ fn print_read(
     relations: &[u16],
     comparisons: &[u16],
     queries: &[u16],
-    a: usize,
-    b: usize,
-    c: usize,
-    d: usize,
-    e: usize,
+    expression_words: usize,
+    entry_words: usize,
+    relation_words: usize,
+    comparison_words: usize,
+    query_words: usize,
     out: &mut [u8],
 ) -> usize
-    requires { ⌜ HeldReadable (Outcome.Read a b c d e) (now head) (now expressions) (now entries) (now relations) (now comparisons) (now queries)
-        (now out) ⌝ }
+    requires { ⌜ HeldReadable (Outcome.Read «expression_words» «entry_words» «relation_words» «comparison_words» «query_words»)
+        (now head) (now expressions) (now entries) (now relations) (now comparisons) (now queries) (now out) ⌝ }
     ensures { λ r.
         ⌜ ((T : Tables)
-        → Held T (Outcome.Read a b c d e) (now (head .entry)) (now (expressions .entry)) (now (entries .entry)) (now (relations .entry))
-        (now (comparisons .entry)) (now (queries .entry))
+        → Held T (Outcome.Read «expression_words» «entry_words» «relation_words» «comparison_words» «query_words») (now (head .entry))
+        (now (expressions .entry)) (now (entries .entry)) (now (relations .entry)) (now (comparisons .entry)) (now (queries .entry))
         → Prints (printFile (File.holds T)) (now (out .entry)) (now (out .exit)) r) ⌝ }
 {
     print_tables(
         wide(head[0]),
         wide(head[1]),
         wide(head[2]),
-        &expressions[..a],
-        &entries[..b],
-        &relations[..c],
-        &comparisons[..d],
-        &queries[..e],
+        &expressions[..expression_words],
+        &entries[..entry_words],
+        &relations[..relation_words],
+        &comparisons[..comparison_words],
+        &queries[..query_words],
         out,
     )
 }
@@ -227,7 +227,7 @@ pub fn print_file(text: &[u8], out: &mut PrintRoom) -> usize
     );
     match file {
         Outcome::Bad(n) => put_unread(out, 0, n as u64),
-        Outcome::Read(a, b, c, d, e) => {
+        Outcome::Read(x, e, r, c, q) => {
             print_read(
                 &head,
                 &expressions,
@@ -235,11 +235,11 @@ pub fn print_file(text: &[u8], out: &mut PrintRoom) -> usize
                 &relations,
                 &comparisons,
                 &queries,
-                a,
-                b,
-                c,
-                d,
+                x,
                 e,
+                r,
+                c,
+                q,
                 out,
             )
         }
