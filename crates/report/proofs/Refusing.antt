@@ -24,7 +24,7 @@ use Rattle.report.specs.FormChecks.{lengthFits, expressionOk, entryOk, r
 use Rattle.report.specs.FormChecks.{lengthCheck, lengthsCheck, expressionsCheck, entriesCheck, relationsCheck, comparisonsCheck, queriesCheck, untakenCheck, formCheck}
 use Rattle.report.specs.Formed.{Formed}
 use Rattle.report.specs.Checks.{somewhere, absentEverywhere, apartEverywhere, modelCheck, relationCheck, schemaCheck, modelAndSchemaCheck, typingCheck}
-use Rattle.report.specs.Checks.{isOneOf, isEarly, isOfTyping, isLate, isTypingFault}
+use Rattle.report.specs.Checks.{typingNumbers, isOneOf, isEarly, isOfTyping, isLate, isTypingFault}
 use Rattle.report.specs.Calls.{Call, beforeTyping, answer, Sound, GetsAsFarAsTyping, allGive, OwnNumbers, checking, configuring}
 use Rattle.report.specs.TypingFaults.{Broken, TypingFault, Breaks, Named}
 use Rattle.report.specs.declared.Refusal.{Refusal}
@@ -179,7 +179,7 @@ one-of test (n ∷ ns) h k e =
 
 -- no number is of two places
 typing-not-early : (k : ℕ) → isOfTyping k ≡ true → isEarly k ≡ false
-typing-not-early k e = not-true (isEarly k) (one-of (λ n. not (isEarly n)) (15 ∷ 16 ∷ 17 ∷ 18 ∷ 19 ∷ []) refl k e)
+typing-not-early k e = not-true (isEarly k) (one-of (λ n. not (isEarly n)) typingNumbers refl k e)
 
 late-not : (k : ℕ) → isLate k ≡ true → (isEarly k ≡ false) × (isOfTyping k ≡ false)
 late-not k e = go (isEarly k) (isOfTyping k) e

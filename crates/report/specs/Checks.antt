@@ -69,19 +69,24 @@ module _ (T : Tables) where
 
 -- ---- the numbers of refusals
 
+-- of the checks before typing, and of typing
+abbrev pub earlyNumbers : List ℕ
+earlyNumbers = 1 ∷ 2 ∷ 3 ∷ 4 ∷ 5 ∷ 6 ∷ 7 ∷ 8 ∷ 9 ∷ 10 ∷ 11 ∷ 12 ∷ 13 ∷ 14 ∷ []
+
+abbrev pub typingNumbers : List ℕ
+typingNumbers = 15 ∷ 16 ∷ 17 ∷ 18 ∷ 19 ∷ []
+
 abbrev pub isOneOf : List ℕ → ℕ → Bool
 isOneOf [] k = false
 isOneOf (n ∷ ns) k = eqb k n || isOneOf ns k
 
--- those of the checks before typing
 abbrev pub isEarly : ℕ → Bool
-isEarly = isOneOf (1 ∷ 2 ∷ 3 ∷ 4 ∷ 5 ∷ 6 ∷ 7 ∷ 8 ∷ 9 ∷ 10 ∷ 11 ∷ 12 ∷ 13 ∷ 14 ∷ [])
+isEarly = isOneOf earlyNumbers
 
--- those of typing
 abbrev pub isOfTyping : ℕ → Bool
-isOfTyping = isOneOf (15 ∷ 16 ∷ 17 ∷ 18 ∷ 19 ∷ [])
+isOfTyping = isOneOf typingNumbers
 
--- those of the checks after typing: all others
+-- a number of the checks after typing: all others
 abbrev pub isLate : ℕ → Bool
 isLate k = not (isEarly k || isOfTyping k)
 
