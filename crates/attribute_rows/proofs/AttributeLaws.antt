@@ -1,5 +1,5 @@
 -- Laws of the rows of one attribute, for the functions of this crate and for the crates above.
-use Prim.Native.Nat.{ℕ, _+_, _^_, _≤_}
+use Prim.Native.Nat.{ℕ, _^_}
 use mathlib.Core.Path.{_≡_, refl, sym, ap, ap₂, _∙_}
 use mathlib.Core.Bool.{Bool, true, false, cond, not, _&&_, _||_, and-true, and-false}
 use mathlib.Core.List.{List}
@@ -11,11 +11,10 @@ use Rattle.sets.specs.Bits.{bit}
 use Rattle.sets.specs.Rows.{rowOf, rowJoin, rowIntersect, within, RowsAre}
 use Rattle.sets.proofs.BitLaws.{bit-none, bit-and, bit-or}
 use Rattle.sets.proofs.RowLaws.{rowOf-same, rowOf-row, join-within, intersect-within, minus-within, rows-are}
-use Rattle.report.specs.Tables.{Tables, entryCount, relationCount, comparisonCount, queryCount, relationStart}
+use Rattle.report.specs.Tables.{Tables, relationCount, comparisonCount, queryCount}
 use Rattle.report.specs.Typing.{present, relationSet, names, setOf}
 use Rattle.report.specs.Configuring.{written}
 use Rattle.attribute_rows.specs.AttributeRows.{hasRow, relationRow, namedRow, setRow}
-use Rattle.attribute_rows.specs.AttributeRows.{AttributeReads, ListRowReads, RelationRowReads, NamedReads, SetReads}
 use Rattle.attribute_rows.specs.RowRules.{choiceRow}
 
 -- ---- rows of the configurations of n features
@@ -116,20 +115,3 @@ module _ (T : Tables) (a : ℕ) (lent : List ℕ) {rows : List ℕ} where
 
   pub sets-are : rows ≡ written (concat (queryCount T) (setRow T a)) lent → RowsAre 16 (queryCount T) (setRow T a) rows
   sets-are = rows-are 16 (queryCount T) (setRow T a) (λ q l. set-wide T a q) _
-
--- ---- what each function reads, of tables that can be read whole
-
-module _ {T : Tables} {conditions entries relations comparisons queries : List ℕ}
-    (R : AttributeReads T conditions entries relations comparisons queries) where
-  pub reads-list : {start count : ℕ} → start + count ≤ entryCount T → ListRowReads T conditions entries start count
-  reads-list h = record { filled = R .filled; entriesAre = R .entriesAre; inside = h }
-
-  pub reads-relations : RelationRowReads T conditions entries relations
-  reads-relations = record { filled = R .filled; entriesAre = R .entriesAre; relationsAre = R .relationsAre }
-
-  pub reads-named : {full : List ℕ} → full ≡ rowOf 16 (within (T .features) (λ c. true)) → NamedReads T conditions comparisons full
-  reads-named e = record { filled = R .filled; comparisonsAre = R .comparisonsAre; whole = e }
-
-  pub reads-sets : {relationRows : List ℕ} {first a : ℕ} → RowsAre 16 (relationCount T) (relationRow T a) relationRows
-      → first ≡ relationStart (T .relations) (relationCount T) → SetReads T conditions entries queries relationRows first a
-  reads-sets S e = record { filled = R .filled; entriesAre = R .entriesAre; queriesAre = R .queriesAre; related = S; begins = e }

@@ -14,11 +14,12 @@ use Rattle.sets.specs.Bits.{bit}
 use Rattle.sets.specs.Rows.{rowOf, rowIn, rowJoin, rowIntersect, withRow, within}
 use Rattle.sets.proofs.BitLaws.{bit-none, bit-or, bit-pow}
 use Rattle.sets.proofs.RowLaws.{join-within}
-use Rattle.report.specs.Tables.{Tables, entryCount, entryAttribute, entryExpression}
+use Rattle.report.specs.Tables.{Tables, expressionCount, entryCount, entryAttribute, entryExpression}
 use Rattle.report.specs.Tables.{relationCount, relationExpression, relationLength, relationStart}
 use Rattle.report.specs.Typing.{at, listed, relationSet}
 use Rattle.report.specs.Configuring.{written}
-use Rattle.report.proofs.FormedFacts.{entry-expression, relation-expression, relation-list}
+use Rattle.report.proofs.FormedFacts.{entry-expression, relation-expression}
+use Rattle.report.proofs.EntryParts.{relation-part, relation-in-part}
 use Rattle.attribute_rows.specs.AttributeRows.{hasRow, listRow, relationRow, ListRowReads, ListRowReadable, RelationRowReads, RelationRowReadable}
 use Rattle.attribute_rows.specs.RowRules.{entryRow, EntryRead, RelationAt, SomeRelation}
 use Rattle.attribute_rows.proofs.AttributeLaws.{row-same, relation-wide, has-none, has-where}
@@ -65,20 +66,39 @@ module _ (T : Tables) (a : ℕ) (h : ℕ → Bool) (f : ℕ → ℕ) where
 -- of the `count` entries from `start` on the first i are joined
 pub record EntriesJoining (conditions entries : List ℕ) (a start count : ℕ) (row : List ℕ) (i : ℕ) : Type 0 where
   pub most : i ≤ count
-  pub joined : (T : Tables) → ListRowReads T conditions entries start count → row ≡ listRow T a start i
+  pub joined : (T : Tables) (offset : ℕ) → ListRowReads T offset conditions entries start count → row ≡ listRow T a (offset + start) i
+
+-- entry i of a list, in table 1
+module _ {T : Tables} {offset : ℕ} {conditions entries : List ℕ} {start count : ℕ} (R : ListRowReads T offset conditions entries start count) (i : ℕ)
+    (h : i < count) where
+  in-part : start + i < length entries / 2
+  in-part = let l = R .inside in omega arith
+
+  in-table : offset + start + i < entryCount T
+  in-table = let l = R .part .inside in let m = in-part in omega arith
+
+  attribute-is : entryAttribute entries (start + i) ≡ entryAttribute (T .entries) (offset + start + i)
+  attribute-is = R .part .attribute (start + i) in-part ∙ ap (entryAttribute (T .entries)) (omega arith)
+
+  expression-is : entryExpression entries (start + i) ≡ entryExpression (T .entries) (offset + start + i)
+  expression-is = R .part .expression (start + i) in-part ∙ ap (entryExpression (T .entries)) (omega arith)
+
+  expression-in : entryExpression (T .entries) (offset + start + i) < expressionCount T
+  expression-in = entry-expression (R .formed) (offset + start + i) in-table
 
 pub entry-read : {conditions entries : List ℕ} {start count : ℕ} → ListRowReadable conditions entries start count → (i : ℕ) → i < count
     → EntryRead conditions entries (start + i)
-entry-read {conditions} {entries} {start} A i h =
+entry-read A i h =
     let R = A .reads in
-    let k : start + i < entryCount (A .tables) = (let l = R .inside in omega arith) in
-    rw (R .entriesAre)
-    (record { inside = k; rowed = let x = entry-expression (R .filled .formed) (start + i) k in let m = R .filled .room in omega arith })
+    record {
+      inside = in-part R i h;
+      rowed = let x = expression-in R i h in let e = expression-is R i h in let m = R .filled .room in omega arith;
+    }
 
 module _ {conditions entries : List ℕ} {a start count : ℕ} {row : List ℕ} where
   pub listing-none : row ≡ rowOf 16 (λ c. false) → EntriesJoining conditions entries a start count row 0
   unfolding listed
-  listing-none e = record { most = omega arith; joined = λ T R. e ∙ has-none T a }
+  listing-none e = record { most = omega arith; joined = λ T offset R. e ∙ has-none T a }
 
   module _ {i : ℕ} (S : EntriesJoining conditions entries a start count row i) where
     pub listing-more : i < count → {after : List ℕ} → after ≡ entryRow conditions entries a (start + i) row
@@ -86,45 +106,49 @@ module _ {conditions entries : List ℕ} {a start count : ℕ} {row : List ℕ} 
     unfolding listed
     listing-more h e = record {
       most = omega arith;
-      joined = λ T R.
-          let k : start + i < entryCount T = (let l = R .inside in omega arith) in
-          let x = entryExpression (T .entries) (start + i) in
-          let t = entryAttribute (T .entries) (start + i) in
-          e ∙ ap₂ (λ (l r : List ℕ). entryRow conditions l a (start + i) r) (R .entriesAre) (S .joined T R)
-          ∙ ap (λ (r : List ℕ). cond (eqb a t) (rowJoin 16 (listRow T a start i) r) (listRow T a start i))
-          (R .filled .each x (entry-expression (R .filled .formed) (start + i) k))
-          ∙ join-entry T a (λ c. at T c x) (λ c. listed T c start i) t ∙ ap (listRow T a start) (sym (add-one i));
+      joined = λ T offset R.
+          let x = entryExpression (T .entries) (offset + start + i) in
+          let t = entryAttribute (T .entries) (offset + start + i) in
+          let l = listRow T a (offset + start) in
+          e ∙ ap₂ (λ (b y : ℕ). cond (eqb a b) (rowJoin 16 row (rowIn 16 conditions y)) row) (attribute-is R i h) (expression-is R i h)
+          ∙ ap₂ (λ (r own : List ℕ). cond (eqb a t) (rowJoin 16 r own) r) (S .joined T offset R) (R .filled .each x (expression-in R i h))
+          ∙ join-entry T a (λ c. at T c x) (λ c. listed T c (offset + start) i) t ∙ ap l (sym (add-one i));
     }
 
-    pub listing-all : count ≤ i → (T : Tables) → ListRowReads T conditions entries start count → row ≡ listRow T a start count
-    listing-all h T R = let e : i ≡ count = (let l = S .most in omega arith) in S .joined T R ∙ ap (listRow T a start) e
+    pub listing-all : count ≤ i → (T : Tables) (offset : ℕ) → ListRowReads T offset conditions entries start count
+        → row ≡ listRow T a (offset + start) count
+    listing-all h T offset R =
+        let e : i ≡ count = (let l = S .most in omega arith) in
+        S .joined T offset R ∙ ap (listRow T a (offset + start)) e
 
 -- ---- one relation
 
 module _ {T : Tables} {conditions entries relations : List ℕ} {r start : ℕ} (A : RelationAt T conditions entries relations r start) where
-  pub relation-reads : {n : ℕ} → n ≡ relationLength relations r → ListRowReads T conditions entries start n
+  pub relation-reads : {n : ℕ} → n ≡ relationLength relations r → ListRowReads T 0 conditions entries start n
   relation-reads e = record {
+    formed = A .reads .formed;
     filled = A .reads .filled;
-    entriesAre = A .reads .entriesAre;
-    inside = rw (e, A .reads .relationsAre, A .starts) (relation-list (A .reads .filled .formed) r (A .inside) .inside);
+    part = rw (A .reads .entriesAre) (relation-part (A .reads .formed));
+    inside = rw (e, A .reads .relationsAre, A .reads .entriesAre, A .starts) (relation-in-part (A .reads .formed) r (A .inside));
   }
 
   pub relation-rowed : {x : ℕ} → x ≡ relationExpression relations r → x * 16 + 16 ≤ length conditions
   relation-rowed e =
-      let l = relation-expression (A .reads .filled .formed) r (A .inside) in
+      let l = relation-expression (A .reads .formed) r (A .inside) in
       let m = A .reads .filled .room in
       let s = e ∙ ap (λ (t : List ℕ). relationExpression t r) (A .reads .relationsAre) in
       omega arith
 
   pub relation-is : (a : ℕ) {n x : ℕ} {all own row : List ℕ} → n ≡ relationLength relations r → x ≡ relationExpression relations r
-      → all ≡ listRow T a start n
+      → all ≡ listRow T a (0 + start) n
       → own ≡ rowIn 16 conditions x → row ≡ rowIntersect 16 all own → row ≡ relationRow T a r
   relation-is a {n} {x} p q list load met =
       let e = relationExpression (T .relations) r in
+      let s : 0 + start ≡ relationStart (T .relations) r = (let b = A .starts in omega arith) in
       met
-      ∙ ap₂ (rowIntersect 16) (list ∙ ap₂ (listRow T a) (A .starts) (p ∙ ap (λ (t : List ℕ). relationLength t r) (A .reads .relationsAre)))
+      ∙ ap₂ (rowIntersect 16) (list ∙ ap₂ (listRow T a) s (p ∙ ap (λ (t : List ℕ). relationLength t r) (A .reads .relationsAre)))
       (load ∙ ap (rowIn 16 conditions) (q ∙ ap (λ (t : List ℕ). relationExpression t r) (A .reads .relationsAre))
-      ∙ A .reads .filled .each e (relation-expression (A .reads .filled .formed) r (A .inside)))
+      ∙ A .reads .filled .each e (relation-expression (A .reads .formed) r (A .inside)))
       ∙ has-where T a (λ c. at T c e) (λ c. relationSet T c r)
       ∙ ap (λ (t : Bool). hasRow T a (λ c. cond (t && at T c e) (relationSet T c r) 0)) (sym (lt-ltb r (relationCount T) (A .inside)))
 
@@ -148,11 +172,9 @@ module _ {conditions entries relations : List ℕ} {a : ℕ} {lent relationRows 
     related-some A = record { tables = A .tables; at = related-at (A .reads) }
 
     module _ {n : ℕ} (e : n ≡ relationLength relations r) where
-      pub related-small : RelationRowReadable conditions entries relations lent → start + n ≤ 512
-      related-small A =
-          let l = relation-reads (related-at (A .reads)) e .inside in
-          let m = A .reads .filled .formed .sized1 .fits in
-          omega arith
+      -- the next list starts in the entries, or at their end
+      pub related-small : RelationRowReadable conditions entries relations lent → start + n ≤ length entries / 2
+      related-small A = relation-reads (related-at (A .reads)) e .inside
 
       pub related-more : {row after : List ℕ} → ((T : Tables) → RelationAt T conditions entries relations r start → row ≡ relationRow T a r)
           → length after ≡ length relationRows → after ≡ withRow 16 relationRows r row

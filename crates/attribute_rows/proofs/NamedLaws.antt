@@ -53,7 +53,7 @@ module _ {T : Tables} {conditions comparisons full : List ℕ} (R : NamedReads T
   named-is : f < length comparisons / 5 → {x : Comparison} {row : List ℕ} → x ≡ comparison comparisons f → row ≡ namedStep conditions full named a x
       → row ≡ namedRow T a f
   named-is h {x} e step =
-      let F = R .filled .formed in
+      let F = R .formed in
       let k : f < comparisonCount T = rw (R .comparisonsAre) at h in
       step ∙ ap (namedStep conditions full named a) (e ∙ ap (λ (t : List ℕ). comparison t f) (R .comparisonsAre))
       ∙ named-rule (comparison (T .comparisons) f) (comparison-at F f k)
@@ -72,7 +72,7 @@ module _ {conditions comparisons full : List ℕ} {a : ℕ} {lent named : List �
           attributes = A .tables .attributes;
           expressions = expressionCount (A .tables);
           form = f;
-          lower = rw (e, R .comparisonsAre) (comparison-at (R .filled .formed) f (rw (R .comparisonsAre) at h));
+          lower = rw (e, R .comparisonsAre) (comparison-at (R .formed) f (rw (R .comparisonsAre) at h));
           conditioned = R .filled .room;
           below = let m = A .room in let s = S .size in omega arith;
         }

@@ -6,10 +6,11 @@ use mathlib.Core.Bool.{true, cond}
 use mathlib.Core.List.{List}
 use lib.ListN.{length}
 use Rattle.sets.specs.Bits.{bit}
-use Rattle.sets.specs.Rows.{rowOf, within, RowsAre}
-use Rattle.report.specs.Tables.{Tables, entryCount, relationCount, relationStart}
+use Rattle.sets.specs.Rows.{rowOf, within}
+use Rattle.report.specs.Tables.{Tables, entriesOfRelations}
 use Rattle.report.specs.Typing.{listed, present, relationSet, names, setOf}
-use Rattle.conditions.specs.Conditions.{ExpressionsFilled}
+use Rattle.report.specs.Formed.{Formed, EntriesFrom}
+use Rattle.conditions.specs.Conditions.{Conditioned}
 
 module _ (T : Tables) (a : ℕ) where
   -- the configurations at which a set that goes by configurations has attribute a
@@ -32,40 +33,37 @@ module _ (T : Tables) (a : ℕ) where
   abbrev pub setRow : ℕ → List ℕ
   setRow q = hasRow (λ c. setOf T c q)
 
--- tables that have passed the form checks, and their expression rows
-pub record AttributeReads (T : Tables) (conditions entries relations comparisons queries : List ℕ) : Type 0 where
-  pub filled : ExpressionsFilled T conditions
-  pub entriesAre : entries ≡ T .entries
-  pub relationsAre : relations ≡ T .relations
-  pub comparisonsAre : comparisons ≡ T .comparisons
-  pub queriesAre : queries ≡ T .queries
+-- ---- what each function reads of tables T that have passed the form checks, whose expression rows `conditions` starts with; `..Readable`: there are
+-- such tables, and room
 
--- ---- what each function reads of tables T, whose expression rows `conditions` starts with; `..Readable`: there are such tables, and room
-
--- a list in table 1
-pub record ListRowReads (T : Tables) (conditions entries : List ℕ) (start count : ℕ) : Type 0 where
-  pub filled : ExpressionsFilled T conditions
-  pub entriesAre : entries ≡ T .entries
-  pub inside : start + count ≤ entryCount T
+-- a list in `entries`, which are those of table 1 from entry `offset` on
+pub record ListRowReads (T : Tables) (offset : ℕ) (conditions entries : List ℕ) (start count : ℕ) : Type 0 where
+  pub formed : Formed T
+  pub filled : Conditioned T conditions
+  pub part : EntriesFrom T offset entries
+  pub inside : start + count ≤ length entries / 2
 
 pub record ListRowReadable (conditions entries : List ℕ) (start count : ℕ) : Type 0 where
   pub tables : Tables
-  pub reads : ListRowReads tables conditions entries start count
+  pub offset : ℕ
+  pub reads : ListRowReads tables offset conditions entries start count
 
--- tables 1 and 2
-pub record RelationRowReads (T : Tables) (conditions entries relations : List ℕ) : Type 0 where
-  pub filled : ExpressionsFilled T conditions
-  pub entriesAre : entries ≡ T .entries
+-- the relations' entries and table 2
+pub record RelationRowReads (T : Tables) (conditions relationEntries relations : List ℕ) : Type 0 where
+  pub formed : Formed T
+  pub filled : Conditioned T conditions
+  pub entriesAre : relationEntries ≡ entriesOfRelations T
   pub relationsAre : relations ≡ T .relations
 
-pub record RelationRowReadable (conditions entries relations lent : List ℕ) : Type 0 where
+pub record RelationRowReadable (conditions relationEntries relations lent : List ℕ) : Type 0 where
   pub tables : Tables
-  pub reads : RelationRowReads tables conditions entries relations
+  pub reads : RelationRowReads tables conditions relationEntries relations
   pub room : length relations / 2 * 16 ≤ length lent
 
 -- table 3; `full` has all configurations
 pub record NamedReads (T : Tables) (conditions comparisons full : List ℕ) : Type 0 where
-  pub filled : ExpressionsFilled T conditions
+  pub formed : Formed T
+  pub filled : Conditioned T conditions
   pub comparisonsAre : comparisons ≡ T .comparisons
   pub whole : full ≡ rowOf 16 (within (T .features) (λ c. true))
 
@@ -73,16 +71,3 @@ pub record NamedReadable (conditions comparisons full lent : List ℕ) : Type 0 
   pub tables : Tables
   pub reads : NamedReads tables conditions comparisons full
   pub room : length comparisons / 5 * 16 ≤ length lent
-
--- tables 1 and 4; `relationRows` starts with the relation rows of attribute a, and the lists of project forms start at `first`
-pub record SetReads (T : Tables) (conditions entries queries relationRows : List ℕ) (first a : ℕ) : Type 0 where
-  pub filled : ExpressionsFilled T conditions
-  pub entriesAre : entries ≡ T .entries
-  pub queriesAre : queries ≡ T .queries
-  pub related : RowsAre 16 (relationCount T) (relationRow T a) relationRows
-  pub begins : first ≡ relationStart (T .relations) (relationCount T)
-
-pub record SetReadable (conditions entries queries relationRows : List ℕ) (first a : ℕ) (lent : List ℕ) : Type 0 where
-  pub tables : Tables
-  pub reads : SetReads tables conditions entries queries relationRows first a
-  pub room : length queries / 4 * 16 ≤ length lent

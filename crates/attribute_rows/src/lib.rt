@@ -3,8 +3,6 @@
 use decoders::comparison_at;
 use decoders::entry_attribute;
 use decoders::entry_expression;
-use decoders::project_length;
-use decoders::query_at;
 use decoders::relation_expression;
 use decoders::relation_length;
 use report::Comparison;
@@ -16,18 +14,19 @@ ghost use Prim.Native.Nat.{ℕ, _+_, _*_, _≤_};
 ghost use lib.ListN.{length};
 ghost use Rattle.sets.specs.Lists.{concat};
 ghost use Rattle.sets.specs.Rows.{rowOf, rowIn, rowJoin, rowIntersect, rowMinus};
-ghost use Rattle.report.specs.Tables.{Tables, relationCount, comparisonCount, queryCount};
+ghost use Rattle.report.specs.Tables.{Tables, relationCount, comparisonCount};
 ghost use Rattle.report.specs.Configuring.{written};
-ghost use Rattle.attribute_rows.specs.AttributeRows.{listRow, relationRow, namedRow, setRow, ListRowReads, ListRowReadable};
-ghost use Rattle.attribute_rows.specs.AttributeRows.{RelationRowReads, RelationRowReadable, NamedReads, NamedReadable, SetReads, SetReadable};
+ghost use Rattle.attribute_rows.specs.AttributeRows.{listRow, relationRow, namedRow, ListRowReads, ListRowReadable};
+ghost use Rattle.attribute_rows.specs.AttributeRows.{RelationRowReads, RelationRowReadable, NamedReads, NamedReadable};
 ghost use Rattle.attribute_rows.specs.RowRules.{choiceRow, entryRow, EntryRead, RelationAt, SomeRelation, namedStep, NamedRead};
-ghost use Rattle.attribute_rows.specs.RowRules.{setStep, QueryStands, SetRead};
+ghost use Rattle.attribute_rows.specs.RowRules.{setStep, SetRead};
 
-// A row joined with that of entry k, if it names attribute a.
-fn with_entry(entries: &[u16], conditions: &[u64], k: usize, a: usize, r: Row) -> Row
-    requires { ⌜ EntryRead (now conditions) (now entries) k ⌝ }
-    ensures { λ s. ⌜ s .words ≡ entryRow (now (conditions .entry)) (now (entries .entry)) a k (r .words) ⌝ }
+// A row joined with that of entry i of the list that starts at `start`, if it names attribute a.
+fn with_entry(entries: &[u16], conditions: &[u64], start: usize, i: usize, a: usize, r: Row) -> Row
+    requires { ⌜ EntryRead (now conditions) (now entries) (start + i) ⌝ }
+    ensures { λ s. ⌜ s .words ≡ entryRow (now (conditions .entry)) (now (entries .entry)) a (start + i) (r .words) ⌝ }
 {
+    let k = start + i;
     if a == entry_attribute(entries, k) {
         let x = entry_expression(entries, k);
         return r.join(Row::load(conditions, x));
@@ -39,12 +38,13 @@ fn with_entry(entries: &[u16], conditions: &[u64], k: usize, a: usize, r: Row) -
 pub fn list_row(entries: &[u16], conditions: &[u64], start: usize, count: usize, a: usize) -> Row
     requires { ⌜ ListRowReadable (now conditions) (now entries) start count ⌝ }
     ensures { λ r.
-        ⌜ ((T : Tables) → ListRowReads T (now (conditions .entry)) (now (entries .entry)) start count → r .words ≡ listRow T a start count) ⌝ }
+        ⌜ ((T : Tables) (offset : ℕ) → ListRowReads T offset (now (conditions .entry)) (now (entries .entry)) start count
+        → r .words ≡ listRow T a (offset + start) count) ⌝ }
 {
     let mut r = Row::empty();
     let mut i = 0;
     while i < count {
-        r = with_entry(entries, conditions, start + i, a, r);
+        r = with_entry(entries, conditions, start, i, a, r);
         i += 1;
     }
     r
@@ -131,104 +131,69 @@ pub fn fill_named_rows(
 
 // Relation r, whose list starts at `start`: its list where it is present.
 fn relation_row(
-    entries: &[u16],
+    relation_entries: &[u16],
     relations: &[u16],
     conditions: &[u64],
     r: usize,
     start: usize,
     a: usize,
 ) -> Row
-    requires { ⌜ SomeRelation (now conditions) (now entries) (now relations) r start ⌝ }
+    requires { ⌜ SomeRelation (now conditions) (now «relation_entries») (now relations) r start ⌝ }
     ensures { λ s.
-        ⌜ ((T : Tables) → RelationAt T (now (conditions .entry)) (now (entries .entry)) (now (relations .entry)) r start
+        ⌜ ((T : Tables) → RelationAt T (now (conditions .entry)) (now («relation_entries» .entry)) (now (relations .entry)) r start
         → s .words ≡ relationRow T a r) ⌝ }
 {
     let count = relation_length(relations, r);
     let x = relation_expression(relations, r);
-    let listed = list_row(entries, conditions, start, count, a);
+    let listed = list_row(relation_entries, conditions, start, count, a);
     let present = Row::load(conditions, x);
     listed.intersect(present)
 }
 
 // Fills `relation_rows` with the rows of all relations.
 pub fn fill_relation_rows(
-    entries: &[u16],
+    relation_entries: &[u16],
     relations: &[u16],
     conditions: &[u64],
     a: usize,
     relation_rows: &mut [u64],
 )
-    requires { ⌜ RelationRowReadable (now conditions) (now entries) (now relations) (now «relation_rows») ⌝ }
+    requires { ⌜ RelationRowReadable (now conditions) (now «relation_entries») (now relations) (now «relation_rows») ⌝ }
     ensures { λ _.
-        ⌜ ((T : Tables) → RelationRowReads T (now (conditions .entry)) (now (entries .entry)) (now (relations .entry))
+        ⌜ ((T : Tables) → RelationRowReads T (now (conditions .entry)) (now («relation_entries» .entry)) (now (relations .entry))
         → now («relation_rows» .exit) ≡ written (concat (relationCount T) (relationRow T a)) (now («relation_rows» .entry))) ⌝ }
 {
     let count = relations.len() / 2;
     let mut start = 0;
     let mut r = 0;
     while r < count {
-        let row = relation_row(entries, relations, conditions, r, start, a);
+        let row = relation_row(relation_entries, relations, conditions, r, start, a);
         row.store(&mut *relation_rows, r);
         start += relation_length(relations, r);
         r += 1;
     }
 }
 
-// The row of a query form, a project's list starting at `start`; `sets` has the rows of lower forms.
-fn set_row(
+// The row of a query form, from the rows of the relations, of the lower forms, and of the form's own list.
+pub fn set_row(
     x: Query,
-    entries: &[u16],
     conditions: &[u64],
     relation_rows: &[u64],
     sets: &[u64],
-    start: usize,
-    a: usize,
+    listed: Row,
 ) -> Row
-    requires { ⌜ SetRead (now conditions) (now entries) (now «relation_rows») (now sets) start x ⌝ }
-    ensures { λ r.
-        ⌜ ((T : Tables) (q : ℕ) → QueryStands T q (now (conditions .entry)) (now (entries .entry)) start x
-        → r .words ≡ setStep T a start (now (conditions .entry)) (now («relation_rows» .entry)) (now (sets .entry)) x) ⌝ }
+    requires { ⌜ SetRead (now conditions) (now «relation_rows») (now sets) x ⌝ }
+    ensures { λ r. ⌜ r .words ≡ setStep (now (conditions .entry)) (now («relation_rows» .entry)) (now (sets .entry)) (listed .words) x ⌝ }
 {
     match x {
         Query::Malformed => Row::empty(),
         Query::Empty => Row::empty(),
         Query::Relation(r) => Row::load(relation_rows, r),
         Query::Select(_, b) => Row::load(sets, b),
-        Query::Project(count, b) => {
-            let listed = list_row(entries, conditions, start, count, a);
-            let under = Row::load(sets, b);
-            listed.intersect(under)
-        }
+        Query::Project(_, b) => listed.intersect(Row::load(sets, b)),
         Query::Choice(e, b, d) => chosen_row(conditions, sets, e, b, d),
         Query::Product(b, d) => joined_row(sets, b, d),
         Query::Union(b, _) => Row::load(sets, b),
         Query::Intersection(b, _) => Row::load(sets, b),
-    }
-}
-
-// Fills `sets` with the rows of all query forms; project lists lie from `first` on.
-pub fn fill_set_rows(
-    entries: &[u16],
-    queries: &[u16],
-    conditions: &[u64],
-    relation_rows: &[u64],
-    first: usize,
-    a: usize,
-    sets: &mut [u64],
-)
-    requires { ⌜ SetReadable (now conditions) (now entries) (now queries) (now «relation_rows») first a (now sets) ⌝ }
-    ensures { λ _.
-        ⌜ ((T : Tables) → SetReads T (now (conditions .entry)) (now (entries .entry)) (now (queries .entry)) (now («relation_rows» .entry)) first a
-        → now (sets .exit) ≡ written (concat (queryCount T) (setRow T a)) (now (sets .entry))) ⌝ }
-{
-    let count = queries.len() / 4;
-    let mut start = first;
-    let mut q = 0;
-    while q < count {
-        let x = query_at(queries, q);
-        let row = set_row(x, entries, conditions, relation_rows, &*sets, start, a);
-        row.store(&mut *sets, q);
-        start += project_length(x);
-        q += 1;
     }
 }

@@ -9,17 +9,22 @@ use native.Mathlib.Numerals.{add-one}
 use native.Mathlib.Omega.{arith}
 use lib.ListN.{length}
 use Rattle.sets.specs.Rows.{rowOf, rowIn, rowIntersect, rowIsEmpty}
-use Rattle.sets.proofs.SearchLaws.{least-seek, nothing-seek, seek-same}
+use Rattle.sets.specs.Search.{seek}
+use Rattle.sets.specs.declared.Found.{Found}
+use Rattle.sets.proofs.SearchLaws.{least-seek, nothing-seek, seek-least, seek-same}
 use Rattle.report.specs.Tables.{Tables, entryAttribute, entryExpression, relationCount, relationExpression, relationLength, relationStart}
+use Rattle.report.specs.Tables.{entriesOfRelations}
 use Rattle.report.specs.Expressions.{permitted}
 use Rattle.report.specs.Typing.{at}
 use Rattle.report.specs.Verdicts.{refusal, refuseIf, refuseAt, orElse}
 use Rattle.report.specs.Checks.{apartEverywhere, relationCheck, schemaCheck}
 use Rattle.report.specs.declared.Verdict.{Verdict}
+use Rattle.report.specs.Formed.{Formed, EntriesFrom}
 use Rattle.report.specs.declared.Refusal.{Refusal}
 use Rattle.report.proofs.VerdictLaws.{then-next, then-refused, accepted-if, accepted-first, refused-first}
-use Rattle.report.proofs.FormedFacts.{entry-expression, relation-expression, relation-list}
-use Rattle.conditions.specs.Conditions.{ExpressionsFilled, SchemaReads, SchemaReadable}
+use Rattle.report.proofs.FormedFacts.{entry-expression, relation-expression}
+use Rattle.report.proofs.EntryParts.{relation-part, relation-in-part}
+use Rattle.conditions.specs.Conditions.{Conditioned, SchemaReads, SchemaReadable}
 use Rattle.conditions.specs.RowRules.{apartIn, listRule, presentRow, relationRule, RelationRead}
 use Rattle.conditions.proofs.PermittedLaws.{permittedRow, somewhere-row, permitted-all, row-in, meet-row}
 
@@ -31,42 +36,50 @@ met-row rows row e p q m = m ∙ ap (rowIntersect 16 row) (q ∙ ap (rowIn 16 ro
 below-next : {j k : ℕ} → j < k + 1 → j ≤ k
 below-next h = omega arith
 
+-- refusals that agree where something may be found
+found-same : (r s : ℕ → Refusal) (test : ℕ → Bool) (n from : ℕ) → ((k : ℕ) → from ≤ k → k < from + n → r k ≡ s k)
+    → refuseAt r (seek test n from) ≡ refuseAt s (seek test n from)
+found-same r s test n from e = go (seek test n from) refl
+  where
+    go : (f : Found) → seek test n from ≡ f → refuseAt r f ≡ refuseAt s f
+    go Found.Nothing p = refl
+    go (Found.At k) p = let l = seek-least test n from k p in ap Verdict.Refused (e k (l .within .0) (l .within .1))
+
 -- ---- the loop over a list
 
--- of the n entries from `from` on those below k have been seen, and each holds somewhere that `present` has
-pub record Listed (rows present entries : List ℕ) (from n k : ℕ) : Type 0 where
-  pub least : from ≤ k
-  pub most : k ≤ from + n
-  pub each : (j : ℕ) → from ≤ j → j < k → apartIn rows present entries j ≡ false
+-- of the n entries from `from` on the first i have been seen, and each holds somewhere that `present` has
+pub record Listed (rows present entries : List ℕ) (from n i : ℕ) : Type 0 where
+  pub most : i ≤ n
+  pub each : (j : ℕ) → from ≤ j → j < from + i → apartIn rows present entries j ≡ false
 
 module _ (rows present entries : List ℕ) (from n : ℕ) where
-  pub listed-none : Listed rows present entries from n from
-  listed-none = record { least = omega arith; most = omega arith; each = λ j l h. absurd (omega arith) }
+  pub listed-none : Listed rows present entries from n 0
+  listed-none = record { most = omega arith; each = λ j l h. absurd (omega arith) }
 
   -- one entry more: what the code found of it
-  module _ {k x : ℕ} {own both : List ℕ} {t : Bool} (S : Listed rows present entries from n k) (h : k < from + n) (p : x ≡ entryExpression entries k)
+  module _ {i x : ℕ} {own both : List ℕ} {t : Bool} (S : Listed rows present entries from n i) (h : i < n) (p : x ≡ entryExpression entries (from + i))
       (q : own ≡ rowIn 16 rows x) (m : both ≡ rowIntersect 16 present own) (e : t ≡ rowIsEmpty 16 both) where
-    is-apart : t ≡ apartIn rows present entries k
-    is-apart = e ∙ ap (rowIsEmpty 16) (met-row rows present (entryExpression entries k) p q m)
+    is-apart : t ≡ apartIn rows present entries (from + i)
+    is-apart = e ∙ ap (rowIsEmpty 16) (met-row rows present (entryExpression entries (from + i)) p q m)
 
-    pub listed-more : t ≡ false → Listed rows present entries from n (k + 1)
+    pub listed-more : t ≡ false → Listed rows present entries from n (i + 1)
     listed-more f = record {
-      least = let l = S .least in omega arith;
       most = omega arith;
       each =
-          λ j l b. ⊎-elim (λ (s : j ≡ k). ap (apartIn rows present entries) s ∙ sym is-apart ∙ f) (λ (d : j < k). S .each j l d)
-          (eq-or-lt-of-le (below-next b));
+          λ j l b. ⊎-elim (λ (s : j ≡ from + i). ap (apartIn rows present entries) s ∙ sym is-apart ∙ f) (λ (d : j < from + i). S .each j l d)
+          (eq-or-lt-of-le (omega arith));
     }
 
-    pub listed-here : (r : ℕ) → t ≡ true → {a : ℕ} → a ≡ entryAttribute entries k
+    pub listed-here : (r : ℕ) → t ≡ true → {a : ℕ} → a ≡ entryAttribute entries (from + i)
         → Verdict.Refused (refusal 14 r a 0) ≡ listRule rows present entries r from n
     unfolding listRule
     listed-here r f g =
         ap (λ (a : ℕ). Verdict.Refused (refusal 14 r a 0)) g
         ∙ sym (ap (refuseAt (λ k. refusal 14 r (entryAttribute entries k) 0))
-        (least-seek (apartIn rows present entries) n from k (record { within = (S .least, h); holds = sym is-apart ∙ f; before = S .each })))
+        (least-seek (apartIn rows present entries) n from (from + i)
+        (record { within = omega arith; holds = sym is-apart ∙ f; before = S .each })))
 
-  pub listed-all : (r : ℕ) {k : ℕ} → Listed rows present entries from n k → from + n ≤ k → Verdict.Accepted ≡ listRule rows present entries r from n
+  pub listed-all : (r : ℕ) {i : ℕ} → Listed rows present entries from n i → n ≤ i → Verdict.Accepted ≡ listRule rows present entries r from n
   unfolding listRule
   listed-all r S h =
       sym (ap (refuseAt (λ k. refusal 14 r (entryAttribute entries k) 0))
@@ -95,33 +108,53 @@ module _ (rows permits entries relations : List ℕ) (r start : ℕ) {x : ℕ} {
 
 -- ---- one relation of tables that have passed the form checks
 
-module _ {T : Tables} {rows : List ℕ} (L : ExpressionsFilled T rows) (r : ℕ) (h : r < relationCount T) where
-  pub relation-read : RelationRead rows (T .entries) (T .relations) r (relationStart (T .relations) r)
+module _ {T : Tables} (F : Formed T) {rows : List ℕ} (L : Conditioned T rows) (r : ℕ) (h : r < relationCount T) where
+  part : EntriesFrom T 0 (entriesOfRelations T)
+  part = relation-part F
+
+  pub relation-read : RelationRead rows (entriesOfRelations T) (T .relations) r (relationStart (T .relations) r)
   relation-read = record {
     inside = h;
-    rowed = row-in L (relation-expression (L .formed) r h);
-    list = record { inside = relation-list (L .formed) r h .inside; rowed = λ k l. row-in L (entry-expression (L .formed) k l) };
+    rowed = row-in F L (relation-expression F r h);
+    list = record {
+      inside = relation-in-part F r h;
+      rowed = λ k l. rw (part .expression k l) (row-in F L (entry-expression F (0 + k) (let i = part .inside in omega arith)));
+    };
   }
 
   module _ {permits : List ℕ} (is : permits ≡ rowOf 16 (permitted T)) where
     presence : presentRow rows permits (T .relations) r ≡ permittedRow T (λ c. at T c (relationExpression (T .relations) r))
-    presence = meet-row L (λ c. true) (is ∙ permitted-all T) (relationExpression (T .relations) r) (relation-expression (L .formed) r h)
+    presence = meet-row F L (λ c. true) (is ∙ permitted-all T) (relationExpression (T .relations) r) (relation-expression F r h)
 
-    apart : (k : ℕ) → k < relationStart (T .relations) r + relationLength (T .relations) r
-        → apartIn rows (presentRow rows permits (T .relations) r) (T .entries) k ≡ apartEverywhere T r k
-    apart k l =
-        ap (rowIsEmpty 16)
-        (meet-row L (λ c. at T c (relationExpression (T .relations) r)) presence (entryExpression (T .entries) k)
-        (entry-expression (L .formed) k (omega (arith, relation-list (L .formed) r h .inside))))
-        ∙ somewhere-row T (L .formed .few) _
+    module _ (k : ℕ) (l : k < relationStart (T .relations) r + relationLength (T .relations) r) where
+      in-part : k < length (entriesOfRelations T) / 2
+      in-part = let i = relation-in-part F r h in omega arith
+
+      apart : apartIn rows (presentRow rows permits (T .relations) r) (entriesOfRelations T) k ≡ apartEverywhere T r k
+      apart =
+          ap (λ (e : ℕ). rowIsEmpty 16 (rowIntersect 16 (presentRow rows permits (T .relations) r) (rowIn 16 rows e)))
+          (part .expression k in-part ∙ ap (entryExpression (T .entries)) (omega arith))
+          ∙ ap (rowIsEmpty 16)
+          (meet-row F L (λ c. at T c (relationExpression (T .relations) r)) presence (entryExpression (T .entries) k)
+          (entry-expression F k (let i = in-part in let j = part .inside in omega arith)))
+          ∙ somewhere-row T (F .few) _
+
+    list-rule : listRule rows (presentRow rows permits (T .relations) r) (entriesOfRelations T) r (relationStart (T .relations) r)
+        (relationLength (T .relations) r)
+        ≡ refuseAt (λ i. refusal 14 r (entryAttribute (T .entries) i) 0)
+        (seek (apartEverywhere T r) (relationLength (T .relations) r) (relationStart (T .relations) r))
+    unfolding listRule
+    list-rule =
+        ap (refuseAt _) (seek-same _ (apartEverywhere T r) (relationLength (T .relations) r) (relationStart (T .relations) r) (λ k l u. apart k u))
+        ∙ found-same (λ k. refusal 14 r (entryAttribute (entriesOfRelations T) k) 0) (λ k. refusal 14 r (entryAttribute (T .entries) k) 0)
+        (apartEverywhere T r) (relationLength (T .relations) r) (relationStart (T .relations) r)
+        (λ k l u. ap (λ (a : ℕ). refusal 14 r a 0) (part .attribute k (in-part k u) ∙ ap (entryAttribute (T .entries)) (omega arith)))
 
     -- the rule by rows is the check
-    pub relation-rule : relationRule rows permits (T .entries) (T .relations) r (relationStart (T .relations) r) ≡ relationCheck T r
-    unfolding relationRule listRule
+    pub relation-rule : relationRule rows permits (entriesOfRelations T) (T .relations) r (relationStart (T .relations) r) ≡ relationCheck T r
+    unfolding relationRule
     relation-rule =
-        ap₂ orElse (ap (λ (b : Bool). refuseIf b (refusal 13 r 0 0)) (ap (rowIsEmpty 16) presence ∙ somewhere-row T (L .formed .few) _))
-        (ap (refuseAt (λ k. refusal 14 r (entryAttribute (T .entries) k) 0))
-        (seek-same _ (apartEverywhere T r) (relationLength (T .relations) r) (relationStart (T .relations) r) (λ k l u. apart k u)))
+        ap₂ orElse (ap (λ (b : Bool). refuseIf b (refusal 13 r 0 0)) (ap (rowIsEmpty 16) presence ∙ somewhere-row T (F .few) _)) list-rule
 
 -- ---- the loop over the relations
 
@@ -136,7 +169,7 @@ module _ (rows permits entries relations : List ℕ) where
   rule r = relationRule rows permits entries relations r (relationStart relations r)
 
   rule-is : {T : Tables} → SchemaReads T rows permits entries relations → (r : ℕ) → r < length relations / 2 → rule r ≡ relationCheck T r
-  rule-is {T} R r h = rw (R .entriesAre, R .relationsAre) (relation-rule (R .filled) r (rw (R .relationsAre) at h) (R .permitting))
+  rule-is {T} R r h = rw (R .entriesAre, R .relationsAre) (relation-rule (R .formed) (R .filled) r (rw (R .relationsAre) at h) (R .permitting))
 
   pub related-none : RelationsChecked rows permits entries relations 0 0
   related-none = record { most = omega arith; starts = refl; each = λ j h. absurd (omega arith) }
@@ -145,7 +178,7 @@ module _ (rows permits entries relations : List ℕ) where
     pub related-read : SchemaReadable rows permits entries relations → RelationRead rows entries relations r start
     related-read A =
         let R = A .reads in
-        rw (S .starts, R .entriesAre, R .relationsAre) (relation-read (R .filled) r (rw (R .relationsAre) at h))
+        rw (S .starts, R .entriesAre, R .relationsAre) (relation-read (R .formed) (R .filled) r (rw (R .relationsAre) at h))
 
     module _ {v : Verdict} (gave : v ≡ relationRule rows permits entries relations r start) where
       is-rule : v ≡ rule r

@@ -15,8 +15,10 @@ use Rattle.sets.proofs.RowLaws.{rowIn-concat, withRow-more}
 use Rattle.report.specs.Tables.{Tables, expression, expressionCount}
 use Rattle.report.specs.Expressions.{truthOf, holds}
 use Rattle.report.specs.Configuring.{written}
+use Rattle.report.specs.FormChecks.{expressionFits, expressionsCheck, expressionOk}
 use Rattle.report.specs.Formed.{Formed, ExpressionLower}
 use Rattle.report.specs.declared.Expression.{Expression}
+use Rattle.report.proofs.Formed.{all-fit, fit-all}
 use Rattle.report.proofs.FormFacts.{expression-lower}
 use Rattle.report.proofs.StepLaws.{holds-step}
 use Rattle.conditions.specs.Conditions.{expressionRow, expressionRows, ExpressionsFillable, ExpressionsFilled}
@@ -86,7 +88,10 @@ module _ (n : ℕ) (expressions lent : List ℕ) where
   module _ (A : ExpressionsFillable n expressions lent) {rows : List ℕ} {f : ℕ} (S : ExpressionsFilling n expressions lent rows f) where
     module _ (h : f < length expressions / 3) where
       fit-lower : ExpressionLower n f (expression expressions f)
-      fit-lower = expression-lower n f (expression expressions f) (A .fit f h)
+      unfolding expressionsCheck
+      fit-lower =
+          expression-lower n f (expression expressions f)
+          (all-fit _ (λ k. expressionFits n k (expression expressions k)) (length expressions / 3) (A .checked) f h)
 
       -- what the next row is made of lies below it
       pub filling-lower : {x : Expression} → x ≡ expression expressions f → ExpressionLower 10 (length rows / 16) x
@@ -123,20 +128,21 @@ module _ (n : ℕ) (expressions lent : List ℕ) where
 
 -- ---- for the caller
 
-module _ {T : Tables} (F : Formed T) (lent : List ℕ) (room : expressionCount T * 16 ≤ length lent) where
-  -- tables that have passed the form checks may be filled
-  pub fillable : ExpressionsFillable (T .features) (T .expressions) lent
-  fillable = record { few = F .few; fit = F .expressionsOk; room = room }
+-- what the filling promises of the rows
+pub filled : (n : ℕ) (expressions lent : List ℕ) → length expressions / 3 * 16 ≤ length lent
+    → {rows : List ℕ} → rows ≡ written (expressionRows n expressions) lent → ExpressionsFilled n expressions rows
+unfolding expressionRows
+filled n expressions lent room e =
+    let size = concat-length (expressionRow n expressions) 16 (length expressions / 3) (wide n expressions _) in
+    record {
+      room = let l = ap length e ∙ length-append (expressionRows n expressions) _ in omega arith;
+      each =
+          λ k h. ap (λ (s : List ℕ). rowIn 16 s k) e
+          ∙ rowIn-concat 16 (length expressions / 3) (expressionRow n expressions) _ (wide n expressions _) k h;
+    }
 
-  -- and are, by what the filling promises
-  pub filled : {rows : List ℕ} → rows ≡ written (expressionRows (T .features) (T .expressions)) lent → ExpressionsFilled T rows
-  unfolding expressionRows
-  filled e =
-      let size = concat-length (expressionRow (T .features) (T .expressions)) 16 (expressionCount T) (wide (T .features) (T .expressions) _) in
-      record {
-        formed = F;
-        room = let l = ap length e ∙ length-append (expressionRows (T .features) (T .expressions)) _ in omega arith;
-        each =
-            λ k h. ap (λ (s : List ℕ). rowIn 16 s k) e
-            ∙ rowIn-concat 16 (expressionCount T) (expressionRow (T .features) (T .expressions)) _ (wide (T .features) (T .expressions) _) k h;
-      }
+-- tables that have passed the form checks may be filled
+pub fillable : {T : Tables} → Formed T → (lent : List ℕ) → expressionCount T * 16 ≤ length lent
+    → ExpressionsFillable (T .features) (T .expressions) lent
+unfolding expressionsCheck
+fillable {T} F lent room = record { few = F .few; checked = fit-all _ (expressionOk T) (expressionCount T) (F .expressionsOk); room = room }

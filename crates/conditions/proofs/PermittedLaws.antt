@@ -12,13 +12,13 @@ use Rattle.sets.specs.Search.{someBelow}
 use Rattle.sets.specs.Rows.{rowOf, rowIn, rowIntersect, rowIsEmpty, within}
 use Rattle.sets.proofs.SearchLaws.{some-at, some-none, none-some, at-some}
 use Rattle.sets.proofs.RowLaws.{rowOf-same, within-out, intersect-rowOf, empty-rowOf}
-use Rattle.report.specs.Tables.{Tables, expressionCount}
+use Rattle.report.specs.Tables.{Tables, expressionCount, entriesOfRelations}
 use Rattle.report.specs.Expressions.{holds, permitted}
 use Rattle.report.specs.Typing.{at}
 use Rattle.report.specs.Verdicts.{refusal, refuseIf}
 use Rattle.report.specs.Checks.{somewhere, modelCheck}
 use Rattle.report.specs.Formed.{Formed}
-use Rattle.conditions.specs.Conditions.{ExpressionsFilled, SchemaReads}
+use Rattle.conditions.specs.Conditions.{Conditioned, SchemaReads}
 
 -- a test that fails from m on
 some-narrow : (test : ℕ → Bool) (m n : ℕ) → m ≤ n → ((k : ℕ) → m ≤ k → test k ≡ false) → someBelow test n ≡ someBelow test m
@@ -71,7 +71,7 @@ pub model-check : {T : Tables} → Formed T → {row : List ℕ} → row ≡ row
 model-check {T} F e =
     ap (λ (b : Bool). refuseIf b (refusal 12 0 0 0)) (ap (rowIsEmpty 16) (e ∙ permitted-all T) ∙ somewhere-row T (F .few) (λ c. true))
 
-module _ {T : Tables} {rows : List ℕ} (L : ExpressionsFilled T rows) where
+module _ {T : Tables} (F : Formed T) {rows : List ℕ} (L : Conditioned T rows) where
   -- each expression has its row
   pub row-in : {e : ℕ} → e < expressionCount T → e < length rows / 16
   row-in h = let m = L .room in omega arith
@@ -83,11 +83,11 @@ module _ {T : Tables} {rows : List ℕ} (L : ExpressionsFilled T rows) where
 
   -- the row of the model is that of the permitted configurations
   pub model-room : T .model * 16 + 16 ≤ length rows
-  model-room = let m = L .room in let i = L .formed .modelIn in omega arith
+  model-room = let m = L .room in let i = F .modelIn in omega arith
 
   pub model-row : rowIn 16 rows (T .model) ≡ rowOf 16 (permitted T)
   unfolding permitted
-  model-row = L .each (T .model) (L .formed .modelIn)
+  model-row = L .each (T .model) (F .modelIn)
 
-  pub reads : {permits : List ℕ} → permits ≡ rowIn 16 rows (T .model) → SchemaReads T rows permits (T .entries) (T .relations)
-  reads e = record { filled = L; permitting = e ∙ model-row; entriesAre = refl; relationsAre = refl }
+  pub reads : {permits : List ℕ} → permits ≡ rowIn 16 rows (T .model) → SchemaReads T rows permits (entriesOfRelations T) (T .relations)
+  reads e = record { formed = F; filled = L; permitting = e ∙ model-row; entriesAre = refl; relationsAre = refl }

@@ -40,7 +40,7 @@ relationRule rows permits entries relations r start =
     orElse (refuseIf (rowIsEmpty 16 (presentRow rows permits relations r)) (refusal 13 r 0 0))
     (listRule rows (presentRow rows permits relations r) entries r start (relationLength relations r))
 
--- a list lies in table 1, and each expression there has a row
+-- a list lies in the entries, and each expression there has a row
 pub record ListRead (rows entries : List ℕ) (start count : ℕ) : Type 0 where
   pub inside : start + count ≤ length entries / 2
   pub rowed : (k : ℕ) → k < length entries / 2 → entryExpression entries k < length rows / 16

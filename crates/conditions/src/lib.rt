@@ -79,9 +79,9 @@ fn check_list(
     requires { ⌜ ListRead (now rows) (now entries) start count ⌝ }
     ensures { λ v. ⌜ v ≡ listRule (now (rows .entry)) (present .words) (now (entries .entry)) r start count ⌝ }
 {
-    let end = start + count;
-    let mut k = start;
-    while k < end {
+    let mut i = 0;
+    while i < count {
+        let k = start + i;
         let x = entry_expression(entries, k);
         let both = present.intersect(Row::load(rows, x));
         if both.is_empty() {
@@ -93,7 +93,7 @@ fn check_list(
                 configuration: 0,
             });
         }
-        k += 1;
+        i += 1;
     }
     Verdict::Accepted
 }

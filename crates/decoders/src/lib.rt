@@ -9,7 +9,7 @@ ghost use Prim.Native.Nat.{_+_, _*_, _/_, _<_};
 ghost use lib.ListN.{length, getD};
 ghost use Rattle.report.specs.Tables.{entryAttribute, entryExpression, relationExpression, relationLength, expressionOf, expression};
 ghost use Rattle.report.specs.Tables.{comparisonOf, comparison, queryOf, query, projectLength};
-ghost use Rattle.report.specs.Operands.{queryOperands};
+ghost use Rattle.report.specs.Operands.{comparisonOperands, queryOperands};
 ghost use Rattle.report.specs.declared.Expression.{Expression};
 ghost use Rattle.report.specs.declared.Comparison.{Comparison};
 ghost use Rattle.report.specs.declared.Query.{Query};
@@ -181,6 +181,23 @@ pub fn project_length(x: Query) -> usize
         count
     } else {
         0
+    }
+}
+
+// The comparisons that a comparison refers to.
+pub fn comparison_operands(x: Comparison) -> Operands
+    ensures { λ r. ⌜ r ≡ comparisonOperands x ⌝ }
+{
+    match x {
+        Comparison::Malformed => Operands::Nothing,
+        Comparison::Never => Operands::Nothing,
+        Comparison::Always => Operands::Nothing,
+        Comparison::Constant(_, _, _) => Operands::Nothing,
+        Comparison::Attribute(_, _, _) => Operands::Nothing,
+        Comparison::Not(a) => Operands::One(a),
+        Comparison::And(a, b) => Operands::Both(a, b),
+        Comparison::Or(a, b) => Operands::Both(a, b),
+        Comparison::Choice(e, a, b) => Operands::Choice(e, a, b),
     }
 }
 

@@ -14,74 +14,67 @@ use Rattle.sets.specs.Rows.{wordOf, rowOf, rowIn, rowIntersect, withRow, within
 use Rattle.sets.proofs.ListLaws.{table-same, concat-length}
 use Rattle.sets.proofs.BitLaws.{bitsOf-none}
 use Rattle.sets.proofs.RowLaws.{rowOf-same, rowOf-row, intersect-rowOf, rows-are, rows-all}
-use Rattle.report.specs.Tables.{Tables, queryCount, report}
+use Rattle.report.specs.Tables.{Tables, relationCount, comparisonCount, queryCount, report}
 use Rattle.report.specs.Expressions.{holds, permitted}
 use Rattle.report.specs.Typing.{setOf, reached, faults}
 use Rattle.report.specs.ColumnRows.{hasColumn}
 use Rattle.report.specs.Configuring.{written}
 use Rattle.report.proofs.FormedFacts.{counts, report-in}
-use Rattle.attribute_rows.specs.AttributeRows.{AttributeReads}
+use Rattle.attribute_rows.specs.AttributeRows.{relationRow, namedRow, RelationRowReads, RelationRowReadable, NamedReads, NamedReadable}
+use Rattle.attribute_rows.proofs.AttributeLaws.{relations-are, named-are}
 use Rattle.attribute_rows.proofs.FillLaws.{RowsFilling, filling-none, filling-more, filling-all}
 use Rattle.fault_rows.specs.FaultRows.{faultyRow, columnRow, FaultReads, FailReads, FailReadable, FailsFilled}
-use Rattle.fault_rows.specs.FaultRules.{Rowed, FormFaultReads, JoinReads, JoinReadable, AttributeReadable, storedColumn, ColumnRead}
-use Rattle.fault_rows.proofs.JoinLaws.{faulty-wide}
+use Rattle.fault_rows.specs.FaultRules.{FormReads, FormReadable, FormsFilled, storedColumn, ColumnRead}
+use Rattle.fault_rows.proofs.TypeLaws.{faulty-wide}
 
--- ---- the rows of one attribute
-
-module _ {T : Tables} {conditions full entries relations comparisons queries : List ℕ} {first : ℕ}
-    (R : FaultReads T conditions full entries relations comparisons queries first) where
-  pub reads-all : AttributeReads T conditions entries relations comparisons queries
-  reads-all = record {
-    filled = R .filled;
-    entriesAre = R .entriesAre;
-    relationsAre = R .relationsAre;
-    comparisonsAre = R .comparisonsAre;
-    queriesAre = R .queriesAre;
-  }
-
-  pub reads-forms : {a : ℕ} {named relationRows sets : List ℕ} → Rowed T a named relationRows sets
-      → FormFaultReads T conditions full entries relations queries named sets a
-  reads-forms S = record {
-    filled = R .filled;
-    whole = R .whole;
-    entriesAre = R .entriesAre;
-    relationsAre = R .relationsAre;
-    queriesAre = R .queriesAre;
-    compared = S .compared;
-    formed = S .formed;
-  }
+-- ---- what the rows of one attribute are worked out from, and room for them
 
 -- the local arrays
 pub record Arrays (named relationRows sets : List ℕ) : Type 0 where
   pub compared : length named ≡ 4096
   pub related : length relationRows ≡ 512
-  pub formed : length sets ≡ 4096
+  pub shaped : length sets ≡ 4096
 
 pub arrays-clear : Arrays (replicate 4096 0) (replicate 512 0) (replicate 4096 0)
 arrays-clear = record {
   compared = length-replicate {A = ℕ} 4096 0;
   related = length-replicate {A = ℕ} 512 0;
-  formed = length-replicate {A = ℕ} 4096 0;
+  shaped = length-replicate {A = ℕ} 4096 0;
 }
 
 pub arrays-kept : {named relationRows sets after later last : List ℕ} → Arrays named relationRows sets → length after ≡ length named
     → length later ≡ length relationRows → length last ≡ length sets → Arrays after later last
-arrays-kept S p q r = record { compared = p ∙ S .compared; related = q ∙ S .related; formed = r ∙ S .formed }
+arrays-kept S p q r = record { compared = p ∙ S .compared; related = q ∙ S .related; shaped = r ∙ S .shaped }
 
--- they have room for the rows of an attribute
-pub arrays-readable : {T : Tables} {conditions full entries relations comparisons queries : List ℕ} {first : ℕ}
-    → FaultReads T conditions full entries relations comparisons queries first
-    → {named relationRows sets : List ℕ} → Arrays named relationRows sets
-    → AttributeReadable conditions full entries relations comparisons queries first named relationRows sets
-arrays-readable {T} R S =
-    let n = counts (R .filled .formed) in
-    record {
+module _ {T : Tables} {conditions full relationEntries projectEntries relations comparisons queries : List ℕ}
+    (R : FaultReads T conditions full relationEntries projectEntries relations comparisons queries) where
+  reads-named : NamedReads T conditions comparisons full
+  reads-named = record { formed = R .formed; filled = R .filled; comparisonsAre = R .comparisonsAre; whole = R .whole }
+
+  reads-relations : RelationRowReads T conditions relationEntries relations
+  reads-relations = record { formed = R .formed; filled = R .filled; entriesAre = R .relationEntriesAre; relationsAre = R .relationsAre }
+
+  module _ {named relationRows sets : List ℕ} (S : Arrays named relationRows sets) where
+    pub arrays-named : NamedReadable conditions comparisons full named
+    arrays-named = record {
       tables = T;
-      reads = R;
-      compared = let e = ap (λ (t : List ℕ). length t / 5) (R .comparisonsAre) in let s = S .compared in omega arith;
-      related = let e = ap (λ (t : List ℕ). length t / 2) (R .relationsAre) in let s = S .related in omega arith;
-      formed = let e = ap (λ (t : List ℕ). length t / 4) (R .queriesAre) in let s = S .formed in omega arith;
+      reads = reads-named;
+      room =
+          let n = counts (R .formed) in let e = ap (λ (t : List ℕ). length t / 5) (R .comparisonsAre) in let s = S .compared in
+          omega arith;
     }
+
+    pub arrays-relations : RelationRowReadable conditions relationEntries relations relationRows
+    arrays-relations = record {
+      tables = T;
+      reads = reads-relations;
+      room =
+          let n = counts (R .formed) in let e = ap (λ (t : List ℕ). length t / 2) (R .relationsAre) in let s = S .related in
+          omega arith;
+    }
+
+    arrays-sets : length queries / 4 * 16 ≤ length sets
+    arrays-sets = let n = counts (R .formed) in let e = ap (λ (t : List ℕ). length t / 4) (R .queriesAre) in let s = S .shaped in omega arith
 
 -- ---- one column
 
@@ -130,17 +123,18 @@ column-wide : (T : Tables) (x a : ℕ) → length (columnRow T a) ≡ 16
 column-wide T x a = rowOf-row 16 (hasColumn T a) .size
 
 -- the items below a have been looked at
-pub record Failing (conditions full permits reach entries relations comparisons queries : List ℕ) (first items : ℕ)
+pub record Failing (conditions full permits reach relationEntries projectEntries relations comparisons queries : List ℕ) (items : ℕ)
     (lent before faults columns : List ℕ) (a : ℕ) : Type 0 where
   pub size : length faults ≡ length lent
-  pub faulty : (T : Tables) → FailReads T conditions full permits reach entries relations comparisons queries first
+  pub faulty : (T : Tables) → FailReads T conditions full permits reach relationEntries projectEntries relations comparisons queries
       → faults ≡ written (concat (queryCount T) (faultyRow T a)) lent
-  pub shown : RowsFilling (λ T. FailReads T conditions full permits reach entries relations comparisons queries first)
+  pub shown : RowsFilling (λ T. FailReads T conditions full permits reach relationEntries projectEntries relations comparisons queries)
       (λ T x k. columnRow T k) 0 items before columns a
 
-module _ {conditions full permits reach entries relations comparisons queries : List ℕ} {first items : ℕ} {lent before : List ℕ}
-    (A : FailReadable conditions full permits reach entries relations comparisons queries first items lent before) where
-  pub failing-none : Failing conditions full permits reach entries relations comparisons queries first items lent before lent before 0
+module _ {conditions full permits reach relationEntries projectEntries relations comparisons queries : List ℕ} {items : ℕ} {lent before : List ℕ}
+    (A : FailReadable conditions full permits reach relationEntries projectEntries relations comparisons queries items lent before) where
+  pub failing-none : Failing conditions full permits reach relationEntries projectEntries relations comparisons queries items lent before lent
+      before 0
   failing-none = record {
     size = refl;
     faulty = λ T R.
@@ -155,60 +149,69 @@ module _ {conditions full permits reach entries relations comparisons queries : 
   }
 
   module _ {faults columns : List ℕ} {a : ℕ}
-      (S : Failing conditions full permits reach entries relations comparisons queries first items lent before faults columns a) where
-    module _ {named relationRows sets : List ℕ}
-        (rows : (T : Tables) → FaultReads T conditions full entries relations comparisons queries first → Rowed T a named relationRows sets) where
-      failing-reads : {T : Tables} → FailReads T conditions full permits reach entries relations comparisons queries first
-          → JoinReads T conditions full entries relations queries first reach named sets a
-      failing-reads {T} R = record { reads = reads-forms (R .reads) (rows T (R .reads)); begins = R .reads .begins; reaching = R .reaching }
-
-      pub failing-join : JoinReadable conditions full entries relations queries first reach named sets a faults
-      failing-join = record {
-        tables = A .tables;
-        reads = failing-reads (A .reads);
-        room =
-            let e = ap (λ (t : List ℕ). length t / 4) (A .reads .reads .queriesAre) in
-            let m = faulty-rows (A .tables) a lent (S .faulty (A .tables) (A .reads)) .room in
-            omega arith;
+      (S : Failing conditions full permits reach relationEntries projectEntries relations comparisons queries items lent before faults
+      columns a) where
+    -- the rows of attribute a: of the comparisons and the relations
+    module _ {oldNamed named oldRelated relationRows oldSets : List ℕ} (arrays : Arrays oldNamed oldRelated oldSets)
+        (names : (T : Tables) → NamedReads T conditions comparisons full → named ≡ written (concat (comparisonCount T) (namedRow T a)) oldNamed)
+        (relates : (T : Tables) → RelationRowReads T conditions relationEntries relations
+        → relationRows ≡ written (concat (relationCount T) (relationRow T a)) oldRelated) where
+      failing-reads : {T : Tables} → FailReads T conditions full permits reach relationEntries projectEntries relations comparisons queries
+          → FormReads T conditions projectEntries relations queries reach named relationRows a faults
+      failing-reads {T} R = record {
+        formed = R .reads .formed;
+        filled = R .reads .filled;
+        entriesAre = R .reads .projectEntriesAre;
+        relationsAre = R .reads .relationsAre;
+        queriesAre = R .reads .queriesAre;
+        reaching = R .reaching;
+        compared = named-are T a oldNamed (names T (reads-named (R .reads)));
+        related = relations-are T a oldRelated (relates T (reads-relations (R .reads)));
+        faulty = faulty-rows T a lent (S .faulty T R);
       }
 
-      module _ (h : a < items) where
+      pub failing-forms : FormReadable conditions projectEntries relations queries reach named relationRows a oldSets faults
+      failing-forms = record { tables = A .tables; reads = failing-reads (A .reads); room = arrays-sets (A .reads .reads) arrays }
+
+      -- and of the forms
+      module _ {sets after : List ℕ}
+          (forms : (T : Tables) → FormReads T conditions projectEntries relations queries reach named relationRows a faults
+          → FormsFilled T a sets faults after)
+          (h : a < items) where
         pub failing-column : ColumnRead queries sets a columns
         failing-column =
             let R = A .reads .reads in
             let e = ap (λ (t : List ℕ). length t / 4) (R .queriesAre) in
             record {
-              some = let n = counts (R .filled .formed) .someQuery in omega arith;
-              formed = let m = rows (A .tables) R .formed .room in omega arith;
+              some = let n = counts (R .formed) .someQuery in omega arith;
+              formed = let m = forms (A .tables) (failing-reads (A .reads)) .shaped .room in omega arith;
               room = let m = A .column in let s = S .shown .size in omega arith;
             }
 
-        failing-row : {T : Tables} → FailReads T conditions full permits reach entries relations comparisons queries first
+        failing-row : {T : Tables} → FailReads T conditions full permits reach relationEntries projectEntries relations comparisons queries
             → storedColumn permits queries sets ≡ columnRow T a
         failing-row {T} R =
             ap₂ (rowIntersect 16)
             (ap (λ (t : List ℕ). rowIn 16 sets (length t / 4 - 1)) (R .reads .queriesAre)
-            ∙ rows T (R .reads) .formed .each (report T) (report-in (R .reads .filled .formed)))
+            ∙ forms T (failing-reads R) .shaped .each (report T) (report-in (R .reads .formed)))
             (R .permitting)
             ∙ column-row T a
 
-        pub failing-more : {after shown : List ℕ} → length after ≡ length faults
-            → ((T : Tables) → JoinReads T conditions full entries relations queries first reach named sets a
-            → RowsAre 16 (queryCount T) (faultyRow T a) faults
-            → after ≡ written (concat (queryCount T) (faultyRow T (a + 1))) faults)
-            → length shown ≡ length columns → shown ≡ withRow 16 columns a (storedColumn permits queries sets)
-            → Failing conditions full permits reach entries relations comparisons queries first items lent before after shown (a + 1)
-        failing-more same joined wide stored = record {
+        pub failing-more : {shown : List ℕ} → length after ≡ length faults → length shown ≡ length columns
+            → shown ≡ withRow 16 columns a (storedColumn permits queries sets)
+            → Failing conditions full permits reach relationEntries projectEntries relations comparisons queries items lent before after shown (a + 1)
+        failing-more same wide stored = record {
           size = same ∙ S .size;
           faulty = λ T R.
-              joined T (failing-reads R) (faulty-rows T a lent (S .faulty T R))
+              forms T (failing-reads R) .joined
               ∙ ap (written (concat (queryCount T) (faultyRow T (a + 1)))) (S .faulty T R)
               ∙ written-over (concat (queryCount T) (faultyRow T (a + 1))) (concat (queryCount T) (faultyRow T a)) lent
               (faulty-length T (a + 1) ∙ sym (faulty-length T a));
           shown = filling-more column-wide (S .shown) h (λ T R B. failing-row R) wide stored;
         }
 
-    pub failing-all : items ≤ a → (T : Tables) → FailReads T conditions full permits reach entries relations comparisons queries first
+    pub failing-all : items ≤ a → (T : Tables)
+        → FailReads T conditions full permits reach relationEntries projectEntries relations comparisons queries
         → FailsFilled T items lent faults before columns
     failing-all h T R =
         let e : a ≡ items = (let m = S .shown .most in omega arith) in

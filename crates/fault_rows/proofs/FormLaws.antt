@@ -5,22 +5,23 @@ use mathlib.Core.Bool.{Bool, true, false, cond, not, _&&_, _||_, xor, and-true, 
 use mathlib.Core.List.{List}
 use native.Mathlib.Omega.{arith}
 use borrow.Author.Tests.{lt-ltb, eq-eqb, ne-eqb}
-use lib.Bits.{bitXor}
-use lib.Dec.{eqb}
+use lib.Bits.{bitAnd, bitXor}
+use lib.Dec.{ltb, eqb}
 use Rattle.sets.specs.Bits.{bit, difference}
-use Rattle.sets.specs.Rows.{rowOf, rowIn, rowJoin, rowIntersect, rowMinus, within}
+use Rattle.sets.specs.Rows.{rowOf, rowIn, rowJoin, rowIntersect, rowMinus, within, RowsAre}
 use Rattle.sets.proofs.BitLaws.{bit-none, bit-pow, bit-difference, bit-xor}
-use Rattle.sets.proofs.RowLaws.{join-within, minus-within}
-use Rattle.report.specs.Tables.{Tables, query, queryCount, relationCount, relationExpression, projectStart}
-use Rattle.report.specs.Typing.{at, present, names, projectSet, setOf, faultsOf, faults}
-use Rattle.report.specs.Formed.{QueryLower}
+use Rattle.sets.proofs.RowLaws.{rowOf-same, intersect-rowOf, minus-rowOf, join-within, minus-within}
+use Rattle.report.specs.Tables.{Tables, query, queryCount, report, relationCount, relationExpression, comparisonCount, projectLength, projectStart}
+use Rattle.report.specs.Expressions.{holds, permitted}
+use Rattle.report.specs.Typing.{at, leads, present, names, projectSet, setOf, reached, faultsOf, faults}
+use Rattle.report.specs.Formed.{Formed, QueryLower}
 use Rattle.report.specs.declared.Query.{Query}
 use Rattle.report.proofs.FormedFacts.{query-at, relation-expression}
-use Rattle.attribute_rows.specs.AttributeRows.{hasRow, listRow}
-use Rattle.attribute_rows.specs.RowRules.{QueryStands}
-use Rattle.attribute_rows.proofs.AttributeLaws.{row-same, none-within, has-none, has-and}
+use Rattle.conditions.specs.Conditions.{Conditioned}
+use Rattle.attribute_rows.specs.AttributeRows.{hasRow, listRow, namedRow, setRow}
+use Rattle.attribute_rows.proofs.AttributeLaws.{row-same, has-none, has-and}
 use Rattle.fault_rows.specs.FaultRows.{faultRow}
-use Rattle.fault_rows.specs.FaultRules.{unequalRow, absentRow, AbsentRead, faultStep, FaultRead, FormFaultReads, FaultAt, SomeFault}
+use Rattle.fault_rows.specs.FaultRules.{unequalRow, absentRow, AbsentRead, faultStep, FaultRead}
 
 -- ---- rows of sets
 
@@ -49,97 +50,128 @@ module _ (T : Tables) (a : ℕ) (f g : ℕ → ℕ) where
 
 -- ---- an absent relation
 
-module _ {conditions relations : List ℕ} {r : ℕ} (A : AbsentRead conditions relations r) (full : List ℕ) {a : ℕ} where
-  pub absent-here : a ≡ r → {x : ℕ} {row : List ℕ} → x ≡ relationExpression relations r → row ≡ rowMinus 16 full (rowIn 16 conditions x)
-      → row ≡ absentRow conditions full relations a r
-  absent-here e p is = rw (eq-eqb a r e) (is ∙ ap (λ (y : ℕ). rowMinus 16 full (rowIn 16 conditions y)) p)
+module _ {conditions relations : List ℕ} {r : ℕ} (A : AbsentRead conditions relations r) (among : List ℕ) {a : ℕ} where
+  pub absent-here : a ≡ r → {x : ℕ} {row : List ℕ} → x ≡ relationExpression relations r → row ≡ rowMinus 16 among (rowIn 16 conditions x)
+      → row ≡ absentRow conditions among relations a r
+  absent-here e p is = rw (eq-eqb a r e) (is ∙ ap (λ (y : ℕ). rowMinus 16 among (rowIn 16 conditions y)) p)
 
-  pub absent-other : (a ≡ r → ⊥) → {row : List ℕ} → row ≡ rowOf 16 (λ c. false) → row ≡ absentRow conditions full relations a r
+  pub absent-other : (a ≡ r → ⊥) → {row : List ℕ} → row ≡ rowOf 16 (λ c. false) → row ≡ absentRow conditions among relations a r
   absent-other e is = rw (ne-eqb a r e) is
 
 -- a row, or none
-row-if : (n : ℕ) (h : ℕ → Bool) (t : Bool) → cond t (rowOf 16 (within n h)) (rowOf 16 (λ c. false)) ≡ rowOf 16 (within n (λ c. h c && t))
-row-if n h true = row-same n h (λ c. h c && true) (λ c. sym (and-true (h c)))
-row-if n h false = none-within n ∙ row-same n (λ c. false) (λ c. h c && false) (λ c. sym (and-false (h c)))
+row-if : (p : ℕ → Bool) (t : Bool) → cond t (rowOf 16 p) (rowOf 16 (λ c. false)) ≡ rowOf 16 (λ c. p c && t)
+row-if p true = rowOf-same 16 p (λ c. p c && true) (λ c h. sym (and-true (p c)))
+row-if p false = rowOf-same 16 (λ c. false) (λ c. p c && false) (λ c h. sym (and-false (p c)))
 
-module _ {T : Tables} {conditions full entries relations queries named sets : List ℕ} {a : ℕ}
-    (R : FormFaultReads T conditions full entries relations queries named sets a) where
-  absent-rule : (r : ℕ) → r < relationCount T → absentRow conditions full (T .relations) a r ≡ hasRow T a (λ c. cond (present T c r) 0 (2 ^ r))
+-- ---- one form, cut by what reaches it: a configuration that reaches a form is one of the features' configurations
+
+-- the configurations that reach form q
+abbrev reachRow : Tables → ℕ → List ℕ
+reachRow T q = rowOf 16 (λ c. reached T c q)
+
+-- a row of attribute a
+cut-row : (T : Tables) (q a : ℕ) (set : ℕ → ℕ) {row : List ℕ} → row ≡ hasRow T a set
+    → rowIntersect 16 row (reachRow T q) ≡ rowOf 16 (λ c. reached T c q && bit (set c) a)
+unfolding reached permitted
+cut-row T q a set e =
+    ap (λ (r : List ℕ). rowIntersect 16 r (reachRow T q)) e
+    ∙ intersect-rowOf 16 (within (T .features) (λ c. bit (set c) a)) (λ c. reached T c q)
+    ∙ rowOf-same 16 (λ c. within (T .features) (λ d. bit (set d) a) c && reached T c q) (λ c. reached T c q && bit (set c) a)
+    (λ c h. go (ltb c (2 ^ (T .features))) (holds (T .expressions) c (T .model)) (leads T c q (report T)) (bit (set c) a))
+  where
+    go : (l m d b : Bool) → ((l && b) && ((l && m) && d)) ≡ (((l && m) && d) && b)
+    go true true true b = and-true b
+    go true true false b = and-false b
+    go true false d b = and-false b
+    go false m d b = refl
+
+-- that of an absent relation, where the expression e is the relation's
+cut-absent : (T : Tables) (q e : ℕ) (t : Bool)
+    → rowIntersect 16
+    (cond t (rowMinus 16 (reachRow T q) (rowOf 16 (within (T .features) (λ c. at T c e)))) (rowOf 16 (λ c. false)))
+    (reachRow T q)
+    ≡ rowOf 16 (λ c. reached T c q && (not (at T c e) && t))
+unfolding reached permitted
+cut-absent T q e t =
+    ap (λ (r : List ℕ). rowIntersect 16 r (reachRow T q))
+    (ap (λ (r : List ℕ). cond t r (rowOf 16 (λ c. false))) (minus-rowOf 16 (λ c. reached T c q) (within (T .features) (λ c. at T c e)))
+    ∙ row-if (λ c. reached T c q && not (within (T .features) (λ d. at T d e) c)) t)
+    ∙ intersect-rowOf 16 (λ c. (reached T c q && not (within (T .features) (λ d. at T d e) c)) && t) (λ c. reached T c q)
+    ∙ rowOf-same 16 (λ c. ((reached T c q && not (within (T .features) (λ d. at T d e) c)) && t) && reached T c q)
+    (λ c. reached T c q && (not (at T c e) && t))
+    (λ c h. go (ltb c (2 ^ (T .features))) (holds (T .expressions) c (T .model)) (leads T c q (report T)) (at T c e))
+  where
+    go : (l m d h : Bool) → (((((l && m) && d) && not (l && h)) && t) && ((l && m) && d)) ≡ (((l && m) && d) && (not h && t))
+    go true true true h = and-true (not h && t)
+    go true true false h = refl
+    go true false d h = refl
+    go false m d h = refl
+
+-- the rows that the faults of form q are made of
+module _ {T : Tables} (F : Formed T) (a : ℕ) {conditions named sets : List ℕ} (C : Conditioned T conditions)
+    (compared : RowsAre 16 (comparisonCount T) (namedRow T a) named) {q : ℕ} (B : RowsAre 16 q (setRow T a) sets) where
+  -- where item a is at fault in a form, cut by what reaches form q
+  abbrev cutFaults : Query → List ℕ
+  cutFaults x =
+      rowIntersect 16
+      (faultStep conditions (T .relations) named sets (listRow T a (projectStart T q) (projectLength x)) (reachRow T q) a x)
+      (reachRow T q)
+
+  absent-rule : (r : ℕ) → r < relationCount T
+      → cutFaults (Query.Relation r) ≡ rowOf 16 (λ c. reached T c q && bit (cond (present T c r) 0 (2 ^ r)) a)
   absent-rule r h =
       let e = relationExpression (T .relations) r in
-      ap (λ (l : List ℕ). cond (eqb a r) l (rowOf 16 (λ c. false)))
-      (ap₂ (rowMinus 16) (R .whole) (R .filled .each e (relation-expression (R .filled .formed) r h))
-      ∙ minus-within 16 (T .features) (λ c. true) (λ c. at T c e))
-      ∙ row-if (T .features) (λ c. not (at T c e)) (eqb a r)
-      ∙ row-same (T .features) (λ c. not (at T c e) && eqb a r) (λ c. bit (cond (present T c r) 0 (2 ^ r)) a)
-      (λ c. own (at T c e) ∙ ap (λ (t : Bool). bit (cond (t && at T c e) 0 (2 ^ r)) a) (sym (lt-ltb r (relationCount T) h)))
+      ap (λ (l : List ℕ). rowIntersect 16 (cond (eqb a r) (rowMinus 16 (reachRow T q) l) (rowOf 16 (λ c. false)))
+      (reachRow T q))
+      (C .each e (relation-expression F r h))
+      ∙ cut-absent T q e (eqb a r)
+      ∙ rowOf-same 16 (λ c. reached T c q && (not (at T c e) && eqb a r)) (λ c. reached T c q && bit (cond (present T c r) 0 (2 ^ r)) a)
+      (λ c l. ap (λ (t : Bool). reached T c q && t)
+      (own (at T c e) ∙ ap (λ (t : Bool). bit (cond (t && at T c e) 0 (2 ^ r)) a) (sym (lt-ltb r (relationCount T) h))))
     where
       own : (t : Bool) → (not t && eqb a r) ≡ bit (cond t 0 (2 ^ r)) a
       own true = sym (bit-none a)
       own false = sym (bit-pow r a)
 
-  -- ---- one form
+  unequal-rule : (b d : ℕ) → b < q → d < q
+      → rowIntersect 16 (unequalRow (rowIn 16 sets b) (rowIn 16 sets d)) (reachRow T q)
+      ≡ rowOf 16 (λ c. reached T c q && bit (bitXor (setOf T c b) (setOf T c d)) a)
+  unequal-rule b d l m =
+      cut-row T q a (λ c. bitXor (setOf T c b) (setOf T c d))
+      (ap₂ unequalRow (B .each b l) (B .each d m) ∙ has-unequal T a (λ c. setOf T c b) (λ c. setOf T c d))
 
-  set-at : {b q : ℕ} → b < q → q < queryCount T → rowIn 16 sets b ≡ hasRow T a (λ c. setOf T c b)
-  set-at {b} l h = R .formed .each b (omega arith)
+  fault-rule : (x : Query) → QueryLower T q x → cutFaults x ≡ rowOf 16 (λ c. reached T c q && bit (faultsOf T c q x) a)
+  fault-rule Query.Malformed l = absurd l
+  fault-rule Query.Empty l = cut-row T q a (λ c. 0) (has-none T a)
+  fault-rule (Query.Relation r) l = absent-rule r l
+  fault-rule (Query.Select f b) l =
+      cut-row T q a (λ c. difference (names T c f) (setOf T c b))
+      (ap₂ (rowMinus 16) (compared .each f (l .0)) (B .each b (l .1 .lower)) ∙ has-difference T a (λ c. names T c f) (λ c. setOf T c b))
+  fault-rule (Query.Project n b) l =
+      cut-row T q a (λ c. difference (projectSet T c q n) (setOf T c b))
+      (ap (rowMinus 16 (listRow T a (projectStart T q) n)) (B .each b (l .1 .lower))
+      ∙ has-difference T a (λ c. projectSet T c q n) (λ c. setOf T c b))
+  fault-rule (Query.Choice e b d) l = cut-row T q a (λ c. 0) (has-none T a)
+  fault-rule (Query.Product b d) l =
+      cut-row T q a (λ c. bitAnd (setOf T c b) (setOf T c d))
+      (ap₂ (rowIntersect 16) (B .each b (l .first .lower)) (B .each d (l .second .lower)) ∙ has-and T a (λ c. setOf T c b) (λ c. setOf T c d))
+  fault-rule (Query.Union b d) l = unequal-rule b d (l .first .lower) (l .second .lower)
+  fault-rule (Query.Intersection b d) l = unequal-rule b d (l .first .lower) (l .second .lower)
 
-  fault-rule : {q : ℕ} → q < queryCount T → (x : Query) → QueryLower T q x
-      → faultStep T a (projectStart T q) conditions full (T .relations) named sets x ≡ hasRow T a (λ c. faultsOf T c q x)
-  fault-rule h Query.Malformed l = absurd l
-  fault-rule h Query.Empty l = has-none T a
-  fault-rule h (Query.Relation r) l = absent-rule r l
-  fault-rule h (Query.Select f b) l =
-      ap₂ (rowMinus 16) (R .compared .each f (l .0)) (set-at (l .1 .lower) h) ∙ has-difference T a (λ c. names T c f) (λ c. setOf T c b)
-  fault-rule {q} h (Query.Project n b) l =
-      ap (rowMinus 16 (listRow T a (projectStart T q) n)) (set-at (l .1 .lower) h) ∙ has-difference T a (λ c. projectSet T c q n) (λ c. setOf T c b)
-  fault-rule h (Query.Choice e b d) l = has-none T a
-  fault-rule h (Query.Product b d) l =
-      ap₂ (rowIntersect 16) (set-at (l .first .lower) h) (set-at (l .second .lower) h) ∙ has-and T a (λ c. setOf T c b) (λ c. setOf T c d)
-  fault-rule h (Query.Union b d) l =
-      ap₂ unequalRow (set-at (l .first .lower) h) (set-at (l .second .lower) h) ∙ has-unequal T a (λ c. setOf T c b) (λ c. setOf T c d)
-  fault-rule h (Query.Intersection b d) l =
-      ap₂ unequalRow (set-at (l .first .lower) h) (set-at (l .second .lower) h) ∙ has-unequal T a (λ c. setOf T c b) (λ c. setOf T c d)
+  module _ (h : q < queryCount T) {x : Query} (e : x ≡ query (T .queries) q) where
+    pub fault-read : {relations : List ℕ} → relations ≡ T .relations → FaultRead conditions relations named sets x
+    fault-read is = record {
+      tables = T;
+      form = q;
+      lower = rw e (query-at F q h);
+      related = λ r l. rw is (record { inside = l; rowed = let m = relation-expression F r l in let s = C .room in omega arith });
+      compared = compared .room;
+      below = B .room;
+    }
 
--- the code found form q to be x
-module _ {T : Tables} {conditions full entries relations queries named sets : List ℕ} {q start a : ℕ}
-    (A : FaultAt T conditions full entries relations queries named sets q start a)
-    {x : Query} (e : x ≡ query queries q) where
-  form : x ≡ query (T .queries) q
-  form = e ∙ ap (λ (t : List ℕ). query t q) (A .reads .queriesAre)
-
-  pub fault-stands : QueryStands T q conditions entries start x
-  fault-stands = record {
-    filled = A .reads .filled;
-    entriesAre = A .reads .entriesAre;
-    starts = A .starts;
-    lower = rw form (query-at (A .reads .filled .formed) q (A .inside));
-  }
-
-  pub fault-is : {row : List ℕ} → row ≡ faultStep T a start conditions full relations named sets x → row ≡ faultRow T a q
-  unfolding faults
-  fault-is step =
-      step
-      ∙ ap₂ (λ (i : ℕ) (t : List ℕ). faultStep T a i conditions full t named sets x) (A .starts) (A .reads .relationsAre)
-      ∙ ap (faultStep T a (projectStart T q) conditions full (T .relations) named sets) form
-      ∙ fault-rule (A .reads) (A .inside) (query (T .queries) q) (query-at (A .reads .filled .formed) q (A .inside))
-
-pub fault-read : {conditions full entries relations queries named sets : List ℕ} {q start a : ℕ}
-    → SomeFault conditions full entries relations queries named sets q start a
-    → {x : Query} → x ≡ query queries q → FaultRead conditions entries relations named sets start x
-fault-read {q = q} A e = record {
-  tables = A .tables;
-  form = q;
-  at = fault-stands (A .at) e;
-  relationsAre = A .at .reads .relationsAre;
-  compared = A .at .reads .compared .room;
-  below = let l = A .at .inside in let m = A .at .reads .formed .room in omega arith;
-}
-
--- a relation that a form names is in table 2
-pub absent-read : {T : Tables} {q : ℕ} {conditions entries relations : List ℕ} {start : ℕ} {x : Query} → QueryStands T q conditions entries start x
-    → relations ≡ T .relations
-    → {r : ℕ} → x ≡ Query.Relation r → AbsentRead conditions relations r
-absent-read {T} A p {r} e =
-    let l : r < relationCount T = rw e at (A .lower) in
-    rw p
-    (record { inside = l; rowed = let m = relation-expression (A .filled .formed) r l in let s = A .filled .room in omega arith })
+    -- made so, with the row of the form's own list and the row of what reaches it
+    pub fault-is : {relations listed among row : List ℕ} → relations ≡ T .relations → listed ≡ listRow T a (projectStart T q) (projectLength x)
+        → among ≡ reachRow T q
+        → row ≡ rowIntersect 16 (faultStep conditions relations named sets listed among a x) among → row ≡ faultRow T a q
+    unfolding faults
+    fault-is is list reach step = (rw (is, list, reach) at step) ∙ ap cutFaults e ∙ fault-rule (query (T .queries) q) (query-at F q h)

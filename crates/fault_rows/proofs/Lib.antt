@@ -1,5 +1,4 @@
 pub mod FaultLaws
 pub mod FormLaws
-pub mod JoinLaws
+pub mod TypeLaws
 pub mod FailLaws
-pub mod ItemLaws

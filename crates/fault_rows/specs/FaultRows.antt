@@ -1,5 +1,5 @@
 -- Fault rows: the configurations at which an item is at fault in a query form, and at which the form fails; and the column rows.
-use Prim.Native.Nat.{ℕ, _*_, _^_, _<_, _≤_}
+use Prim.Native.Nat.{ℕ, _*_, _≤_}
 use mathlib.Core.Path.{_≡_}
 use mathlib.Core.Bool.{true, _&&_}
 use mathlib.Core.List.{List}
@@ -8,19 +8,20 @@ use Rattle.sets.specs.Search.{someBelow}
 use Rattle.sets.specs.Lists.{concat}
 use Rattle.sets.specs.Bits.{bit}
 use Rattle.sets.specs.Rows.{rowOf, within, RowsAre}
-use Rattle.report.specs.Tables.{Tables, relationCount, queryCount, relationStart, projectStart}
+use Rattle.report.specs.Tables.{Tables, relationCount, queryCount, entriesOfRelations, entriesOfProjects}
 use Rattle.report.specs.Expressions.{permitted}
 use Rattle.report.specs.Typing.{reached, faults}
 use Rattle.report.specs.ColumnRows.{hasColumn}
 use Rattle.report.specs.Configuring.{written}
-use Rattle.conditions.specs.Conditions.{ExpressionsFilled}
+use Rattle.report.specs.Formed.{Formed}
+use Rattle.conditions.specs.Conditions.{Conditioned}
 
 module _ (T : Tables) where
-  -- the configurations at which item a is at fault in form q, whether they reach it or not
+  -- the configurations that reach form q, and at which item a is at fault in it
   abbrev pub faultRow : ℕ → ℕ → List ℕ
-  faultRow a q = rowOf 16 (within (T .features) (λ c. bit (faults T c q) a))
+  faultRow a q = rowOf 16 (λ c. reached T c q && bit (faults T c q) a)
 
-  -- those that reach form q, and at which an item below `items` is at fault in it
+  -- those at which an item below `items` is
   abbrev pub faultyRow : ℕ → ℕ → List ℕ
   faultyRow items q = rowOf 16 (λ c. reached T c q && someBelow (bit (faults T c q)) items)
 
@@ -28,28 +29,29 @@ module _ (T : Tables) where
   abbrev pub columnRow : ℕ → List ℕ
   columnRow a = rowOf 16 (hasColumn T a)
 
--- what fault rows are worked out from: tables that have passed the form checks, their expression rows, all configurations, and where the lists
--- of project forms start
-pub record FaultReads (T : Tables) (conditions full entries relations comparisons queries : List ℕ) (first : ℕ) : Type 0 where
-  pub filled : ExpressionsFilled T conditions
+-- what fault rows are worked out from: tables that have passed the form checks, their expression rows and all configurations
+pub record FaultReads (T : Tables) (conditions full relationEntries projectEntries relations comparisons queries : List ℕ) : Type 0 where
+  pub formed : Formed T
+  pub filled : Conditioned T conditions
   pub whole : full ≡ rowOf 16 (within (T .features) (λ c. true))
-  pub entriesAre : entries ≡ T .entries
+  pub relationEntriesAre : relationEntries ≡ entriesOfRelations T
+  pub projectEntriesAre : projectEntries ≡ entriesOfProjects T
   pub relationsAre : relations ≡ T .relations
   pub comparisonsAre : comparisons ≡ T .comparisons
   pub queriesAre : queries ≡ T .queries
-  pub begins : first ≡ relationStart (T .relations) (relationCount T)
 
 -- besides, the permitted configurations and those that reach each form
-pub record FailReads (T : Tables) (conditions full permits reach entries relations comparisons queries : List ℕ) (first : ℕ) : Type 0 where
-  pub reads : FaultReads T conditions full entries relations comparisons queries first
+pub record FailReads (T : Tables) (conditions full permits reach relationEntries projectEntries relations comparisons queries : List ℕ)
+    : Type 0 where
+  pub reads : FaultReads T conditions full relationEntries projectEntries relations comparisons queries
   pub permitting : permits ≡ rowOf 16 (permitted T)
   pub reaching : RowsAre 16 (queryCount T) (λ q. rowOf 16 (λ c. reached T c q)) reach
 
 -- there are such tables, `faults` has only zeros and room for a row a form, and `columns` room for a row an item
-pub record FailReadable (conditions full permits reach entries relations comparisons queries : List ℕ) (first items : ℕ)
+pub record FailReadable (conditions full permits reach relationEntries projectEntries relations comparisons queries : List ℕ) (items : ℕ)
     (faults columns : List ℕ) : Type 0 where
   pub tables : Tables
-  pub reads : FailReads tables conditions full permits reach entries relations comparisons queries first
+  pub reads : FailReads tables conditions full permits reach relationEntries projectEntries relations comparisons queries
   pub words : ℕ
   pub clear : faults ≡ replicate words 0
   pub room : queryCount tables * 16 ≤ words
@@ -65,15 +67,3 @@ pub record Items (T : Tables) (items : ℕ) : Type 0 where
   pub attributes : T .attributes ≤ items
   pub relations : relationCount T ≤ items
   pub most : items ≤ 64
-
--- form q, whose list, if it is a project, starts at `start`, and a configuration c
-pub record ItemReads (T : Tables) (conditions full entries relations comparisons queries : List ℕ) (first items q start c : ℕ) : Type 0 where
-  pub reads : FaultReads T conditions full entries relations comparisons queries first
-  pub enough : Items T items
-  pub inside : q < queryCount T
-  pub starts : start ≡ projectStart T q
-  pub configuration : c < 2 ^ (T .features)
-
-pub record ItemReadable (conditions full entries relations comparisons queries : List ℕ) (first items q start c : ℕ) : Type 0 where
-  pub tables : Tables
-  pub reads : ItemReads tables conditions full entries relations comparisons queries first items q start c

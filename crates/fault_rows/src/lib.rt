@@ -2,8 +2,8 @@
 // rows of that attribute.
 use attribute_rows::fill_named_rows;
 use attribute_rows::fill_relation_rows;
-use attribute_rows::fill_set_rows;
 use attribute_rows::list_row;
+use attribute_rows::set_row;
 use decoders::project_length;
 use decoders::query_at;
 use decoders::relation_expression;
@@ -11,18 +11,13 @@ use report::Query;
 use sets::AttributeSet;
 use sets::Row;
 ghost use mathlib.Core.Path.{_≡_};
-ghost use Prim.Native.Nat.{ℕ, _+_, _*_, _<_, _≤_};
+ghost use Prim.Native.Nat.{_+_, _*_, _≤_};
 ghost use lib.ListN.{length};
-ghost use Rattle.sets.specs.Lists.{concat};
-ghost use Rattle.sets.specs.Rows.{rowIn, rowIntersect, rowMinus, withRow, RowsAre};
-ghost use Rattle.report.specs.Tables.{Tables, queryCount};
-ghost use Rattle.report.specs.Typing.{faults};
-ghost use Rattle.report.specs.Configuring.{written};
-ghost use Rattle.attribute_rows.specs.RowRules.{QueryStands};
-ghost use Rattle.fault_rows.specs.FaultRows.{faultRow, faultyRow, FaultReads, FailReads, FailReadable, FailsFilled};
-ghost use Rattle.fault_rows.specs.FaultRows.{ItemReads, ItemReadable};
-ghost use Rattle.fault_rows.specs.FaultRules.{unequalRow, absentRow, AbsentRead, joinedFault, faultStep, FaultRead, FaultAt, SomeFault};
-ghost use Rattle.fault_rows.specs.FaultRules.{JoinReads, JoinReadable, AttributeReadable, Rowed, storedColumn, ColumnRead};
+ghost use Rattle.sets.specs.Rows.{rowIn, rowJoin, rowIntersect, rowMinus, withRow};
+ghost use Rattle.report.specs.Tables.{Tables};
+ghost use Rattle.fault_rows.specs.FaultRows.{FailReads, FailReadable, FailsFilled};
+ghost use Rattle.fault_rows.specs.FaultRules.{unequalRow, absentRow, AbsentRead, faultStep, FaultRead, FormReads, FormReadable, FormsFilled};
+ghost use Rattle.fault_rows.specs.FaultRules.{storedColumn, ColumnRead};
 
 // The configurations at which row b or row d has it, and not both.
 fn unequal_row(rows: &[u64], b: usize, d: usize) -> Row
@@ -50,45 +45,41 @@ fn missing_row(wanted: Row, rows: &[u64], b: usize) -> Row
     wanted.minus(Row::load(rows, b))
 }
 
-// The configurations at which relation r is absent, if it is item a.
-fn absent_row(relations: &[u16], conditions: &[u64], full: Row, r: usize, a: usize) -> Row
+// The configurations of `reached` at which relation r is absent, if it is item a.
+fn absent_row(relations: &[u16], conditions: &[u64], reached: Row, r: usize, a: usize) -> Row
     requires { ⌜ AbsentRead (now conditions) (now relations) r ⌝ }
-    ensures { λ s. ⌜ s .words ≡ absentRow (now (conditions .entry)) (full .words) (now (relations .entry)) a r ⌝ }
+    ensures { λ s. ⌜ s .words ≡ absentRow (now (conditions .entry)) (reached .words) (now (relations .entry)) a r ⌝ }
 {
     if a == r {
         let x = relation_expression(relations, r);
-        return missing_row(full, conditions, x);
+        return missing_row(reached, conditions, x);
     }
     Row::empty()
 }
 
-// The configurations at which item a is at fault in a query form, whether they reach it or not. A project's list starts at `start`; `named`
-// and `sets` have the rows of attribute a.
+// The configurations at which item a is at fault in a query form: all of those in `reached`, perhaps others. `listed` is the row of the form's
+// own list; `named` and `sets`, of which only those of lower forms are read, have the rows of attribute a.
 fn form_faults(
     x: Query,
-    entries: &[u16],
     relations: &[u16],
     conditions: &[u64],
-    full: Row,
     named: &[u64],
     sets: &[u64],
-    start: usize,
+    listed: Row,
+    reached: Row,
     a: usize,
 ) -> Row
-    requires { ⌜ FaultRead (now conditions) (now entries) (now relations) (now named) (now sets) start x ⌝ }
+    requires { ⌜ FaultRead (now conditions) (now relations) (now named) (now sets) x ⌝ }
     ensures { λ r.
-        ⌜ ((T : Tables) (q : ℕ) → QueryStands T q (now (conditions .entry)) (now (entries .entry)) start x
-        → r .words ≡ faultStep T a start (now (conditions .entry)) (full .words) (now (relations .entry)) (now (named .entry)) (now (sets .entry)) x)
-        ⌝ }
+        ⌜ r .words ≡ faultStep (now (conditions .entry)) (now (relations .entry)) (now (named .entry)) (now (sets .entry)) (listed .words)
+        (reached .words) a x ⌝ }
 {
     match x {
         Query::Malformed => Row::empty(),
         Query::Empty => Row::empty(),
-        Query::Relation(r) => absent_row(relations, conditions, full, r, a),
+        Query::Relation(r) => absent_row(relations, conditions, reached, r, a),
         Query::Select(f, b) => missing_row(Row::load(named, f), sets, b),
-        Query::Project(count, b) => {
-            missing_row(list_row(entries, conditions, start, count, a), sets, b)
-        }
+        Query::Project(_, b) => missing_row(listed, sets, b),
         Query::Choice(_, _, _) => Row::empty(),
         Query::Product(b, d) => common_row(sets, b, d),
         Query::Union(b, d) => unequal_row(sets, b, d),
@@ -96,131 +87,72 @@ fn form_faults(
     }
 }
 
-// The same of form q.
+// The configurations of `reached`, which has those that reach the form, at which item a is at fault in it.
 fn fault_row(
-    entries: &[u16],
+    x: Query,
     relations: &[u16],
-    queries: &[u16],
     conditions: &[u64],
-    full: Row,
     named: &[u64],
     sets: &[u64],
-    q: usize,
-    start: usize,
+    listed: Row,
+    reached: Row,
     a: usize,
 ) -> Row
-    requires { ⌜ SomeFault (now conditions) (full .words) (now entries) (now relations) (now queries) (now named) (now sets) q start a ⌝ }
+    requires { ⌜ FaultRead (now conditions) (now relations) (now named) (now sets) x ⌝ }
     ensures { λ r.
-        ⌜ ((T : Tables)
-        → FaultAt T (now (conditions .entry)) (full .words) (now (entries .entry)) (now (relations .entry)) (now (queries .entry))
-        (now (named .entry)) (now (sets .entry)) q start a
-        → r .words ≡ faultRow T a q) ⌝ }
+        ⌜ r .words ≡ rowIntersect 16 (faultStep (now (conditions .entry)) (now (relations .entry)) (now (named .entry)) (now (sets .entry))
+        (listed .words) (reached .words) a x) (reached .words) ⌝ }
 {
-    let x = query_at(queries, q);
-    form_faults(
-        x,
-        entries,
-        relations,
-        conditions,
-        full,
-        named,
-        sets,
-        start,
-        a,
-    )
+    let here = form_faults(x, relations, conditions, named, sets, listed, reached, a);
+    here.intersect(reached)
 }
 
-// Row q of `faults` joined with those configurations of `here` that reach form q.
-fn join_fault(here: Row, reach: &[u64], q: usize, faults: &mut [u64])
-    requires { ⌜ (q * 16 + 16 ≤ length (now reach)) × (q * 16 + 16 ≤ length (now faults)) ⌝ }
-    ensures { λ _.
-        ⌜ now (faults .exit) ≡ withRow 16 (now (faults .entry)) q
-        (joinedFault (here .words) (rowIn 16 (now (reach .entry)) q) (rowIn 16 (now (faults .entry)) q)) ⌝ }
+// Row q of `faults` joined with `here`.
+fn join_fault(here: Row, q: usize, faults: &mut [u64])
+    requires { ⌜ q * 16 + 16 ≤ length (now faults) ⌝ }
+    ensures { λ _. ⌜ now (faults .exit) ≡ withRow 16 (now (faults .entry)) q (rowJoin 16 (rowIn 16 (now (faults .entry)) q) (here .words)) ⌝ }
 {
-    let reached = here.intersect(Row::load(reach, q));
-    let new = Row::load(&*faults, q).join(reached);
-    new.store(&mut *faults, q);
+    let all = Row::load(&*faults, q).join(here);
+    all.store(&mut *faults, q);
 }
 
-// Joins into row q of `faults`, for each form q, the configurations that reach q and at which item a is at fault in it. The lists of project
-// forms start at `first`.
-fn join_faults(
-    entries: &[u16],
+// Types all query forms in attribute a, bottom up: joins into row q of `faults`, for each form q, the configurations that reach q and at which item a
+// is at fault in it, and fills `sets` with the forms' rows.
+fn type_forms(
+    project_entries: &[u16],
     relations: &[u16],
     queries: &[u16],
     conditions: &[u64],
-    full: Row,
-    first: usize,
     reach: &[u64],
     named: &[u64],
-    sets: &[u64],
+    relation_rows: &[u64],
     a: usize,
+    sets: &mut [u64],
     faults: &mut [u64],
 )
-    requires { ⌜ JoinReadable (now conditions) (full .words) (now entries) (now relations) (now queries) first (now reach) (now named) (now sets) a
-        (now faults) ⌝ }
+    requires { ⌜ FormReadable (now conditions) (now «project_entries») (now relations) (now queries) (now reach) (now named) (now «relation_rows») a
+        (now sets) (now faults) ⌝ }
     ensures { λ _.
         ⌜ ((T : Tables)
-        → JoinReads T (now (conditions .entry)) (full .words) (now (entries .entry)) (now (relations .entry)) (now (queries .entry)) first
-        (now (reach .entry)) (now (named .entry)) (now (sets .entry)) a
-        → RowsAre 16 (queryCount T) (faultyRow T a) (now (faults .entry))
-        → now (faults .exit) ≡ written (concat (queryCount T) (faultyRow T (a + 1))) (now (faults .entry))) ⌝ }
+        → FormReads T (now (conditions .entry)) (now («project_entries» .entry)) (now (relations .entry)) (now (queries .entry))
+        (now (reach .entry)) (now (named .entry)) (now («relation_rows» .entry)) a (now (faults .entry))
+        → FormsFilled T a (now (sets .exit)) (now (faults .entry)) (now (faults .exit))) ⌝ }
 {
     let count = queries.len() / 4;
-    let mut start = first;
+    let mut start = 0;
     let mut q = 0;
     while q < count {
-        let here = fault_row(
-            entries,
-            relations,
-            queries,
-            conditions,
-            full,
-            named,
-            sets,
-            q,
-            start,
-            a,
-        );
-        join_fault(here, reach, q, &mut *faults);
-        start += project_length(query_at(queries, q));
+        let x = query_at(queries, q);
+        let n = project_length(x);
+        let listed = list_row(project_entries, conditions, start, n, a);
+        let reached = Row::load(reach, q);
+        let here = fault_row(x, relations, conditions, named, &*sets, listed, reached, a);
+        join_fault(here, q, &mut *faults);
+        let row = set_row(x, conditions, relation_rows, &*sets, listed);
+        row.store(&mut *sets, q);
+        start += n;
         q += 1;
     }
-}
-
-// Fills the rows of attribute a: of the comparisons, the relations and the query forms.
-fn fill_attribute(
-    entries: &[u16],
-    relations: &[u16],
-    comparisons: &[u16],
-    queries: &[u16],
-    conditions: &[u64],
-    full: Row,
-    first: usize,
-    a: usize,
-    named: &mut [u64],
-    relation_rows: &mut [u64],
-    sets: &mut [u64],
-)
-    requires { ⌜ AttributeReadable (now conditions) (full .words) (now entries) (now relations) (now comparisons) (now queries) first (now named)
-        (now «relation_rows») (now sets) ⌝ }
-    ensures { λ _.
-        ⌜ ((T : Tables)
-        → FaultReads T (now (conditions .entry)) (full .words) (now (entries .entry)) (now (relations .entry)) (now (comparisons .entry))
-        (now (queries .entry)) first
-        → Rowed T a (now (named .exit)) (now («relation_rows» .exit)) (now (sets .exit))) ⌝ }
-{
-    fill_named_rows(comparisons, conditions, full, a, &mut *named);
-    fill_relation_rows(entries, relations, conditions, a, &mut *relation_rows);
-    fill_set_rows(
-        entries,
-        queries,
-        conditions,
-        &*relation_rows,
-        first,
-        a,
-        &mut *sets,
-    );
 }
 
 // Stores the column row of attribute a; `sets` has the rows of attribute a.
@@ -238,26 +170,25 @@ fn store_column(queries: &[u16], permitted: Row, sets: &[u64], a: usize, columns
 // Fills `faults` with the rows of the configurations at which each form fails, and `columns` with the column rows: attribute by attribute, of
 // the items below `items`.
 pub fn fill_faults(
-    entries: &[u16],
+    relation_entries: &[u16],
+    project_entries: &[u16],
     relations: &[u16],
     comparisons: &[u16],
     queries: &[u16],
     conditions: &[u64],
     full: Row,
     permitted: Row,
-    first: usize,
     items: usize,
     reach: &[u64],
     faults: &mut [u64],
     columns: &mut [u64],
 )
-    requires { ⌜ FailReadable (now conditions) (full .words) (permitted .words) (now reach) (now entries) (now relations) (now comparisons)
-        (now queries) first items
-        (now faults) (now columns) ⌝ }
+    requires { ⌜ FailReadable (now conditions) (full .words) (permitted .words) (now reach) (now «relation_entries») (now «project_entries»)
+        (now relations) (now comparisons) (now queries) items (now faults) (now columns) ⌝ }
     ensures { λ _.
         ⌜ ((T : Tables)
-        → FailReads T (now (conditions .entry)) (full .words) (permitted .words) (now (reach .entry))
-        (now (entries .entry)) (now (relations .entry)) (now (comparisons .entry)) (now (queries .entry)) first
+        → FailReads T (now (conditions .entry)) (full .words) (permitted .words) (now (reach .entry)) (now («relation_entries» .entry))
+        (now («project_entries» .entry)) (now (relations .entry)) (now (comparisons .entry)) (now (queries .entry))
         → FailsFilled T items (now (faults .entry)) (now (faults .exit)) (now (columns .entry)) (now (columns .exit))) ⌝ }
 {
     let mut named = [0; AttributeSet::MOST_COMPARISONS * Row::WORDS];
@@ -265,92 +196,27 @@ pub fn fill_faults(
     let mut sets = [0; AttributeSet::MOST_QUERIES * Row::WORDS];
     let mut a = 0;
     while a < items {
-        fill_attribute(
-            entries,
+        fill_named_rows(comparisons, conditions, full, a, &mut named);
+        fill_relation_rows(
+            relation_entries,
             relations,
-            comparisons,
-            queries,
             conditions,
-            full,
-            first,
             a,
-            &mut named,
             &mut relation_rows,
-            &mut sets,
         );
-        join_faults(
-            entries,
+        type_forms(
+            project_entries,
             relations,
             queries,
             conditions,
-            full,
-            first,
             reach,
             &named,
-            &sets,
+            &relation_rows,
             a,
+            &mut sets,
             &mut *faults,
         );
         store_column(queries, permitted, &sets, a, &mut *columns);
         a += 1;
     }
-}
-
-// The items at fault in form q at configuration c.
-pub fn items_at(
-    entries: &[u16],
-    relations: &[u16],
-    comparisons: &[u16],
-    queries: &[u16],
-    conditions: &[u64],
-    full: Row,
-    first: usize,
-    items: usize,
-    q: usize,
-    start: usize,
-    c: usize,
-) -> AttributeSet
-    requires { ⌜ ItemReadable (now conditions) (full .words) (now entries) (now relations) (now comparisons) (now queries) first items q start c ⌝ }
-    ensures { λ r.
-        ⌜ ((T : Tables)
-        → ItemReads T (now (conditions .entry)) (full .words) (now (entries .entry)) (now (relations .entry)) (now (comparisons .entry))
-        (now (queries .entry))
-        first items q start c
-        → r .bits ≡ faults T c q) ⌝ }
-{
-    let mut named = [0; AttributeSet::MOST_COMPARISONS * Row::WORDS];
-    let mut relation_rows = [0; AttributeSet::MOST_RELATIONS * Row::WORDS];
-    let mut sets = [0; AttributeSet::MOST_QUERIES * Row::WORDS];
-    let mut found = AttributeSet::empty();
-    let mut a = 0;
-    while a < items {
-        fill_attribute(
-            entries,
-            relations,
-            comparisons,
-            queries,
-            conditions,
-            full,
-            first,
-            a,
-            &mut named,
-            &mut relation_rows,
-            &mut sets,
-        );
-        let here = fault_row(
-            entries,
-            relations,
-            queries,
-            conditions,
-            full,
-            &named,
-            &sets,
-            q,
-            start,
-            a,
-        );
-        found = found.with_if(a, here.has(c));
-        a += 1;
-    }
-    found
 }

@@ -1,23 +1,27 @@
 -- What the checks that accept leave for the next ones.
-use Prim.Native.Nat.{ℕ, zero, suc, _/_, _≤_, _<_}
-use mathlib.Core.Path.{_≡_, sym, _∙_}
+use Prim.Native.Nat.{ℕ, zero, suc, _+_, _*_, _/_, _≤_, _<_}
+use mathlib.Core.Path.{_≡_, sym, ap, ap₂, _∙_}
 use mathlib.Core.Bool.{and-eq-true-iff}
 use mathlib.Core.List.{List, []}
 use native.Mathlib.Nat.{le-refl}
 use native.Mathlib.Omega.{arith}
 use borrow.Author.Tests.{ltb-true, ltb-false, not-false}
-use lib.ListN.{length, getD}
+use lib.ListN.{length, getD, drop}
 use lib.Dec.{ltb, lit<}
-use Rattle.report.specs.Tables.{Tables, shapes, shapeOf, words, entryAttribute, relationExpression, relationStart}
+use Rattle.report.specs.Tables.{Tables, shapes, shapeOf, words, entryAttribute, relationExpression, relationStart, projectedBefore}
 use Rattle.report.specs.Verdicts.{refusal, refuseIf, orElse}
 use Rattle.report.specs.FormChecks.{headCheck, lengthCheck, lengthsCheck, entriesCheck, relationsCheck, entryFits, relationFits}
+use Rattle.report.specs.FormChecks.{queriesCheck, untakenCheck, leftEntryCheck}
 use Rattle.report.specs.Formed.{Sized}
 use Rattle.report.specs.declared.Refusal.{Refusal}
 use Rattle.report.specs.declared.Verdict.{Verdict}
 use Rattle.report.proofs.VerdictLaws.{then-next, then-refused, both-accepted, if-accepted, first-accepted}
 use Rattle.report.proofs.Formed.{sized, all-fit}
-use Rattle.forms.specs.Steps.{QueriesReady, ListsReady, ContentsReady}
+use Rattle.report.proofs.EntryParts.{rest-count, rest-attribute}
+use Rattle.forms.specs.declared.Counts.{Counts}
+use Rattle.forms.specs.Steps.{queriesRest, QueriesReady, ListsReady, ContentsReady}
 use Rattle.forms.proofs.Lists.{list-inside}
+use Rattle.forms.proofs.Queries.{rest-queries}
 
 -- a check that refuses ends the chain; after one that accepts, the rest answers
 pub stops : {v a : Verdict} {r : Refusal} (b : Verdict) → v ≡ a → v ≡ Verdict.Refused r → v ≡ orElse a b
@@ -36,16 +40,33 @@ module _ (e : ℕ) (entries relations : List ℕ) (accepted : relationsCheck e e
       (and-eq-true-iff (ltb (relationExpression relations r) e) _ .0
       (all-fit _ (relationFits e entries relations) (length relations / 2) accepted r h) .1)
 
-  pub ready : {start : ℕ} (queries : List ℕ) → ListsReady entries relations queries → start ≡ relationStart relations (length relations / 2)
-      → QueriesReady entries start queries
-  ready queries l f =
-      record {
-        narrow = l .narrow;
-        starts = rw f (ends (length relations / 2) (le-refl _));
-        few = l .few;
-        some = l .some;
-        fits = l .fits;
-      }
+  split-in : {split : ℕ} → split ≡ relationStart relations (length relations / 2) → split ≤ length entries / 2
+  split-in f = rw f (ends (length relations / 2) (le-refl _))
+
+  module _ {split : ℕ} (f : split ≡ relationStart relations (length relations / 2)) where
+    pub split-words : split * 2 ≤ length entries
+    split-words = let l = split-in f in omega arith
+
+    pub ready : (queries : List ℕ) → ListsReady entries relations queries → QueriesReady (drop (split * 2) entries) split queries
+    ready queries l =
+        let c = rest-count entries split (split-in f) in
+        record {
+          narrow = record { each = λ k h. rw (rest-attribute entries split k) (l .narrow .each (split + k) (omega arith)) };
+          few = let m = l .few in omega arith;
+          some = l .some;
+          fits = l .fits;
+        }
+
+    -- checks 8 to 10 with the project forms' entries are those with table 1
+    pub rest-is : (n : Counts) (queries : List ℕ) → queriesRest n (drop (split * 2) entries) split queries
+        ≡ orElse (queriesCheck (n .expressions) (n .relations) (n .comparisons) entries (relationStart relations (length relations / 2)) queries)
+        (orElse (untakenCheck queries)
+        (leftEntryCheck (relationStart relations (length relations / 2) + projectedBefore queries (length queries / 4)) (length entries / 2)))
+    rest-is n queries =
+        ap₂ (λ (a b : Verdict). orElse a (orElse (untakenCheck queries) b))
+        (rest-queries entries split (split-in f) (n .expressions) (n .relations) (n .comparisons) queries
+        ∙ ap (λ (s : ℕ). queriesCheck (n .expressions) (n .relations) (n .comparisons) entries s queries) f)
+        (ap₂ (λ (s c : ℕ). leftEntryCheck (s + projectedBefore queries (length queries / 4)) c) f (rest-count entries split (split-in f)))
 
 -- check 5 leaves attributes below 64
 pub lists-ready : (m e : ℕ) (entries relations queries : List ℕ) → entriesCheck m e entries ≡ Verdict.Accepted

@@ -13,16 +13,16 @@ use Rattle.report.specs.declared.Verdict.{Verdict}
 use Rattle.report.specs.declared.Operands.{Operands}
 use Rattle.forms.specs.declared.Counts.{Counts}
 
--- after checks 1 and 5 the attributes of table 1 are below 64
+-- after checks 1 and 5 the attributes of entries are below 64
 pub record Narrow (entries : List ℕ) : Type 0 where
   pub each : (k : ℕ) → k < length entries / 2 → entryAttribute entries k < 64
 
--- a list of table 1
+-- a list that lies in the entries
 pub record Inside (entries : List ℕ) (start count : ℕ) : Type 0 where
   pub narrow : Narrow entries
   pub within : start + count ≤ length entries / 2
 
--- a list that starts in table 1 or at its end, and may pass it
+-- a list that starts in the entries or at their end, and may pass it
 pub record ListBegun (entries : List ℕ) (start : ℕ) : Type 0 where
   pub narrow : Narrow entries
   pub starts : start ≤ length entries / 2
@@ -32,7 +32,7 @@ pub record ListBegun (entries : List ℕ) (start : ℕ) : Type 0 where
 abbrev pub marked : List ℕ → ℕ → Bool
 marked marks x = eqb (getD marks x 0) 1
 
--- what form q is tested with: its list starts in table 1, and the forms below it have marks
+-- what form q is tested with: its list starts in the entries, and the forms below it have marks
 pub record FormRoom (entries : List ℕ) (start : ℕ) (marks : List ℕ) (q : ℕ) : Type 0 where
   pub begun : ListBegun entries start
   pub room : q ≤ length marks
@@ -50,15 +50,16 @@ untakenBy marks last = refuseAt (λ q. refusal 9 q 0 0) (lowest (λ q. not (mark
 
 -- ---- the checks from 8, from 6 and from 3 on, and what those before leave for them
 
+-- with the project forms' entries, which are entries `split` and following of table 1
 abbrev pub queriesRest : Counts → List ℕ → ℕ → List ℕ → Verdict
-queriesRest n entries start queries =
-    orElse (queriesCheck (n .expressions) (n .relations) (n .comparisons) entries start queries)
-    (orElse (untakenCheck queries) (leftEntryCheck (start + projectedBefore queries (length queries / 4)) (length entries / 2)))
+queriesRest n projectEntries split queries =
+    orElse (queriesCheck (n .expressions) (n .relations) (n .comparisons) projectEntries 0 queries)
+    (orElse (untakenCheck queries)
+    (leftEntryCheck (split + projectedBefore queries (length queries / 4)) (split + length projectEntries / 2)))
 
-pub record QueriesReady (entries : List ℕ) (start : ℕ) (queries : List ℕ) : Type 0 where
-  pub narrow : Narrow entries
-  pub starts : start ≤ length entries / 2
-  pub few : length entries / 2 ≤ 512
+pub record QueriesReady (projectEntries : List ℕ) (split : ℕ) (queries : List ℕ) : Type 0 where
+  pub narrow : Narrow projectEntries
+  pub few : split + length projectEntries / 2 ≤ 512
   pub some : 1 ≤ length queries / 4
   pub fits : length queries / 4 ≤ 256
 
@@ -66,8 +67,9 @@ abbrev pub listsRest : ℕ → ℕ → List ℕ → List ℕ → List ℕ → Li
 listsRest m e entries relations comparisons queries =
     orElse (relationsCheck e entries relations)
     (orElse (comparisonsCheck m e comparisons)
-    (queriesRest (record { expressions = e; relations = length relations / 2; comparisons = length comparisons / 5 }) entries
-    (relationStart relations (length relations / 2)) queries))
+    (orElse (queriesCheck e (length relations / 2) (length comparisons / 5) entries (relationStart relations (length relations / 2)) queries)
+    (orElse (untakenCheck queries)
+    (leftEntryCheck (relationStart relations (length relations / 2) + projectedBefore queries (length queries / 4)) (length entries / 2)))))
 
 pub record ListsReady (entries relations queries : List ℕ) : Type 0 where
   pub narrow : Narrow entries

@@ -47,7 +47,7 @@ fn no_repeat(entries: &[u16], start: usize, count: usize) -> bool
     true
 }
 
-// A list that starts at `start` lies in table 1, and no attribute is in it twice.
+// A list that starts at `start` lies in the entries, and no attribute is in it twice.
 fn list_fits(entries: &[u16], start: usize, count: usize) -> bool
     requires { ⌜ ListBegun (now entries) start ⌝ }
     ensures { λ r. ⌜ r ≡ listFits (now (entries .entry)) start count ⌝ }
@@ -203,25 +203,30 @@ fn check_end(marks: &[u8], last: usize, end: usize, count: usize) -> Verdict
     or_else(untaken, left)
 }
 
-// Checks 8 to 10; project lists lie from `start` on.
-fn check_queries(counts: Counts, entries: &[u16], start: usize, queries: &[u16]) -> Verdict
-    requires { ⌜ QueriesReady (now entries) start (now queries) ⌝ }
-    ensures { λ r. ⌜ r ≡ queriesRest counts (now (entries .entry)) start (now (queries .entry)) ⌝ }
+// Checks 8 to 10 with the project forms' entries, which are entries `split` and following of table 1.
+fn check_queries(counts: Counts, project_entries: &[u16], split: usize, queries: &[u16]) -> Verdict
+    requires { ⌜ QueriesReady (now «project_entries») split (now queries) ⌝ }
+    ensures { λ r. ⌜ r ≡ queriesRest counts (now («project_entries» .entry)) split (now (queries .entry)) ⌝ }
 {
     let mut marks: [u8; AttributeSet::MOST_QUERIES] = [0; AttributeSet::MOST_QUERIES];
     let count = queries.len() / 4;
-    let mut end = start;
+    let mut end = 0;
     let mut q = 0;
     while q < count {
         let x = query_at(queries, q);
-        if !query_fits(counts, entries, end, &marks, q, x) {
+        if !query_fits(counts, project_entries, end, &marks, q, x) {
             return refuse(8, q);
         }
         mark_operands(&mut marks, query_operands(x));
         end += project_length(x);
         q += 1;
     }
-    check_end(&marks, count - 1, end, entries.len() / 2)
+    check_end(
+        &marks,
+        count - 1,
+        split + end,
+        split + project_entries.len() / 2,
+    )
 }
 
 // Checks 6 to 10, where there are m attributes and e expressions.
@@ -244,13 +249,13 @@ fn check_lists(
     if let Verdict::Refused(_) = w {
         return w;
     }
-    let start = relations_end(relations);
+    let split = relations_end(relations);
     let counts = Counts {
         expressions: e,
         relations: relations.len() / 2,
         comparisons: comparisons.len() / 5,
     };
-    check_queries(counts, entries, start, queries)
+    check_queries(counts, &entries[split * 2..], split, queries)
 }
 
 // Checks 3 to 10.

@@ -4,8 +4,8 @@ use mathlib.Core.Path.{_≡_, ap}
 use mathlib.Core.List.{List}
 use Rattle.report.specs.Tables.{Tables}
 use Rattle.report.specs.declared.Verdict.{Verdict}
-use Rattle.checker.specs.Promises.{Configures}
-use Rattle.checker.specs.declared.Configured.{Configured}
+use Rattle.configuring.specs.Promises.{Configures}
+use Rattle.configuring.specs.declared.Configured.{Configured}
 use Rattle.gelvomas.specs.Answers.{answerNumber, answerWords, configureAnswer, configuredNumber, configuredWords}
 
 pub answered : {v w : Verdict} (lent : List ℕ) → v ≡ w → (answerNumber v ≡ answerNumber w) × (answerWords v lent ≡ answerWords w lent)

@@ -7,8 +7,8 @@ use Rattle.report.specs.Configuring.{configured}
 use Rattle.report.specs.Calls.{answer, checking, configuring}
 use Rattle.report.specs.declared.Refusal.{Refusal}
 use Rattle.report.specs.declared.Verdict.{Verdict}
-use Rattle.checker.specs.Promises.{configuredAnswer}
-use Rattle.checker.specs.declared.Configured.{Configured}
+use Rattle.configuring.specs.Promises.{configuredAnswer}
+use Rattle.configuring.specs.declared.Configured.{Configured}
 
 -- number, place, item and configuration
 abbrev pub refusalWords : Refusal → List ℕ

@@ -1,12 +1,13 @@
 // Checking and configuring as C functions.
-use checker::Configured;
-use checker::check;
-use checker::configure;
+use checking::check;
+use configuring::Configured;
+use configuring::configure;
 use report::Refusal;
 use report::Verdict;
 ghost use mathlib.Core.Path.{_≡_};
 ghost use Rattle.report.specs.Tables.{tablesOf};
-ghost use Rattle.checker.specs.Promises.{Checks, Configures};
+ghost use Rattle.checking.specs.Promises.{Checks};
+ghost use Rattle.configuring.specs.Promises.{Configures};
 ghost use Rattle.gelvomas.specs.Answers.{refusalWords, checkAnswer, answerNumber, answerWords, configureAnswer, configuredNumber, configuredWords};
 
 // Number, place, item and configuration of a refusal, or how many forms tables 1 to 4 have.

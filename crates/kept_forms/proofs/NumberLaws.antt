@@ -2,107 +2,86 @@
 use Prim.Native.Nat.{ℕ, _+_, _*_, _/_, _<_, _≤_}
 use mathlib.Core.Path.{_≡_, refl, sym, ap, ap₂, _∙_}
 use mathlib.Core.Bool.{Bool, true, false, cond, not, _&&_}
-use mathlib.Core.List.{List, [], _∷_, _++_}
+use mathlib.Core.List.{List, [], _∷_}
 use native.Mathlib.Numerals.{add-one}
 use native.Mathlib.Omega.{arith}
 use types.Run.{OneOf, miss}
 use denote.Enum.Declared.{tagOf}
-use lib.ListN.{length, getD, set, drop, length-set, length-append, List·getD-append}
+use lib.ListN.{length, getD, set}
 use Rattle.sets.specs.Search.{countBelow}
-use Rattle.sets.specs.Lists.{table}
 use Rattle.sets.specs.Rows.{rowBit, rowIn}
 use Rattle.sets.proofs.SearchLaws.{count-le}
-use Rattle.sets.proofs.ListLaws.{table-length, table-at, table-more}
-use Rattle.report.specs.Tables.{Tables, comparison, query, expressionCount, comparisonCount, queryCount}
+use Rattle.sets.proofs.ListLaws.{NumbersFilling, filling-none, filling-below, filling-place, filling-more}
+use Rattle.report.specs.Tables.{Tables, comparison, query, expressionCount, queryCount}
 use Rattle.report.specs.Operands.{comparisonOperands, queryOperands, isChoice}
 use Rattle.report.specs.Typing.{at, taken, reached}
-use Rattle.report.specs.Configuring.{targetOf, comparisonTarget, queryTarget, comparisonKept, queryKept, newComparison, newQuery, written}
+use Rattle.report.specs.Configuring.{targetOf, comparisonTarget, queryTarget, comparisonKept, queryKept}
 use Rattle.report.specs.Formed.{OperandsBelow}
 use Rattle.report.specs.declared.Comparison.{Comparison}
 use Rattle.report.specs.declared.Query.{Query}
 use Rattle.report.specs.declared.Operands.{Operands}
-use Rattle.report.proofs.Comparison as comparison-type
-use Rattle.report.proofs.Query as query-type
+use Rattle.report.proofs.Operands as operands-type
 use Rattle.report.proofs.FormedFacts.{comparison-at, comparison-operands, query-at, query-operands}
 use Rattle.report.proofs.StepLaws.{taken-below, comparison-target-in, query-target-in}
-use Rattle.report.proofs.OperandLaws.{View, choice, plain, view, choice-comparison, choice-query}
-use Rattle.kept_lists.specs.Keeping.{AtReads}
-use Rattle.kept_lists.proofs.KeepingLaws.{narrow, rowed, holds-at, reach-row, reach-has}
-use Rattle.kept_forms.specs.Numbering.{NumbersAre, ComparisonReads, ComparisonNumberable, QueryReads, QueryNumberable}
-use Rattle.kept_forms.specs.FormWords.{TakenRead, ComparisonTargetAt, SomeComparison, QueryTargetAt, SomeQuery}
+use Rattle.report.proofs.OperandLaws.{choice-comparison, choice-query}
+use Rattle.at_configuration.specs.AtConfiguration.{AtReads, ComparisonReads}
+use Rattle.at_configuration.proofs.HoldLaws.{rowed, taken-is, taken-in, reach-row, reach-has}
+use Rattle.kept_forms.specs.Numbering.{QueryReads}
+use Rattle.kept_forms.specs.FormWords.{TargetReads, TargetReadable}
 
--- ---- kinds of forms
+-- ---- the number of one form
 
--- the kinds of all comparisons but a choice, and of all query forms but a choice
-abbrev plainComparisons : List ℕ
-plainComparisons = 0 ∷ 1 ∷ 2 ∷ 3 ∷ 4 ∷ 5 ∷ 6 ∷ 7 ∷ []
+-- the kinds of operands but those of a choice
+abbrev plainKinds : List ℕ
+plainKinds = 0 ∷ 1 ∷ 2 ∷ []
 
-abbrev plainQueries : List ℕ
-plainQueries = 0 ∷ 1 ∷ 2 ∷ 3 ∷ 4 ∷ 6 ∷ 7 ∷ 8 ∷ []
+pub plain-operands : (to : Operands) → OneOf plainKinds (tagOf operands-type.the-type to) → isChoice to ≡ false
+plain-operands Operands.Nothing h = refl
+plain-operands (Operands.One a) h = refl
+plain-operands (Operands.Both a b) h = refl
+plain-operands (Operands.Choice e a b) h = absurd (miss plainKinds 3 tt h)
 
--- a form of one of these kinds is plain
-pub plain-comparison : (x : Comparison) → OneOf plainComparisons (tagOf comparison-type.the-type x) → isChoice (comparisonOperands x) ≡ false
-plain-comparison x h = go (view (comparisonOperands x))
-  where
-    go : View (comparisonOperands x) → isChoice (comparisonOperands x) ≡ false
-    go (choice e a b w) = absurd (miss plainComparisons 8 tt (rw (choice-comparison x w) at h))
-    go (plain p) = p
+-- that of a choice is the number of the alternative that it takes
+module _ {T : Tables} {conditions : List ℕ} {c : ℕ} {numbers : List ℕ} {to : Operands} (R : TargetReads T conditions c numbers to) {e a b : ℕ}
+    (w : to ≡ Operands.Choice e a b) where
+  pub choice-rowed : (e * 16 + 16 ≤ length conditions) × (c < 1024)
+  choice-rowed = rowed (R .reads) (R .lower e a b w .0)
 
-pub plain-query : (x : Query) → OneOf plainQueries (tagOf query-type.the-type x) → isChoice (queryOperands x) ≡ false
-plain-query x h = go (view (queryOperands x))
-  where
-    go : View (queryOperands x) → isChoice (queryOperands x) ≡ false
-    go (choice e a b w) = absurd (miss plainQueries 5 tt (rw (choice-query x w) at h))
-    go (plain p) = p
+  module _ {k : ℕ} (p : k ≡ cond (rowBit (rowIn 16 conditions e) c) a b) where
+    pub choice-in : k < length numbers
+    choice-in = let l = R .lower e a b w in taken-in (R .reads) (l .0) (l .1, l .2) p
 
--- ---- a choice on expression e: the number of the alternative that it takes
+    pub choice-number : (kept : ℕ) → getD numbers k 0 ≡ targetOf T c (λ j. getD numbers j 0) kept to
+    choice-number kept =
+        let l = R .lower e a b w in
+        rw w (ap (λ (j : ℕ). getD numbers j 0) (taken-is (R .reads) (l .0) (l .1, l .2) p))
 
-module _ {T : Tables} {conditions : List ℕ} {c : ℕ} (R : AtReads T conditions c) (numbers : List ℕ) {e : ℕ} (h : e < expressionCount T) (b d : ℕ)
-  where
-    taken-read : {n : ℕ} → (b < n) × (d < n) → n ≤ length numbers → TakenRead conditions c numbers e b d
-    taken-read l m = record { rowed = rowed R e h; small = narrow R; first = omega arith; second = omega arith }
+-- form k of a table of T refers to these forms, where `target` says where references to the forms of the table lead
+pub record FormTo (T : Tables) (conditions : List ℕ) (c : ℕ) (target : ℕ → ℕ) (k : ℕ) (to : Operands) : Type 0 where
+  pub reads : AtReads T conditions c
+  pub few : k < 256
+  pub below : OperandsBelow k to
+  pub conditioned : (e a b : ℕ) → to ≡ Operands.Choice e a b → e < expressionCount T
+  pub leads : target k ≡ targetOf T c target k to
 
-    taken-number : {v : ℕ} → v ≡ getD numbers (cond (rowBit (rowIn 16 conditions e) c) b d) 0 → v ≡ getD numbers (taken T c e b d) 0
-    taken-number p = p ∙ ap (λ (t : Bool). getD numbers (cond t b d) 0) (holds-at R e h)
+module _ {T : Tables} {conditions : List ℕ} {c : ℕ} {target : ℕ → ℕ} {k : ℕ} {to : Operands} (F : FormTo T conditions c target k to) where
+  -- its number can be read, where the forms below it have numbers
+  target-reads : {numbers : List ℕ} → k ≤ length numbers → TargetReads T conditions c numbers to
+  target-reads m = record {
+    reads = F .reads;
+    lower = λ e a b w. let l = rw w at (F .below) in (F .conditioned e a b w, omega arith, omega arith);
+  }
 
-module _ {conditions : List ℕ} {c : ℕ} (numbers : List ℕ) {e b d : ℕ} where
-  -- of comparisons, and of query forms
-  module _ {x : Comparison} (w : x ≡ Comparison.Choice e b d) where
-    pub comparison-read : {count : ℕ} → SomeComparison conditions c numbers count x → TakenRead conditions c numbers e b d
-    comparison-read A = let l = rw w at (A .at .lower) in taken-read (A .at .reads) numbers (l .0) b d (l .1, l .2) (A .below)
-
-    pub comparison-taken : {T : Tables} {f : ℕ} → ComparisonTargetAt T f conditions c x → (count : ℕ) {v : ℕ}
-        → v ≡ getD numbers (cond (rowBit (rowIn 16 conditions e) c) b d) 0 → v ≡ targetOf T c (λ k. getD numbers k 0) count (comparisonOperands x)
-    comparison-taken A count p = rw w (taken-number (A .reads) numbers ((rw w at (A .lower)) .0) b d p)
-
-  module _ {x : Query} (w : x ≡ Query.Choice e b d) where
-    pub query-read : {count : ℕ} → SomeQuery conditions c numbers count x → TakenRead conditions c numbers e b d
-    query-read A =
-        let l = rw w at (A .at .lower) in
-        taken-read (A .at .reads) numbers (l .0) b d (l .1 .first .lower, l .1 .second .lower) (A .below)
-
-    pub query-taken : {T : Tables} {q : ℕ} → QueryTargetAt T q conditions c x → (count : ℕ) {v : ℕ}
-        → v ≡ getD numbers (cond (rowBit (rowIn 16 conditions e) c) b d) 0 → v ≡ targetOf T c (λ k. getD numbers k 0) count (queryOperands x)
-    query-taken A count p = rw w (taken-number (A .reads) numbers ((rw w at (A .lower)) .0) b d p)
-
--- ---- the number of one form, where `number` has the new numbers of lower forms, and `count` forms before it are kept
-
-module _ (T : Tables) (c f : ℕ) (keep : ℕ → Bool) (target number : ℕ → ℕ) (count : ℕ) (same : count ≡ countBelow keep f)
-    (each : (j : ℕ) → j < f → number j ≡ countBelow keep (target j)) where
-  number-rule : (o : Operands) → OperandsBelow f o → targetOf T c number count o ≡ countBelow keep (targetOf T c target f o)
-  number-rule Operands.Nothing l = same
-  number-rule (Operands.One a) l = same
-  number-rule (Operands.Both a b) l = same
-  number-rule (Operands.Choice e a b) l = each (taken T c e a b) (taken-below (at T c e) l)
-
--- ---- numbers that were written are those of the forms
-
-pub numbered : (count : ℕ) (f : ℕ → ℕ) (rest : List ℕ) {numbers : List ℕ} → numbers ≡ table count f ++ rest → NumbersAre count f numbers
-numbered count f rest e = record {
-  room = omega (arith, ap length e ∙ length-append (table count f) rest, table-length count f);
-  each = λ k h.
-      ap (λ (l : List ℕ). getD l k 0) e ∙ List·getD-append (table count f) rest 0 k (omega (arith, table-length count f)) ∙ table-at count f 0 k h;
-}
+  -- and is its new number, where `number` has those of the forms below it, and `count` of these are kept
+  number-is : (keep : ℕ → Bool) (number : ℕ → ℕ) (count : ℕ) → count ≡ countBelow keep k
+      → ((j : ℕ) → j < k → number j ≡ countBelow keep (target j)) → targetOf T c number count to ≡ countBelow keep (target k)
+  number-is keep number count same each = go to (F .below) ∙ ap (countBelow keep) (sym (F .leads))
+    where
+      go : (o : Operands) → OperandsBelow k o → targetOf T c number count o ≡ countBelow keep (targetOf T c target k o)
+      go Operands.Nothing l = same
+      go (Operands.One a) l = same
+      go (Operands.Both a b) l = same
+      go (Operands.Choice e a b) l = each (taken T c e a b) (taken-below (at T c e) l)
 
 -- a count is at most one more for one form more
 pub one-more : (t : Bool) → cond t 1 0 ≤ 1
@@ -112,37 +91,42 @@ one-more false = omega arith
 -- ---- a loop that numbers n forms
 
 -- the new numbers of the forms below k stand over `lent`, and `count` of these forms are kept: for tables that the loop can read
-pub record Numbering (Reads : Tables → Type 0) (new : Tables → ℕ → ℕ) (keep : Tables → ℕ → Bool) (n : ℕ) (lent numbers : List ℕ) (count k : ℕ)
+pub record Numbering (Reads : Tables → Type 0) (target : Tables → ℕ → ℕ) (keep : Tables → ℕ → Bool) (n : ℕ) (lent numbers : List ℕ) (count k : ℕ)
     : Type 0 where
-  pub within : k ≤ n
-  pub size : length numbers ≡ length lent
-  pub filled : (T : Tables) → Reads T → numbers ≡ table k (new T) ++ drop k lent
+  pub filling : NumbersFilling Reads (λ T j. countBelow (keep T) (target T j)) n lent numbers k
   pub counted : (T : Tables) → Reads T → count ≡ countBelow (keep T) k
 
-module _ {Reads : Tables → Type 0} {new : Tables → ℕ → ℕ} {keep : Tables → ℕ → Bool} {n : ℕ} {lent : List ℕ} where
-  pub numbering-none : Numbering Reads new keep n lent lent 0 0
-  numbering-none = record { within = omega arith; size = refl; filled = λ T R. refl; counted = λ T R. refl }
+module _ {Reads : Tables → Type 0} {target : Tables → ℕ → ℕ} {keep : Tables → ℕ → Bool} {n : ℕ} {lent : List ℕ} where
+  pub numbering-none : Numbering Reads target keep n lent lent 0 0
+  numbering-none = record { filling = filling-none; counted = λ T R. refl }
 
-  module _ {numbers : List ℕ} {count k : ℕ} (S : Numbering Reads new keep n lent numbers count k) where
-    pub numbering-below : {T : Tables} → Reads T → (j : ℕ) → j < k → getD numbers j 0 ≡ new T j
-    numbering-below {T} R = numbered k (new T) (drop k lent) (S .filled T R) .each
-
+  module _ {numbers : List ℕ} {count k : ℕ} (S : Numbering Reads target keep n lent numbers count k) where
     pub numbering-few : {T : Tables} → Reads T → count ≤ k
     numbering-few {T} R = omega (arith, S .counted T R, count-le (keep T) k)
 
-    pub numbering-more : n ≤ length lent → k < n → {v s : ℕ} → ((T : Tables) → Reads T → v ≡ new T k)
-        → ((T : Tables) → Reads T → s ≡ cond (keep T k) 1 0) → Numbering Reads new keep n lent (set numbers k v) (count + s) (k + 1)
-    numbering-more r h {v} {s} e p = record {
-      within = omega arith;
-      size = length-set numbers k v ∙ S .size;
-      filled = λ T R. ap₂ (λ (l : List ℕ) (x : ℕ). set l k x) (S .filled T R) (e T R) ∙ table-more k (new T) lent (omega arith);
-      counted = λ T R. ap₂ _+_ (S .counted T R) (p T R) ∙ ap (countBelow (keep T)) (sym (add-one k));
-    }
+    -- the next form
+    module _ (room : n ≤ length lent) (h : k < n) {conditions : List ℕ} {c : ℕ} {to : Operands}
+        (F : (T : Tables) → Reads T → FormTo T conditions c (target T) k to) where
+      next-reads : {T : Tables} → Reads T → TargetReads T conditions c numbers to
+      next-reads {T} R = target-reads (F T R) (let p = filling-place (S .filling) room h in omega arith)
 
-    pub numbering-all : n ≤ k → (T : Tables) → Reads T → {whole : ℕ} → n ≡ whole → numbers ≡ written (table whole (new T)) lent
-    numbering-all h T R {whole} e =
-        let m : k ≡ whole = (let l = S .within in omega arith) in
-        S .filled T R ∙ ap₂ (λ (i j : ℕ). table i (new T) ++ drop j lent) m (m ∙ sym (table-length whole (new T)))
+      pub numbering-read : {T : Tables} → Reads T → TargetReadable conditions c numbers count to
+      numbering-read {T} R = record {
+        tables = T;
+        reads = next-reads R;
+        few = let l = numbering-few R in let m = F T R .few in omega arith;
+      }
+
+      pub numbering-more : {v s : ℕ}
+          → ((T : Tables) → TargetReads T conditions c numbers to → v ≡ targetOf T c (λ j. getD numbers j 0) count to)
+          → ((T : Tables) → Reads T → s ≡ cond (keep T k) 1 0) → Numbering Reads target keep n lent (set numbers k v) (count + s) (k + 1)
+      numbering-more e p = record {
+        filling =
+            filling-more (S .filling) room h
+            (λ T R. e T (next-reads R)
+            ∙ number-is (F T R) (keep T) (λ j. getD numbers j 0) count (S .counted T R) (filling-below (S .filling) R .each));
+        counted = λ T R. ap₂ _+_ (S .counted T R) (p T R) ∙ ap (countBelow (keep T)) (sym (add-one k));
+      }
 
 -- ---- the comparisons
 
@@ -155,66 +139,30 @@ module _ {comparisons t : List ℕ} (is : comparisons ≡ t) (f : ℕ) where
   comparison-is e = e ∙ ap (λ (l : List ℕ). comparison l f) is
 
 module _ {T : Tables} {conditions comparisons : List ℕ} {c : ℕ} (R : ComparisonReads T conditions comparisons c) {f : ℕ}
-    (h : f < length comparisons / 5) {x : Comparison}
-    (e : x ≡ comparison comparisons f) where
-  comparison-stands : ComparisonTargetAt T f conditions c x
-  comparison-stands = record {
-    reads = R .reads;
-    lower = rw (comparison-is (R .comparisonsAre) f e) (comparison-at (R .reads .filled .formed) f (comparison-in (R .comparisonsAre) f h));
-  }
+    (h : f < length comparisons / 5) {x : Comparison} (e : x ≡ comparison comparisons f) {to : Operands} (o : to ≡ comparisonOperands x) where
+  comparison-refers : to ≡ comparisonOperands (comparison (T .comparisons) f)
+  comparison-refers = o ∙ ap comparisonOperands (comparison-is (R .comparisonsAre) f e)
 
-  number-is : (number : ℕ → ℕ) {count v : ℕ} → ((j : ℕ) → j < f → number j ≡ newComparison T c j)
-      → count ≡ countBelow (comparisonKept T c) f → v ≡ targetOf T c number count (comparisonOperands x) → v ≡ newComparison T c f
-  number-is number {count} each same p =
-      let F = R .reads .filled .formed in
+  pub comparison-to : FormTo T conditions c (comparisonTarget T c) f to
+  comparison-to =
+      let F = R .reads .formed in
       let k = comparison-in (R .comparisonsAre) f h in
-      p ∙ ap (λ (y : Comparison). targetOf T c number count (comparisonOperands y)) (comparison-is (R .comparisonsAre) f e)
-      ∙ number-rule T c f (comparisonKept T c) (comparisonTarget T c) number count same each (comparisonOperands (comparison (T .comparisons) f))
-      (comparison-operands F f k)
-      ∙ ap (countBelow (comparisonKept T c)) (sym (comparison-target-in F c f k))
+      record {
+        reads = R .reads;
+        few = let m = F .sized3 .fits in omega arith;
+        below = rw comparison-refers (comparison-operands F f k);
+        conditioned = λ e a b w. (rw (choice-comparison (comparison (T .comparisons) f) (sym comparison-refers ∙ w)) at (comparison-at F f k)) .0;
+        leads = comparison-target-in F c f k ∙ ap (targetOf T c (comparisonTarget T c) f) (sym comparison-refers);
+      }
+
+  -- it is kept if it is plain
+  pub comparison-counts : {s : ℕ} → s ≡ cond (not (isChoice to)) 1 0 → s ≡ cond (comparisonKept T c f) 1 0
+  comparison-counts p = p ∙ ap (λ (y : Operands). cond (not (isChoice y)) 1 0) comparison-refers
 
 -- the comparisons below f are numbered
 abbrev pub ComparisonNumbering : (conditions comparisons : List ℕ) (c : ℕ) (lent numbers : List ℕ) (count f : ℕ) → Type 0
 ComparisonNumbering conditions comparisons c =
-    Numbering (λ T. ComparisonReads T conditions comparisons c) (λ T. newComparison T c) (λ T. comparisonKept T c) (length comparisons / 5)
-
-module _ {conditions comparisons : List ℕ} {c : ℕ} {lent numbers : List ℕ} {count f : ℕ}
-    (S : ComparisonNumbering conditions comparisons c lent numbers count f) where
-  module _ (A : ComparisonNumberable conditions comparisons c lent) (h : f < length comparisons / 5) where
-    -- few are kept, and there is a place for the next number
-    pub comparisons-few : count ≤ 256
-    comparisons-few =
-        let l = numbering-few S (A .reads) in
-        let m = A .reads .reads .filled .formed .sized3 .fits in
-        let k = comparison-in (A .reads .comparisonsAre) f h in
-        omega arith
-
-    pub comparison-place : f < length numbers
-    comparison-place = let m = A .room in let s = S .size in omega arith
-
-  module _ (A : ComparisonNumberable conditions comparisons c lent) (h : f < length comparisons / 5) {x : Comparison}
-      (e : x ≡ comparison comparisons f) where
-    pub some-comparison : SomeComparison conditions c numbers count x
-    some-comparison = record {
-      tables = A .tables;
-      form = f;
-      at = comparison-stands (A .reads) h e;
-      below = let m = comparison-place A h in omega arith;
-      few = let m = comparisons-few A h in omega arith;
-    }
-
-    pub comparisons-more : {v s : ℕ}
-        → ((T : Tables) (f : ℕ) → ComparisonTargetAt T f conditions c x → v ≡ targetOf T c (λ k. getD numbers k 0) count (comparisonOperands x))
-        → s ≡ cond (not (isChoice (comparisonOperands x))) 1 0
-        → ComparisonNumbering conditions comparisons c lent (set numbers f v) (count + s) (f + 1)
-    comparisons-more p q =
-        numbering-more S (A .room) h
-        (λ T R. number-is R h e (λ k. getD numbers k 0) (numbering-below S R) (S .counted T R) (p T f (comparison-stands R h e)))
-        (λ T R. q ∙ ap (λ (y : Comparison). cond (not (isChoice (comparisonOperands y))) 1 0) (comparison-is (R .comparisonsAre) f e))
-
-  pub comparisons-all : length comparisons / 5 ≤ f → (T : Tables) → ComparisonReads T conditions comparisons c
-      → numbers ≡ written (table (comparisonCount T) (newComparison T c)) lent
-  comparisons-all h T R = numbering-all S h T R (ap (λ (t : List ℕ). length t / 5) (R .comparisonsAre))
+    Numbering (λ T. ComparisonReads T conditions comparisons c) (λ T. comparisonTarget T c) (λ T. comparisonKept T c) (length comparisons / 5)
 
 -- ---- the query forms
 
@@ -234,55 +182,27 @@ module _ {T : Tables} {conditions reach queries : List ℕ} {c : ℕ} (R : Query
     pub query-is : x ≡ query (T .queries) q
     query-is = e ∙ ap (λ (t : List ℕ). query t q) (R .queriesAre)
 
-    pub query-stands : QueryTargetAt T q conditions c x
-    query-stands = record { reads = R .reads; lower = rw query-is (query-at (R .reads .filled .formed) q query-in) }
+    module _ {to : Operands} (o : to ≡ queryOperands x) where
+      query-refers : to ≡ queryOperands (query (T .queries) q)
+      query-refers = o ∙ ap queryOperands query-is
 
-    query-number-is : (number : ℕ → ℕ) {count v : ℕ} → ((j : ℕ) → j < q → number j ≡ newQuery T c j)
-        → count ≡ countBelow (queryKept T c) q → v ≡ targetOf T c number count (queryOperands x) → v ≡ newQuery T c q
-    query-number-is number {count} each same p =
-        let F = R .reads .filled .formed in
-        p ∙ ap (λ (y : Query). targetOf T c number count (queryOperands y)) query-is
-        ∙ number-rule T c q (queryKept T c) (queryTarget T c) number count same each (queryOperands (query (T .queries) q))
-        (query-operands F q query-in)
-        ∙ ap (countBelow (queryKept T c)) (sym (query-target-in F c q query-in))
+      pub query-to : FormTo T conditions c (queryTarget T c) q to
+      query-to =
+          let F = R .reads .formed in
+          let k = query-in in
+          record {
+            reads = R .reads;
+            few = let m = F .sized4 .fits in omega arith;
+            below = rw query-refers (query-operands F q k);
+            conditioned = λ e a b w. (rw (choice-query (query (T .queries) q) (sym query-refers ∙ w)) at (query-at F q k)) .0;
+            leads = query-target-in F c q k ∙ ap (targetOf T c (queryTarget T c) q) (sym query-refers);
+          }
+
+      -- it is kept if c reaches it and it is plain
+      pub query-counts : {s : ℕ} {b : Bool} → b ≡ rowBit (rowIn 16 reach q) c → s ≡ cond (b && not (isChoice to)) 1 0 → s ≡ cond (queryKept T c q) 1 0
+      query-counts r p = p ∙ ap₂ (λ (t : Bool) (y : Operands). cond (t && not (isChoice y)) 1 0) (r ∙ reached-at) query-refers
 
 -- the query forms below q are numbered
 abbrev pub QueryNumbering : (conditions reach queries : List ℕ) (c : ℕ) (lent numbers : List ℕ) (count q : ℕ) → Type 0
 QueryNumbering conditions reach queries c =
-    Numbering (λ T. QueryReads T conditions reach queries c) (λ T. newQuery T c) (λ T. queryKept T c) (length queries / 4)
-
-module _ {conditions reach queries : List ℕ} {c : ℕ} {lent numbers : List ℕ} {count q : ℕ}
-    (S : QueryNumbering conditions reach queries c lent numbers count q)
-  where
-    module _ (A : QueryNumberable conditions reach queries c lent) (h : q < length queries / 4) where
-      -- few are kept, and there is a place for the next number
-      pub queries-few : count ≤ 256
-      queries-few =
-          let l = numbering-few S (A .reads) in let m = A .reads .reads .filled .formed .sized4 .fits in let k = query-in (A .reads) h in
-          omega arith
-
-      pub query-place : q < length numbers
-      query-place = let m = A .room in let s = S .size in omega arith
-
-    module _ (A : QueryNumberable conditions reach queries c lent) (h : q < length queries / 4) {x : Query} (e : x ≡ query queries q) where
-      pub some-query : SomeQuery conditions c numbers count x
-      some-query = record {
-        tables = A .tables;
-        form = q;
-        at = query-stands (A .reads) h e;
-        below = let m = query-place A h in omega arith;
-        few = let m = queries-few A h in omega arith;
-      }
-
-      pub queries-more : {v s : ℕ} {b : Bool}
-          → ((T : Tables) (q : ℕ) → QueryTargetAt T q conditions c x → v ≡ targetOf T c (λ k. getD numbers k 0) count (queryOperands x))
-          → b ≡ rowBit (rowIn 16 reach q) c → s ≡ cond (b && not (isChoice (queryOperands x))) 1 0
-          → QueryNumbering conditions reach queries c lent (set numbers q v) (count + s) (q + 1)
-      queries-more p r s =
-          numbering-more S (A .room) h
-          (λ T R. query-number-is R h e (λ k. getD numbers k 0) (numbering-below S R) (S .counted T R) (p T q (query-stands R h e)))
-          (λ T R. s ∙ ap₂ (λ (t : Bool) (y : Query). cond (t && not (isChoice (queryOperands y))) 1 0) (r ∙ reached-at R h) (query-is R h e))
-
-    pub queries-all : length queries / 4 ≤ q → (T : Tables) → QueryReads T conditions reach queries c
-        → numbers ≡ written (table (queryCount T) (newQuery T c)) lent
-    queries-all h T R = numbering-all S h T R (ap (λ (t : List ℕ). length t / 4) (R .queriesAre))
+    Numbering (λ T. QueryReads T conditions reach queries c) (λ T. queryTarget T c) (λ T. queryKept T c) (length queries / 4)

@@ -10,32 +10,29 @@ use Rattle.sets.specs.Lists.{concat}
 use Rattle.sets.specs.Rows.{rowBit, rowIn}
 use Rattle.sets.specs.Writing.{WrittenAt}
 use Rattle.sets.proofs.WritingLaws.{same-written, same-room}
-use Rattle.report.specs.Tables.{Tables, query, comparisonCount, projectLength, projectedBefore, projectStart}
+use Rattle.report.specs.Tables.{Tables, query, comparisonCount, projectLength, projectedBefore, relationsEnd, projectStart}
 use Rattle.report.specs.Typing.{reached}
 use Rattle.report.specs.Operands.{queryOperands, isChoice}
-use Rattle.report.specs.Configuring.{queryKept, newComparison, newQuery, keptLength, queryFormOf, configured}
+use Rattle.report.specs.Configuring.{queryKept, newComparison, newQuery, keptLength, queryFormOf}
 use Rattle.report.specs.Formed.{QueryLower}
 use Rattle.report.specs.declared.Query.{Query}
-use Rattle.report.proofs.FormedFacts.{query-at, project-within}
-use Rattle.kept_lists.specs.Keeping.{KeptListReads, KeptListReadable, PresentReads, PresentReadable}
+use Rattle.report.proofs.FormedFacts.{query-at}
+use Rattle.at_configuration.specs.AtConfiguration.{ListReads, ListReadable, PresentReads, PresentReadable}
+use Rattle.at_configuration.proofs.ListLaws.{form-lower, form-list}
 use Rattle.kept_lists.proofs.StepLaws.{Keeping, keeping-none, keeping-room, keeping-more, keeping-all, keeping-length}
 use Rattle.kept_forms.specs.Numbering.{queryForms, QueryFormReads, QueryFormWritable}
-use Rattle.kept_forms.specs.FormWords.{queryWords, FormAt, SomeForm}
-use Rattle.kept_forms.proofs.NumberLaws.{query-in, query-is, query-stands, reached-at}
+use Rattle.kept_forms.specs.FormWords.{queryWords, FormReads, SomeForm}
+use Rattle.kept_forms.proofs.NumberLaws.{query-in, query-is, reached-at}
 
 -- ---- what the words of one form are made of can be read
 
 module _ {T : Tables} {q : ℕ} {conditions entries relations : List ℕ} {c start : ℕ} {x : Query}
-    (A : FormAt T q conditions entries relations c start x) where
+    (A : FormReads T q conditions entries relations c start x) where
   pub relation-reads : PresentReads T conditions relations c
-  relation-reads = record { reads = A .stands .reads; relationsAre = A .relationsAre }
+  relation-reads = record { reads = A .at .reads; relationsAre = A .relationsAre }
 
-  pub project-reads : {n b : ℕ} → x ≡ Query.Project n b → KeptListReads T conditions entries c start n
-  project-reads e = record {
-    reads = A .stands .reads;
-    entriesAre = A .entriesAre;
-    lies = rw (A .starts) ((rw e at (A .stands .lower)) .0 .inside);
-  }
+  pub project-reads : {n b : ℕ} → x ≡ Query.Project n b → ListReads T (relationsEnd T) conditions entries c start n
+  project-reads e = form-list (A .at) (sym (ap projectLength e))
 
 module _ {keep : Bool} {conditions entries relations : List ℕ} {c start : ℕ} {comparisonNumbers queryNumbers : List ℕ} {x : Query} {out : List ℕ}
     {at : ℕ}
@@ -43,12 +40,12 @@ module _ {keep : Bool} {conditions entries relations : List ℕ} {c start : ℕ}
   pub some-relation : {a : ℕ} → x ≡ Query.Relation a → PresentReadable conditions relations c a
   some-relation e = record {
     tables = A .tables;
-    reads = relation-reads (A .stands);
-    few = let l = rw e at (A .stands .stands .lower) in omega arith;
+    reads = relation-reads (A .reads);
+    few = let l = rw e at (form-lower (A .reads .at)) in omega arith;
   }
 
-  pub some-project : {n b : ℕ} → x ≡ Query.Project n b → KeptListReadable conditions entries c start n
-  some-project e = record { tables = A .tables; reads = project-reads (A .stands) e }
+  pub some-project : {n b : ℕ} → x ≡ Query.Project n b → ListReadable conditions entries c start n
+  some-project e = record { tables = A .tables; offset = relationsEnd (A .tables); reads = project-reads (A .reads) e }
 
 -- the same words, the second under another name
 pub same-second : {kind a a′ b p : ℕ} {o o′ : List ℕ} {at : ℕ} → a ≡ a′ → WrittenAt (kind ∷ a ∷ b ∷ 0 ∷ []) o at o′ p
@@ -69,7 +66,8 @@ module _ (T : Tables) (c : ℕ) where
     pair kind {a} {b} l m = sym (ap₂ (λ (i j : ℕ). kind ∷ i ∷ j ∷ 0 ∷ []) (below a l) (below b m))
 
     query-words : (t : Bool) (y : Query) → QueryLower T q y
-        → cond (t && not (isChoice (queryOperands y))) (queryFormOf T c q y) [] ≡ cond t (queryWords T c (projectStart T q) comparisonNumbers queryNumbers y) []
+        → cond (t && not (isChoice (queryOperands y))) (queryFormOf T c q y) []
+        ≡ cond t (queryWords T c (projectedBefore (T .queries) q) comparisonNumbers queryNumbers y) []
     query-words false y l = refl
     query-words true Query.Malformed l = refl
     query-words true Query.Empty l = refl
@@ -82,72 +80,66 @@ module _ (T : Tables) (c : ℕ) where
     query-words true (Query.Union a b) l = pair 6 (l .first .lower) (l .second .lower)
     query-words true (Query.Intersection a b) l = pair 7 (l .first .lower) (l .second .lower)
 
--- what all query forms write is table 4 of the written tables
-pub queries-configured : (T : Tables) (c : ℕ) → configured T c .queries ≡ queryForms T c
-unfolding configured queryForms
-queries-configured T c = refl
-
-module _ {T : Tables} {conditions reach entries relations queries : List ℕ} {begin c : ℕ} {comparisonNumbers queryNumbers : List ℕ}
-    (R : QueryFormReads T conditions reach entries relations queries begin c comparisonNumbers queryNumbers) where
-  -- it is what they write one after another
+module _ {T : Tables} {conditions reach entries relations queries : List ℕ} {c : ℕ} {comparisonNumbers queryNumbers : List ℕ}
+    (R : QueryFormReads T conditions reach entries relations queries c comparisonNumbers queryNumbers) where
+  -- what all query forms write, one after another
   query-text : queryForms T c ≡ concat (length queries / 4) (queryPart T c)
   unfolding queryForms
   query-text = ap (λ (t : List ℕ). concat (length t / 4) (queryPart T c)) (sym (R .reads .queriesAre))
 
-  module _ {q start : ℕ} (starts : start ≡ begin + projectedBefore queries q) (h : q < length queries / 4) {x : Query} (e : x ≡ query queries q) where
-    here : start ≡ projectStart T q
-    here = starts ∙ ap₂ (λ (i : ℕ) (t : List ℕ). i + projectedBefore t q) (R .begins) (R .reads .queriesAre)
+  module _ {q start : ℕ} (starts : start ≡ projectedBefore queries q) (h : q < length queries / 4) {x : Query} (e : x ≡ query queries q) where
+    here : start ≡ projectedBefore (T .queries) q
+    here = starts ∙ ap (λ (t : List ℕ). projectedBefore t q) (R .reads .queriesAre)
 
-    form-stands : FormAt T q conditions entries relations c start x
-    form-stands = record { stands = query-stands (R .reads) h e; entriesAre = R .entriesAre; relationsAre = R .relationsAre; starts = here }
+    form-reads : FormReads T q conditions entries relations c start x
+    form-reads = record {
+      at = record {
+        reads = R .reads .reads;
+        entriesAre = R .entriesAre;
+        inside = query-in (R .reads) h;
+        form = query-is (R .reads) h e;
+        starts = here;
+      };
+      relationsAre = R .relationsAre;
+    }
 
     part-is : {b : Bool} → b ≡ rowBit (rowIn 16 reach q) c → queryPart T c q ≡ cond b (queryWords T c start comparisonNumbers queryNumbers x) []
     part-is {b} r =
         query-words T c comparisonNumbers queryNumbers q (R .comparisonsNumbered .each)
         (λ j l. R .queriesNumbered .each j (let k = query-in (R .reads) h in omega arith)) (reached T c q) (query (T .queries) q)
-        (query-at (R .reads .reads .filled .formed) q (query-in (R .reads) h))
-        ∙ ap₂ (λ (t : Bool) (y : Query). cond t (queryWords T c (projectStart T q) comparisonNumbers queryNumbers y) [])
+        (query-at (R .reads .reads .formed) q (query-in (R .reads) h))
+        ∙ ap₂ (λ (t : Bool) (y : Query). cond t (queryWords T c (projectedBefore (T .queries) q) comparisonNumbers queryNumbers y) [])
         (sym (r ∙ reached-at (R .reads) h))
         (sym (query-is (R .reads) h e))
         ∙ ap (λ (i : ℕ). cond b (queryWords T c i comparisonNumbers queryNumbers x) []) (sym here)
 
-    next-small : start + projectLength x ≤ 512
-    next-small =
-        let k = query-in (R .reads) h in
-        let l = project-within (R .reads .reads .filled .formed) (q + 1) (omega arith) in
-        let m = R .reads .reads .filled .formed .sized1 .fits in
-        let n = ap (projectedBefore (T .queries)) (add-one q) in
-        let y = ap projectLength (query-is (R .reads) h e) in
-        let b = here in
-        omega arith
-
 -- ---- the loop over the query forms
 
 -- what those below q write stands at the front, up to p, and the list of the next project starts at `start`
-pub record QueryWriting (conditions reach entries relations queries : List ℕ) (begin c : ℕ) (comparisonNumbers queryNumbers first out : List ℕ)
+pub record QueryWriting (conditions reach entries relations queries : List ℕ) (c : ℕ) (comparisonNumbers queryNumbers first out : List ℕ)
     (q start p : ℕ) : Type 0 where
-  pub keeping : Keeping (λ T. QueryFormReads T conditions reach entries relations queries begin c comparisonNumbers queryNumbers) (λ T. queryPart T c)
+  pub keeping : Keeping (λ T. QueryFormReads T conditions reach entries relations queries c comparisonNumbers queryNumbers) (λ T. queryPart T c)
       (length queries / 4) first 0 out q p
-  pub starts : start ≡ begin + projectedBefore queries q
+  pub starts : start ≡ projectedBefore queries q
 
-module _ {conditions reach entries relations queries : List ℕ} {begin c : ℕ} {comparisonNumbers queryNumbers first : List ℕ} where
-  pub query-forms-none : QueryWriting conditions reach entries relations queries begin c comparisonNumbers queryNumbers first first 0 begin 0
-  query-forms-none = record { keeping = keeping-none; starts = omega arith }
+module _ {conditions reach entries relations queries : List ℕ} {c : ℕ} {comparisonNumbers queryNumbers first : List ℕ} where
+  pub query-forms-none : QueryWriting conditions reach entries relations queries c comparisonNumbers queryNumbers first first 0 0 0
+  query-forms-none = record { keeping = keeping-none; starts = refl }
 
   module _ {out : List ℕ} {q start p : ℕ}
-      (S : QueryWriting conditions reach entries relations queries begin c comparisonNumbers queryNumbers first out q start p) where
+      (S : QueryWriting conditions reach entries relations queries c comparisonNumbers queryNumbers first out q start p) where
     module _ (h : q < length queries / 4) {x : Query} (e : x ≡ query queries q) where
-      pub query-forms-small : QueryFormWritable conditions reach entries relations queries begin c comparisonNumbers queryNumbers first
-          → start + projectLength x ≤ 512
-      query-forms-small A = next-small (A .reads) (S .starts) h e
+      pub query-forms-small : QueryFormWritable conditions reach entries relations queries c comparisonNumbers queryNumbers first
+          → start + projectLength x ≤ length entries / 2
+      query-forms-small A = form-list (form-reads (A .reads) (S .starts) h e .at) refl .lies
 
       module _ {b : Bool} (r : b ≡ rowBit (rowIn 16 reach q) c) where
-        pub query-forms-read : QueryFormWritable conditions reach entries relations queries begin c comparisonNumbers queryNumbers first
+        pub query-forms-read : QueryFormWritable conditions reach entries relations queries c comparisonNumbers queryNumbers first
             → SomeForm b conditions entries relations c start comparisonNumbers queryNumbers x out p
         query-forms-read A = record {
           tables = A .tables;
           form = q;
-          stands = form-stands (A .reads) (S .starts) h e;
+          reads = form-reads (A .reads) (S .starts) h e;
           compared = A .reads .comparisonsNumbered .room;
           below = let m = A .reads .queriesNumbered .room in let k = query-in (A .reads .reads) h in omega arith;
           room =
@@ -156,23 +148,21 @@ module _ {conditions reach entries relations queries : List ℕ} {begin c : ℕ}
         }
 
         pub query-forms-more : {o : List ℕ} {n s : ℕ}
-            → ((T : Tables) (k : ℕ) → FormAt T k conditions entries relations c start x
+            → ((T : Tables) (k : ℕ) → FormReads T k conditions entries relations c start x
             → WrittenAt (cond b (queryWords T c start comparisonNumbers queryNumbers x) []) out p o n)
-            → s ≡ projectLength x → QueryWriting conditions reach entries relations queries begin c comparisonNumbers queryNumbers first o (q + 1)
+            → s ≡ projectLength x → QueryWriting conditions reach entries relations queries c comparisonNumbers queryNumbers first o (q + 1)
             (start + s) n
         query-forms-more w y = record {
           keeping =
-              keeping-more (S .keeping) h (λ T R. same-written (part-is R (S .starts) h e r) (w T q (form-stands R (S .starts) h e)));
-          starts =
-              let i = S .starts in let m = ap (projectedBefore queries) (add-one q) in let z = y ∙ ap projectLength e in
-              omega arith;
+              keeping-more (S .keeping) h (λ T R. same-written (part-is R (S .starts) h e r) (w T q (form-reads R (S .starts) h e)));
+          starts = ap₂ _+_ (S .starts) (y ∙ ap projectLength e) ∙ ap (projectedBefore queries) (sym (add-one q));
         }
 
-    pub query-forms-long : QueryFormWritable conditions reach entries relations queries begin c comparisonNumbers queryNumbers first
+    pub query-forms-long : QueryFormWritable conditions reach entries relations queries c comparisonNumbers queryNumbers first
         → length out ≡ length first
     query-forms-long A = keeping-length (S .keeping) (A .reads)
 
     pub query-forms-all : length queries / 4 ≤ q → (T : Tables)
-        → QueryFormReads T conditions reach entries relations queries begin c comparisonNumbers queryNumbers
+        → QueryFormReads T conditions reach entries relations queries c comparisonNumbers queryNumbers
         → WrittenAt (queryForms T c) first 0 out p
     query-forms-all h T R = same-written (query-text R) (keeping-all (S .keeping) h T R)

@@ -11,7 +11,7 @@ use Rattle.sets.proofs.WritingLaws.{same-length, same-written, same-room}
 use Rattle.sets.proofs.WritingLaws.{Writing, writing-none, writing-room, writing-more, writing-all}
 use Rattle.report.specs.Tables.{Tables, word, allZero, unused, comparisonOf, comparison, expressionCount}
 use Rattle.report.specs.Operands.{comparisonOperands, isChoice}
-use Rattle.report.specs.Configuring.{comparisonKept, newComparison, comparisonFormOf, configured}
+use Rattle.report.specs.Configuring.{comparisonKept, newComparison, comparisonFormOf}
 use Rattle.report.specs.Formed.{OperandsBelow}
 use Rattle.report.specs.declared.Comparison.{Comparison}
 use Rattle.report.proofs.FormedFacts.{comparison-at, comparison-operands}
@@ -64,13 +64,8 @@ module _ (T : Tables) (c : ℕ) where
   comparison-words numbers f each (Comparison.Or a b) l = sym (ap₂ (λ (i j : ℕ). 6 ∷ 0 ∷ i ∷ j ∷ 0 ∷ []) (each a (l .0)) (each b (l .1)))
   comparison-words numbers f each (Comparison.Choice a b d) l = refl
 
--- what all comparisons write is table 3 of the written tables
-pub comparisons-configured : (T : Tables) (c : ℕ) → configured T c .comparisons ≡ comparisonForms T c
-unfolding configured comparisonForms
-comparisons-configured T c = refl
-
 module _ {T : Tables} {c : ℕ} {comparisons numbers : List ℕ} (R : ComparisonFormReads T c comparisons numbers) where
-  -- it is what they write one after another
+  -- what all comparisons write, one after another
   comparison-text : comparisonForms T c ≡ concat (length comparisons / 5) (comparisonPart T c)
   unfolding comparisonForms
   comparison-text = ap (λ (t : List ℕ). concat (length t / 5) (comparisonPart T c)) (sym (R .comparisonsAre))

@@ -1,50 +1,28 @@
 -- What the private functions do: the number of one form, and its words with the new numbers. proofs/ ties these to the definitions.
-use Prim.Native.Nat.{ℕ, _+_, _*_, _<_, _≤_}
+use Prim.Native.Nat.{ℕ, _+_, _<_, _≤_}
 use mathlib.Core.Path.{_≡_}
 use mathlib.Core.Bool.{Bool, cond}
 use mathlib.Core.List.{List, [], _∷_}
 use lib.ListN.{length, getD}
 use Rattle.sets.specs.Writing.{Room}
-use Rattle.report.specs.Tables.{Tables, expressionCount, comparisonCount, projectStart}
+use Rattle.report.specs.Tables.{Tables, expressionCount, comparisonCount, relationsEnd}
 use Rattle.report.specs.Configuring.{comparisonWordsOf, queryWordsOf, newRelation, keptLength}
-use Rattle.report.specs.Formed.{ComparisonLower, QueryLower}
+use Rattle.report.specs.Formed.{ComparisonLower}
 use Rattle.report.specs.declared.Comparison.{Comparison}
 use Rattle.report.specs.declared.Query.{Query}
-use Rattle.kept_lists.specs.Keeping.{AtReads}
+use Rattle.report.specs.declared.Operands.{Operands}
+use Rattle.at_configuration.specs.AtConfiguration.{AtReads, FormAt}
 
 -- ---- the number of one form
 
--- expression e has a row, c is in it, and b and d have numbers
-pub record TakenRead (conditions : List ℕ) (c : ℕ) (numbers : List ℕ) (e b d : ℕ) : Type 0 where
-  pub rowed : e * 16 + 16 ≤ length conditions
-  pub small : c < 1024
-  pub first : b < length numbers
-  pub second : d < length numbers
-
--- x may stand as comparison f of tables T
-pub record ComparisonTargetAt (T : Tables) (f : ℕ) (conditions : List ℕ) (c : ℕ) (x : Comparison) : Type 0 where
+-- a form of tables T that refers to these forms: of a choice the expression is one of T, and the alternatives have numbers
+pub record TargetReads (T : Tables) (conditions : List ℕ) (c : ℕ) (numbers : List ℕ) (to : Operands) : Type 0 where
   pub reads : AtReads T conditions c
-  pub lower : ComparisonLower (T .attributes) (expressionCount T) f x
+  pub lower : (e a b : ℕ) → to ≡ Operands.Choice e a b → (e < expressionCount T) × (a < length numbers) × (b < length numbers)
 
--- and the comparisons below it have numbers
-pub record SomeComparison (conditions : List ℕ) (c : ℕ) (numbers : List ℕ) (kept : ℕ) (x : Comparison) : Type 0 where
+pub record TargetReadable (conditions : List ℕ) (c : ℕ) (numbers : List ℕ) (kept : ℕ) (to : Operands) : Type 0 where
   pub tables : Tables
-  pub form : ℕ
-  pub at : ComparisonTargetAt tables form conditions c x
-  pub below : form ≤ length numbers
-  pub few : kept < 65536
-
--- x may stand as query form q of tables T
-pub record QueryTargetAt (T : Tables) (q : ℕ) (conditions : List ℕ) (c : ℕ) (x : Query) : Type 0 where
-  pub reads : AtReads T conditions c
-  pub lower : QueryLower T q x
-
--- and the forms below it have numbers
-pub record SomeQuery (conditions : List ℕ) (c : ℕ) (numbers : List ℕ) (kept : ℕ) (x : Query) : Type 0 where
-  pub tables : Tables
-  pub form : ℕ
-  pub at : QueryTargetAt tables form conditions c x
-  pub below : form ≤ length numbers
+  pub reads : TargetReads tables conditions c numbers to
   pub few : kept < 65536
 
 -- ---- the words of one comparison
@@ -90,10 +68,11 @@ pub record ComparisonWritable (numbers : List ℕ) (x : Comparison) (out : List 
 
 -- ---- the words of one query form
 
--- of tables T at c, a project's list starting at `start`, where `comparisonNumbers` and `queryNumbers` have the new numbers
+-- of tables T at c, where a project's list starts at `start` of the project forms' entries, and `comparisonNumbers` and `queryNumbers` have the
+-- new numbers
 abbrev pub queryWords : Tables → (c start : ℕ) → (comparisonNumbers queryNumbers : List ℕ) → Query → List ℕ
 queryWords T c start comparisonNumbers queryNumbers =
-    queryWordsOf (newRelation T c) (λ k. getD comparisonNumbers k 0) (λ k. getD queryNumbers k 0) (keptLength T c start)
+    queryWordsOf (newRelation T c) (λ k. getD comparisonNumbers k 0) (λ k. getD queryNumbers k 0) (keptLength T c (relationsEnd T + start))
 
 -- b has a number, and there is room for it after a
 pub record OverWritable (queryNumbers : List ℕ) (kind a b : ℕ) (out : List ℕ) (at : ℕ) : Type 0 where
@@ -106,12 +85,10 @@ pub record QueryPairWritable (queryNumbers : List ℕ) (kind a b : ℕ) (out : L
   pub second : b < length queryNumbers
   pub room : Room (kind ∷ getD queryNumbers a 0 ∷ getD queryNumbers b 0 ∷ 0 ∷ []) out at
 
--- x may stand as query form q of tables T, whose tables 1 and 2 can be read
-pub record FormAt (T : Tables) (q : ℕ) (conditions entries relations : List ℕ) (c start : ℕ) (x : Query) : Type 0 where
-  pub stands : QueryTargetAt T q conditions c x
-  pub entriesAre : entries ≡ T .entries
+-- besides the form and the project forms' entries, table 2
+pub record FormReads (T : Tables) (q : ℕ) (conditions entries relations : List ℕ) (c start : ℕ) (x : Query) : Type 0 where
+  pub at : FormAt T q conditions entries c start x
   pub relationsAre : relations ≡ T .relations
-  pub starts : start ≡ projectStart T q
 
 -- the comparisons, and the forms below it, have numbers, and there is room for its words if it is kept
 pub record SomeForm (keep : Bool) (conditions entries relations : List ℕ) (c start : ℕ) (comparisonNumbers queryNumbers : List ℕ) (x : Query)
@@ -119,7 +96,7 @@ pub record SomeForm (keep : Bool) (conditions entries relations : List ℕ) (c s
     : Type 0 where
   pub tables : Tables
   pub form : ℕ
-  pub stands : FormAt tables form conditions entries relations c start x
+  pub reads : FormReads tables form conditions entries relations c start x
   pub compared : comparisonCount tables ≤ length comparisonNumbers
   pub below : form ≤ length queryNumbers
   pub room : Room (cond keep (queryWords tables c start comparisonNumbers queryNumbers x) []) out at

@@ -1,16 +1,16 @@
 -- What configuring at one configuration reads and writes of the comparisons and the queries, with their new numbers.
-use Prim.Native.Nat.{ℕ, _/_, _<_, _≤_}
+use Prim.Native.Nat.{ℕ, _/_, _≤_}
 use mathlib.Core.Path.{_≡_}
 use mathlib.Core.List.{List}
-use lib.ListN.{length, getD}
-use Rattle.sets.specs.Lists.{kept}
+use lib.ListN.{length}
+use Rattle.sets.specs.Lists.{kept, NumbersAre}
 use Rattle.sets.specs.Rows.{rowOf, RowsAre}
 use Rattle.sets.specs.Writing.{Room}
-use Rattle.report.specs.Tables.{Tables, comparison, query, relationCount, comparisonCount, queryCount, relationStart}
+use Rattle.report.specs.Tables.{Tables, comparison, query, comparisonCount, queryCount, entriesOfProjects}
 use Rattle.report.specs.Typing.{reached}
 use Rattle.report.specs.Configuring.{comparisonKept, queryKept, newComparison, newQuery, comparisonFormOf, queryFormOf}
 use Rattle.report.specs.Formed.{Formed}
-use Rattle.kept_lists.specs.Keeping.{AtReads}
+use Rattle.at_configuration.specs.AtConfiguration.{AtReads}
 
 -- ---- what is written, of tables T at configuration c: parts of `configured`
 
@@ -21,22 +21,7 @@ module _ (T : Tables) (c : ℕ) where
   unfoldable pub queryForms : List ℕ
   queryForms = kept (queryKept T c) (λ q. queryFormOf T c q (query (T .queries) q)) (queryCount T)
 
--- the first `count` numbers of a list are those of f
-pub record NumbersAre (count : ℕ) (f : ℕ → ℕ) (numbers : List ℕ) : Type 0 where
-  pub room : count ≤ length numbers
-  pub each : (k : ℕ) → k < count → getD numbers k 0 ≡ f k
-
 -- ---- what each function reads of tables T; `..Numberable`, `..Writable`: there are such tables, and room for what is written
-
--- table 3, at a configuration
-pub record ComparisonReads (T : Tables) (conditions comparisons : List ℕ) (c : ℕ) : Type 0 where
-  pub reads : AtReads T conditions c
-  pub comparisonsAre : comparisons ≡ T .comparisons
-
-pub record ComparisonNumberable (conditions comparisons : List ℕ) (c : ℕ) (numbers : List ℕ) : Type 0 where
-  pub tables : Tables
-  pub reads : ComparisonReads tables conditions comparisons c
-  pub room : length comparisons / 5 ≤ length numbers
 
 -- table 3, and the new numbers at a configuration
 pub record ComparisonFormReads (T : Tables) (c : ℕ) (comparisons numbers : List ℕ) : Type 0 where
@@ -61,18 +46,17 @@ pub record QueryNumberable (conditions reach queries : List ℕ) (c : ℕ) (numb
   pub reads : QueryReads tables conditions reach queries c
   pub room : length queries / 4 ≤ length numbers
 
--- besides, tables 1 and 2, where the lists of the project forms start, and the new numbers
-pub record QueryFormReads (T : Tables) (conditions reach entries relations queries : List ℕ) (first c : ℕ)
+-- besides, the project forms' entries, table 2 and the new numbers
+pub record QueryFormReads (T : Tables) (conditions reach entries relations queries : List ℕ) (c : ℕ)
     (comparisonNumbers queryNumbers : List ℕ) : Type 0 where
   pub reads : QueryReads T conditions reach queries c
-  pub entriesAre : entries ≡ T .entries
+  pub entriesAre : entries ≡ entriesOfProjects T
   pub relationsAre : relations ≡ T .relations
-  pub begins : first ≡ relationStart (T .relations) (relationCount T)
   pub comparisonsNumbered : NumbersAre (comparisonCount T) (newComparison T c) comparisonNumbers
   pub queriesNumbered : NumbersAre (queryCount T) (newQuery T c) queryNumbers
 
-pub record QueryFormWritable (conditions reach entries relations queries : List ℕ) (first c : ℕ)
+pub record QueryFormWritable (conditions reach entries relations queries : List ℕ) (c : ℕ)
     (comparisonNumbers queryNumbers out : List ℕ) : Type 0 where
   pub tables : Tables
-  pub reads : QueryFormReads tables conditions reach entries relations queries first c comparisonNumbers queryNumbers
+  pub reads : QueryFormReads tables conditions reach entries relations queries c comparisonNumbers queryNumbers
   pub room : Room (queryForms tables c) out 0

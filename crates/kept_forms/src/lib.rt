@@ -1,72 +1,58 @@
 // What configuring keeps of comparisons and queries at one configuration, with their new numbers, written into lent tables.
+use at_configuration::holds_at;
+use at_configuration::taken_at;
 use decoders::comparison_at;
+use decoders::comparison_operands;
 use decoders::project_length;
 use decoders::query_at;
+use decoders::query_operands;
 use kept_lists::kept_length;
 use kept_lists::new_relation;
-use kept_lists::row_has;
 use report::Comparison;
+use report::Operands;
 use report::Query;
 ghost use mathlib.Core.Path.{_≡_};
 ghost use mathlib.Core.Bool.{true, _&&_, cond, not};
 ghost use mathlib.Core.List.{[], _∷_};
-ghost use Prim.Native.Nat.{ℕ};
+ghost use Prim.Native.Nat.{ℕ, _+_};
 ghost use lib.ListN.{getD};
 ghost use Rattle.sets.specs.Lists.{table};
-ghost use Rattle.sets.specs.Rows.{rowBit, rowIn};
 ghost use Rattle.sets.specs.Writing.{Room, WrittenAt};
 ghost use Rattle.report.specs.Tables.{Tables, comparisonCount, queryCount};
-ghost use Rattle.report.specs.Operands.{comparisonOperands, queryOperands, isChoice};
+ghost use Rattle.report.specs.Operands.{isChoice};
 ghost use Rattle.report.specs.Configuring.{targetOf, newRelation, keptLength, newComparison, newQuery, written};
-ghost use Rattle.kept_lists.specs.Keeping.{KeptListReads, KeptListReadable, PresentReads, PresentReadable};
-ghost use Rattle.kept_forms.specs.Numbering.{comparisonForms, ComparisonReads, ComparisonNumberable, QueryReads, QueryNumberable};
+ghost use Rattle.at_configuration.specs.AtConfiguration.{ListReads, ListReadable, PresentReads, PresentReadable};
+ghost use Rattle.at_configuration.specs.AtConfiguration.{ComparisonReads, ComparisonNumberable};
+ghost use Rattle.kept_forms.specs.Numbering.{comparisonForms, QueryReads, QueryNumberable};
 ghost use Rattle.kept_forms.specs.Numbering.{ComparisonFormReads, ComparisonFormWritable};
 ghost use Rattle.kept_forms.specs.Numbering.{queryForms, QueryFormReads, QueryFormWritable};
 ghost use Rattle.kept_forms.specs.FormWords.{AtomWritable, BothWritable, ComparisonWritable};
-ghost use Rattle.kept_forms.specs.FormWords.{OverWritable, QueryPairWritable, queryWords, FormAt, SomeForm};
-ghost use Rattle.kept_forms.specs.FormWords.{TakenRead, ComparisonTargetAt, SomeComparison, QueryTargetAt, SomeQuery, comparisonWords};
+ghost use Rattle.kept_forms.specs.FormWords.{OverWritable, QueryPairWritable, queryWords, FormReads, SomeForm};
+ghost use Rattle.kept_forms.specs.FormWords.{TargetReads, TargetReadable, comparisonWords};
 
-// Where expression e holds at c number b of the list, elsewhere number d.
-fn number_taken(conditions: &[u64], c: usize, numbers: &[u16], e: usize, b: usize, d: usize) -> u16
-    requires { ⌜ TakenRead (now conditions) c (now numbers) e b d ⌝ }
-    ensures { λ r. ⌜ r ≡ getD (now (numbers .entry)) (cond (rowBit (rowIn 16 (now (conditions .entry)) e) c) b d) 0 ⌝ }
-{
-    if row_has(conditions, e, c) {
-        return numbers[b];
-    }
-    numbers[d]
-}
-
-// The new number of what comparison x leads to at c, where `kept` comparisons below it are kept and `numbers` has those of lower ones.
-fn comparison_number(
-    x: Comparison,
-    conditions: &[u64],
-    c: usize,
-    numbers: &[u16],
-    kept: usize,
-) -> u16
-    requires { ⌜ SomeComparison (now conditions) c (now numbers) kept x ⌝ }
+// The new number of what a form that refers to these forms leads to at c, where `kept` forms below it are kept and `numbers` has those of lower ones.
+fn form_number(to: Operands, conditions: &[u64], c: usize, numbers: &[u16], kept: usize) -> u16
+    requires { ⌜ TargetReadable (now conditions) c (now numbers) kept to ⌝ }
     ensures { λ r.
-        ⌜ ((T : Tables) (f : ℕ) → ComparisonTargetAt T f (now (conditions .entry)) c x
-        → r ≡ targetOf T c (λ k. getD (now (numbers .entry)) k 0) kept (comparisonOperands x)) ⌝ }
+        ⌜ ((T : Tables) → TargetReads T (now (conditions .entry)) c (now (numbers .entry)) to
+        → r ≡ targetOf T c (λ k. getD (now (numbers .entry)) k 0) kept to) ⌝ }
 {
     let own = kept as u16;
-    if let Comparison::Choice(e, b, d) = x {
-        let comparison = number_taken(conditions, c, numbers, e, b, d);
-        return comparison;
+    if let Operands::Choice(e, a, b) = to {
+        let taken = numbers[taken_at(conditions, c, e, a, b)];
+        return taken;
     }
     own
 }
 
-// How many comparisons are kept of one: of a choice none.
-fn comparison_kept(x: Comparison) -> usize
-    ensures { λ r. ⌜ r ≡ cond (not (isChoice (comparisonOperands x))) 1 0 ⌝ }
+// How many forms are kept of one that refers to these forms: of a choice, or of one that is not reached, none.
+fn kept_if(reached: bool, to: Operands) -> usize
+    ensures { λ r. ⌜ r ≡ cond (reached && not (isChoice to)) 1 0 ⌝ }
 {
-    if let Comparison::Choice(_, _, _) = x {
-        0
-    } else {
-        1
+    if let Operands::Choice(_, _, _) = to {
+        return 0;
     }
+    if reached { 1 } else { 0 }
 }
 
 // The new number of what each comparison leads to at c, into `numbers`: a choice has that of the alternative it takes.
@@ -80,37 +66,12 @@ pub fn number_comparisons(comparisons: &[u16], conditions: &[u64], c: usize, num
     let mut kept = 0;
     let mut f = 0;
     while f < count {
-        let x = comparison_at(comparisons, f);
-        let n = comparison_number(x, conditions, c, &*numbers, kept);
+        let to = comparison_operands(comparison_at(comparisons, f));
+        let n = form_number(to, conditions, c, &*numbers, kept);
         numbers[f] = n;
-        kept += comparison_kept(x);
+        kept += kept_if(true, to);
         f += 1;
     }
-}
-
-// The new number of what query form x leads to at c, where `kept` forms below it are kept and `numbers` has those of lower ones.
-fn query_number(x: Query, conditions: &[u64], c: usize, numbers: &[u16], kept: usize) -> u16
-    requires { ⌜ SomeQuery (now conditions) c (now numbers) kept x ⌝ }
-    ensures { λ r.
-        ⌜ ((T : Tables) (q : ℕ) → QueryTargetAt T q (now (conditions .entry)) c x
-        → r ≡ targetOf T c (λ k. getD (now (numbers .entry)) k 0) kept (queryOperands x)) ⌝ }
-{
-    let own = kept as u16;
-    if let Query::Choice(e, b, d) = x {
-        let query = number_taken(conditions, c, numbers, e, b, d);
-        return query;
-    }
-    own
-}
-
-// How many query forms are kept of one: of a choice, or of one that c does not reach, none.
-fn query_kept(x: Query, reached: bool) -> usize
-    ensures { λ r. ⌜ r ≡ cond (reached && not (isChoice (queryOperands x))) 1 0 ⌝ }
-{
-    if let Query::Choice(_, _, _) = x {
-        return 0;
-    }
-    if reached { 1 } else { 0 }
 }
 
 // The new number of what each query form leads to at c, into `numbers`: a choice has that of the alternative it takes.
@@ -130,10 +91,10 @@ pub fn number_queries(
     let mut kept = 0;
     let mut q = 0;
     while q < count {
-        let x = query_at(queries, q);
-        let n = query_number(x, conditions, c, &*numbers, kept);
+        let to = query_operands(query_at(queries, q));
+        let n = form_number(to, conditions, c, &*numbers, kept);
         numbers[q] = n;
-        kept += query_kept(x, row_has(reach, q, c));
+        kept += kept_if(holds_at(reach, q, c), to);
         q += 1;
     }
 }
@@ -223,9 +184,10 @@ fn relation_word(relations: &[u16], conditions: &[u64], c: usize, a: usize) -> u
 
 // How many of the `count` entries from `start` on hold at c, as a word.
 fn length_word(entries: &[u16], conditions: &[u64], c: usize, start: usize, count: usize) -> u16
-    requires { ⌜ KeptListReadable (now conditions) (now entries) c start count ⌝ }
-    ensures { λ r. ⌜ ((T : Tables) → KeptListReads T (now (conditions .entry)) (now (entries .entry)) c start count → r ≡ keptLength T c start count)
-        ⌝ }
+    requires { ⌜ ListReadable (now conditions) (now entries) c start count ⌝ }
+    ensures { λ r.
+        ⌜ ((T : Tables) (offset : ℕ) → ListReads T offset (now (conditions .entry)) (now (entries .entry)) c start count
+        → r ≡ keptLength T c (offset + start) count) ⌝ }
 {
     kept_length(entries, conditions, c, start, count) as u16
 }
@@ -266,7 +228,7 @@ fn put_pair(
 // Writes a query form that is no choice, with the new numbers of what it refers to; a project's list starts at `start`.
 fn write_query(
     x: Query,
-    entries: &[u16],
+    project_entries: &[u16],
     relations: &[u16],
     conditions: &[u64],
     c: usize,
@@ -276,10 +238,10 @@ fn write_query(
     out: &mut [u16],
     at: usize,
 ) -> usize
-    requires { ⌜ SomeForm true (now conditions) (now entries) (now relations) c start (now «comparison_numbers») (now «query_numbers») x (now out) at
-        ⌝ }
+    requires { ⌜ SomeForm true (now conditions) (now «project_entries») (now relations) c start (now «comparison_numbers») (now «query_numbers») x
+        (now out) at ⌝ }
     ensures { λ r.
-        ⌜ ((T : Tables) (q : ℕ) → FormAt T q (now (conditions .entry)) (now (entries .entry)) (now (relations .entry)) c start x
+        ⌜ ((T : Tables) (q : ℕ) → FormReads T q (now (conditions .entry)) (now («project_entries» .entry)) (now (relations .entry)) c start x
         → WrittenAt (queryWords T c start (now («comparison_numbers» .entry)) (now («query_numbers» .entry)) x) (now (out .entry)) at
         (now (out .exit)) r) ⌝ }
 {
@@ -289,7 +251,7 @@ fn write_query(
         Query::Relation(a) => put_query(out, at, 1, relation_word(relations, conditions, c, a), 0),
         Query::Select(a, b) => put_over(out, at, 2, comparison_numbers[a], query_numbers, b),
         Query::Project(n, b) => {
-            let kept = length_word(entries, conditions, c, start, n);
+            let kept = length_word(project_entries, conditions, c, start, n);
             put_over(out, at, 3, kept, query_numbers, b)
         }
         Query::Choice(_, _, _) => at,
@@ -303,7 +265,7 @@ fn write_query(
 fn write_reached(
     reached: bool,
     x: Query,
-    entries: &[u16],
+    project_entries: &[u16],
     relations: &[u16],
     conditions: &[u64],
     c: usize,
@@ -313,10 +275,10 @@ fn write_reached(
     out: &mut [u16],
     at: usize,
 ) -> usize
-    requires { ⌜ SomeForm reached (now conditions) (now entries) (now relations) c start (now «comparison_numbers») (now «query_numbers») x
+    requires { ⌜ SomeForm reached (now conditions) (now «project_entries») (now relations) c start (now «comparison_numbers») (now «query_numbers») x
         (now out) at ⌝ }
     ensures { λ r.
-        ⌜ ((T : Tables) (q : ℕ) → FormAt T q (now (conditions .entry)) (now (entries .entry)) (now (relations .entry)) c start x
+        ⌜ ((T : Tables) (q : ℕ) → FormReads T q (now (conditions .entry)) (now («project_entries» .entry)) (now (relations .entry)) c start x
         → WrittenAt (cond reached (queryWords T c start (now («comparison_numbers» .entry)) (now («query_numbers» .entry)) x) [])
         (now (out .entry)) at
         (now (out .exit)) r) ⌝ }
@@ -324,7 +286,7 @@ fn write_reached(
     if reached {
         return write_query(
             x,
-            entries,
+            project_entries,
             relations,
             conditions,
             c,
@@ -338,39 +300,38 @@ fn write_reached(
     at
 }
 
-// Writes the query forms that are no choice and that c reaches; the lists of project forms lie from `first` on.
+// Writes the query forms that are no choice and that c reaches.
 pub fn write_queries(
-    entries: &[u16],
+    project_entries: &[u16],
     relations: &[u16],
     queries: &[u16],
     conditions: &[u64],
     reach: &[u64],
     c: usize,
-    first: usize,
     comparison_numbers: &[u16],
     query_numbers: &[u16],
     out: &mut [u16],
 ) -> usize
-    requires { ⌜ QueryFormWritable (now conditions) (now reach) (now entries) (now relations) (now queries) first c (now «comparison_numbers»)
+    requires { ⌜ QueryFormWritable (now conditions) (now reach) (now «project_entries») (now relations) (now queries) c (now «comparison_numbers»)
         (now «query_numbers») (now out) ⌝ }
     ensures { λ r.
         ⌜ ((T : Tables)
-        → QueryFormReads T (now (conditions .entry)) (now (reach .entry)) (now (entries .entry)) (now (relations .entry))
-        (now (queries .entry)) first c
+        → QueryFormReads T (now (conditions .entry)) (now (reach .entry)) (now («project_entries» .entry)) (now (relations .entry))
+        (now (queries .entry)) c
         (now («comparison_numbers» .entry)) (now («query_numbers» .entry))
         → WrittenAt (queryForms T c) (now (out .entry)) 0 (now (out .exit)) r) ⌝ }
 {
     let count = queries.len() / 4;
-    let mut start = first;
+    let mut start = 0;
     let mut p = 0;
     let mut q = 0;
     while q < count {
         let x = query_at(queries, q);
-        let reached = row_has(reach, q, c);
+        let reached = holds_at(reach, q, c);
         p = write_reached(
             reached,
             x,
-            entries,
+            project_entries,
             relations,
             conditions,
             c,

@@ -14,19 +14,15 @@ use Rattle.decoders.specs.Words.{IsWord}
 use Rattle.report.specs.Tables.{Tables, relationLength, relationStart}
 use Rattle.report.specs.Typing.{present}
 use Rattle.report.specs.Configuring.{entryKept, keptLength}
-use Rattle.report.proofs.FormedFacts.{relation-list}
-use Rattle.kept_lists.specs.Keeping.{relationLists, relationForms, KeptListReads, KeptListReadable, PresentReads, PresentReadable}
-use Rattle.kept_lists.specs.Keeping.{KeptRelationReads, KeptRelationWritable}
+use Rattle.at_configuration.specs.AtConfiguration.{ListReads, ListReadable, PresentReads, PresentReadable, RelationReads}
+use Rattle.at_configuration.proofs.ListLaws.{reads-present, starts-at, is-long, relation-list}
+use Rattle.kept_lists.specs.Keeping.{relationLists, relationForms, KeptRelationWritable}
 use Rattle.kept_lists.specs.Steps.{pairIf, listIf, relationListAt, relationFormAt, WordPairWritable, ListIfWritable}
-use Rattle.kept_lists.proofs.KeepingLaws.{list-short}
 use Rattle.kept_lists.proofs.StepLaws.{Keeping, keeping-none, keeping-room, keeping-more, keeping-all}
 
 -- ---- what is read of one relation
 
-module _ {T : Tables} {conditions entries relations : List ℕ} {c : ℕ} (R : KeptRelationReads T conditions entries relations c) where
-  pub reads-present : PresentReads T conditions relations c
-  reads-present = record { reads = R .reads; relationsAre = R .relationsAre }
-
+module _ {T : Tables} {conditions entries relations : List ℕ} {c : ℕ} (R : RelationReads T conditions entries relations c) where
   -- all the lists, and all the forms
   all-lists : relationLists T c ≡ concat (length relations / 2) (relationListAt T c)
   unfolding relationLists
@@ -37,34 +33,21 @@ module _ {T : Tables} {conditions entries relations : List ℕ} {c : ℕ} (R : K
   all-forms = ap (λ (t : List ℕ). concat (length t / 2) (relationFormAt T c)) (sym (R .relationsAre))
 
   module _ {r start : ℕ} (s : start ≡ relationStart relations r) (h : r < length relations / 2) {n : ℕ} (e : n ≡ relationLength relations r) where
-    starts-at : start ≡ relationStart (T .relations) r
-    starts-at = s ∙ ap (λ (t : List ℕ). relationStart t r) (R .relationsAre)
-
-    is-long : n ≡ relationLength (T .relations) r
-    is-long = e ∙ ap (λ (t : List ℕ). relationLength t r) (R .relationsAre)
-
-    reads-list : KeptListReads T conditions entries c start n
-    reads-list = record {
-      reads = R .reads;
-      entriesAre = R .entriesAre;
-      lies = rw (starts-at, is-long) (relation-list (R .reads .filled .formed) r (rw (R .relationsAre) at h) .inside);
-    }
-
     -- what relation r writes is what was found of it
     module _ {b : Bool} (p : b ≡ present T c r) where
-      list-text : relationListAt T c r ≡ listIf b T c start n
+      list-text : relationListAt T c r ≡ listIf b T c (0 + start) n
       list-text =
           sym
-          (ap (λ (t : Bool). listIf t T c start n) p ∙ ap₂ (λ (i k : ℕ). listIf (present T c r) T c i k) starts-at is-long)
+          (ap (λ (t : Bool). listIf t T c (0 + start) n) p ∙ ap₂ (λ (i k : ℕ). listIf (present T c r) T c i k) (starts-at R s h e) (is-long R s h e))
 
-      form-text : {k : ℕ} → k ≡ keptLength T c start n → relationFormAt T c r ≡ pairIf b 0 k
-      form-text q = sym (ap₂ (λ (t : Bool) (k : ℕ). pairIf t 0 k) p (q ∙ ap₂ (keptLength T c) starts-at is-long))
+      form-text : {k : ℕ} → k ≡ keptLength T c (0 + start) n → relationFormAt T c r ≡ pairIf b 0 k
+      form-text q = sym (ap₂ (λ (t : Bool) (k : ℕ). pairIf t 0 k) p (q ∙ ap₂ (keptLength T c) (starts-at R s h e) (is-long R s h e)))
 
 -- ---- the loops
 
 -- what f makes of the relations below r is written, and the list of r starts at `start`
 pub record Relating (f : Tables → ℕ → ℕ → List ℕ) (conditions entries relations : List ℕ) (c : ℕ) (first out : List ℕ) (r start p : ℕ) : Type 0 where
-  pub kept : Keeping (λ T. KeptRelationReads T conditions entries relations c) (λ T. f T c) (length relations / 2) first 0 out r p
+  pub kept : Keeping (λ T. RelationReads T conditions entries relations c) (λ T. f T c) (length relations / 2) first 0 out r p
   pub starts : start ≡ relationStart relations r
 
 pub relating-none : {f : Tables → ℕ → ℕ → List ℕ} {conditions entries relations : List ℕ} {c : ℕ} {first : List ℕ}
@@ -79,14 +62,15 @@ relating-present A h = record { tables = A .tables; reads = reads-present (A .re
 module _ {f : Tables → ℕ → ℕ → List ℕ} {conditions entries relations : List ℕ} {c : ℕ} {first out : List ℕ} {r start p : ℕ}
     (S : Relating f conditions entries relations c first out r start p) (h : r < length relations / 2) {n : ℕ}
     (e : IsWord (relationLength relations r) n) where
-  pub relating-small : {g : Tables → ℕ → List ℕ} → KeptRelationWritable g conditions entries relations c first 0 → start + n ≤ 512
-  relating-small A = list-short (reads-list (A .reads) (S .starts) h (e .same))
+  pub relating-small : {g : Tables → ℕ → List ℕ} → KeptRelationWritable g conditions entries relations c first 0
+      → start + n ≤ length entries / 2
+  relating-small A = relation-list (A .reads) (S .starts) h (e .same) .lies
 
   pub relating-list : {g : Tables → ℕ → List ℕ} → KeptRelationWritable g conditions entries relations c first 0
-      → KeptListReadable conditions entries c start n
-  relating-list A = record { tables = A .tables; reads = reads-list (A .reads) (S .starts) h (e .same) }
+      → ListReadable conditions entries c start n
+  relating-list A = record { tables = A .tables; offset = 0; reads = relation-list (A .reads) (S .starts) h (e .same) }
 
-  relating-more : {o : List ℕ} {q : ℕ} → ((T : Tables) → KeptRelationReads T conditions entries relations c → WrittenAt (f T c r) out p o q)
+  relating-more : {o : List ℕ} {q : ℕ} → ((T : Tables) → RelationReads T conditions entries relations c → WrittenAt (f T c r) out p o q)
       → Relating f conditions entries relations c first o (r + 1) (start + n) q
   relating-more w = record {
     kept = keeping-more (S .kept) h w;
@@ -102,24 +86,25 @@ module _ {conditions entries relations : List ℕ} {c : ℕ} {first out : List �
         let R = A .reads in
         record {
           tables = A .tables;
-          reads = reads-list R (S .starts) h (e .same);
+          offset = 0;
+          reads = relation-list R (S .starts) h (e .same);
           room =
               same-room (list-text R (S .starts) h (e .same) (q (A .tables) (reads-present R)))
               (keeping-room (S .kept) R (same-room (all-lists R) (A .room)) h);
         }
 
     pub lists-more : {o : List ℕ} {k : ℕ}
-        → ((T : Tables) → KeptListReads T conditions entries c start n → WrittenAt (listIf b T c start n) out p o k)
+        → ((T : Tables) (offset : ℕ) → ListReads T offset conditions entries c start n → WrittenAt (listIf b T c (offset + start) n) out p o k)
         → Relating relationListAt conditions entries relations c first o (r + 1) (start + n) k
     lists-more w =
         relating-more S h e
-        (λ T R. same-written (list-text R (S .starts) h (e .same) (q T (reads-present R))) (w T (reads-list R (S .starts) h (e .same))))
+        (λ T R. same-written (list-text R (S .starts) h (e .same) (q T (reads-present R))) (w T 0 (relation-list R (S .starts) h (e .same))))
 
   -- the forms
   module _ (S : Relating relationFormAt conditions entries relations c first out r start p) {m : ℕ}
-      (l : (T : Tables) → KeptListReads T conditions entries c start n → m ≡ keptLength T c start n) where
-    text : {T : Tables} → KeptRelationReads T conditions entries relations c → relationFormAt T c r ≡ pairIf b 0 m
-    text {T} R = form-text R (S .starts) h (e .same) (q T (reads-present R)) (l T (reads-list R (S .starts) h (e .same)))
+      (l : (T : Tables) (offset : ℕ) → ListReads T offset conditions entries c start n → m ≡ keptLength T c (offset + start) n) where
+    text : {T : Tables} → RelationReads T conditions entries relations c → relationFormAt T c r ≡ pairIf b 0 m
+    text {T} R = form-text R (S .starts) h (e .same) (q T (reads-present R)) (l T 0 (relation-list R (S .starts) h (e .same)))
 
     pub forms-room : KeptRelationWritable relationForms conditions entries relations c first 0 → WordPairWritable b 0 m out p
     forms-room A =
@@ -127,8 +112,8 @@ module _ {conditions entries relations : List ℕ} {c : ℕ} {first out : List �
         record {
           first = omega arith;
           second =
-              let k = l (A .tables) (reads-list R (S .starts) h (e .same)) in
-              let i = count-le (entryKept (A .tables) c start) n in
+              let k = l (A .tables) 0 (relation-list R (S .starts) h (e .same)) in
+              let i = count-le (entryKept (A .tables) c (0 + start)) n in
               let j = e .small in
               omega arith;
           room = same-room (text R) (keeping-room (S .kept) R (same-room (all-forms R) (A .room)) h);
@@ -139,7 +124,7 @@ module _ {conditions entries relations : List ℕ} {c : ℕ} {first out : List �
     forms-more w = relating-more S h e (λ T R. same-written (text R) w)
 
 module _ {conditions entries relations : List ℕ} {c : ℕ} {first out : List ℕ} {r start p : ℕ} (h : length relations / 2 ≤ r) (T : Tables)
-    (R : KeptRelationReads T conditions entries relations c) where
+    (R : RelationReads T conditions entries relations c) where
   pub lists-all : Relating relationListAt conditions entries relations c first out r start p → WrittenAt (relationLists T c) first 0 out p
   lists-all S = same-written (all-lists R) (keeping-all (S .kept) h T R)
 

@@ -1,6 +1,6 @@
 -- Laws of the loops that write a block or nothing at each step, for all tables that are read, and of the loop over a list.
 use Prim.Native.Nat.{ℕ, _+_, _<_, _≤_}
-use mathlib.Core.Path.{_≡_, sym, ap, ap₂, _∙_}
+use mathlib.Core.Path.{_≡_, sym, ap₂}
 use mathlib.Core.Bool.{Bool}
 use mathlib.Core.List.{List}
 use native.Mathlib.Omega.{arith}
@@ -9,11 +9,12 @@ use Rattle.sets.specs.Lists.{concat}
 use Rattle.sets.specs.Writing.{Room, WrittenAt}
 use Rattle.sets.proofs.WritingLaws.{same-length, same-room, same-written, Writing, writing-none, writing-room, writing-more, writing-all}
 use Rattle.decoders.specs.Words.{IsWord}
-use Rattle.report.specs.Tables.{Tables, entryAttribute, entryExpression}
-use Rattle.report.specs.Typing.{at as holdsAt}
-use Rattle.kept_lists.specs.Keeping.{KeptListReads, KeptListWritable}
+use Rattle.report.specs.Tables.{Tables, entryAttribute}
+use Rattle.report.specs.Configuring.{entryKept}
+use Rattle.at_configuration.specs.AtConfiguration.{ListReads}
+use Rattle.at_configuration.proofs.ListLaws.{each-entry, attribute-is}
+use Rattle.kept_lists.specs.Keeping.{KeptListWritable}
 use Rattle.kept_lists.specs.Steps.{pairIf, entryAt, WordPairWritable}
-use Rattle.kept_lists.proofs.KeepingLaws.{each-entry}
 
 -- ---- a loop that writes n blocks, for all tables that are read
 
@@ -42,27 +43,27 @@ module _ {Reads : Tables → Type 0} {f : Tables → ℕ → List ℕ} {n : ℕ}
 
 -- ---- the loop over a list
 
--- of the `count` entries from `start` on the first i are written
+-- of the `count` entries from `start` on the first i are written, wherever in table 1 the entries lie
 abbrev pub EntriesWriting : List ℕ → List ℕ → ℕ → ℕ → ℕ → List ℕ → ℕ → List ℕ → ℕ → ℕ → Type 0
 EntriesWriting conditions entries c start count first at out i p =
-    Keeping (λ T. KeptListReads T conditions entries c start count) (λ T j. entryAt T c (start + j)) count first at out i p
+    (offset : ℕ)
+    → Keeping (λ T. ListReads T offset conditions entries c start count) (λ T. entryAt T c (offset + start)) count first at out i p
 
 -- what the next entry writes is what was found of it
 module _ {conditions entries : List ℕ} {c start count : ℕ} {first : List ℕ} {at : ℕ} {out : List ℕ} {i p : ℕ}
     (S : EntriesWriting conditions entries c start count first at out i p) (h : i < count) {a : ℕ} (e : IsWord (entryAttribute entries (start + i)) a)
     {b : Bool}
-    (q : (T : Tables) → KeptListReads T conditions entries c (start + i) 1 → b ≡ holdsAt T c (entryExpression (T .entries) (start + i))) where
-  text : {T : Tables} → KeptListReads T conditions entries c start count → entryAt T c (start + i) ≡ pairIf b a 0
-  text {T} R =
-      let x = e .same ∙ ap (λ (t : List ℕ). entryAttribute t (start + i)) (R .entriesAre) in
-      sym (ap₂ (λ (t : Bool) (y : ℕ). pairIf t y 0) (q T (each-entry R i h)) x)
+    (q : (T : Tables) (offset : ℕ) → ListReads T offset conditions entries c start (i + 1) → b ≡ entryKept T c (offset + start) i) where
+  text : {T : Tables} {offset : ℕ} → ListReads T offset conditions entries c start count → entryAt T c (offset + start) i ≡ pairIf b a 0
+  text {T} {offset} R =
+      sym (ap₂ (λ (t : Bool) (y : ℕ). pairIf t y 0) (q T offset (each-entry R h)) (attribute-is R h (e .same)))
 
   pub listing-room : KeptListWritable conditions entries c start count first at → WordPairWritable b a 0 out p
   listing-room A = record {
     first = e .small;
     second = omega arith;
-    room = same-room (text (A .reads)) (keeping-room S (A .reads) (A .room) h);
+    room = same-room (text (A .reads)) (keeping-room (S (A .offset)) (A .reads) (A .room) h);
   }
 
   pub listing-more : {o : List ℕ} {r : ℕ} → WrittenAt (pairIf b a 0) out p o r → EntriesWriting conditions entries c start count first at o (i + 1) r
-  listing-more w = keeping-more S h (λ T R. same-written (text R) w)
+  listing-more w offset = keeping-more (S offset) h (λ T R. same-written (text R) w)

@@ -1,12 +1,12 @@
 -- What one step of a loop writes: a block where it is kept, and nothing elsewhere.
-use Prim.Native.Nat.{ℕ, _<_}
+use Prim.Native.Nat.{ℕ, _+_, _<_}
 use mathlib.Core.Bool.{Bool, cond}
 use mathlib.Core.List.{List, [], _∷_}
 use Rattle.sets.specs.Writing.{Room}
-use Rattle.report.specs.Tables.{Tables, entryAttribute, entryExpression, query}
-use Rattle.report.specs.Typing.{at, present}
-use Rattle.report.specs.Configuring.{queryKept, keptList, relationList, projectListOf, relationForm}
-use Rattle.kept_lists.specs.Keeping.{KeptListReads}
+use Rattle.report.specs.Tables.{Tables, entryAttribute, query}
+use Rattle.report.specs.Typing.{present}
+use Rattle.report.specs.Configuring.{queryKept, entryKept, keptList, relationList, projectListOf, relationForm}
+use Rattle.at_configuration.specs.AtConfiguration.{ListReads}
 
 -- two words; a list of table 1
 abbrev pub pairIf : Bool → ℕ → ℕ → List ℕ
@@ -16,9 +16,9 @@ abbrev pub listIf : Bool → Tables → ℕ → ℕ → ℕ → List ℕ
 listIf keep T c start count = cond keep (keptList T c start count) []
 
 module _ (T : Tables) (c : ℕ) where
-  -- entry k of table 1
-  abbrev pub entryAt : ℕ → List ℕ
-  entryAt k = pairIf (at T c (entryExpression (T .entries) k)) (entryAttribute (T .entries) k) 0
+  -- entry i of the list that starts at `start`
+  abbrev pub entryAt : ℕ → ℕ → List ℕ
+  entryAt start i = pairIf (entryKept T c start i) (entryAttribute (T .entries) (start + i)) 0
 
   -- relation r: its list, and its form
   abbrev pub relationListAt : ℕ → List ℕ
@@ -42,5 +42,6 @@ pub record WordPairWritable (keep : Bool) (x y : ℕ) (out : List ℕ) (at : ℕ
 -- a list of table 1, and room for its kept entries if it is kept
 pub record ListIfWritable (keep : Bool) (conditions entries : List ℕ) (c start count : ℕ) (out : List ℕ) (at : ℕ) : Type 0 where
   pub tables : Tables
-  pub reads : KeptListReads tables conditions entries c start count
-  pub room : Room (listIf keep tables c start count) out at
+  pub offset : ℕ
+  pub reads : ListReads tables offset conditions entries c start count
+  pub room : Room (listIf keep tables c (offset + start) count) out at

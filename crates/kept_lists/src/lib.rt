@@ -1,32 +1,21 @@
 // What configuring keeps of lists and relations at one configuration, written into lent tables. Each writer returns the position after what it wrote.
+use at_configuration::entry_holds;
+use at_configuration::holds_at;
+use at_configuration::is_present;
 use decoders::entry_attribute;
-use decoders::entry_expression;
 use decoders::project_length;
 use decoders::query_at;
-use decoders::relation_expression;
 use decoders::relation_length;
-use sets::Row;
 ghost use mathlib.Core.Path.{_≡_};
 ghost use mathlib.Core.Bool.{cond};
-ghost use Prim.Native.Nat.{_+_, _*_, _<_, _≤_};
-ghost use lib.ListN.{length};
-ghost use Rattle.sets.specs.Rows.{rowBit, rowIn};
+ghost use Prim.Native.Nat.{ℕ, _+_, _<_};
 ghost use Rattle.sets.specs.Writing.{WrittenAt};
-ghost use Rattle.report.specs.Tables.{Tables, entryExpression};
-ghost use Rattle.report.specs.Typing.{at, present};
+ghost use Rattle.report.specs.Tables.{Tables};
 ghost use Rattle.report.specs.Configuring.{keptLength, keptList, newRelation};
-ghost use Rattle.kept_lists.specs.Keeping.{relationLists, projectLists, relationForms};
-ghost use Rattle.kept_lists.specs.Keeping.{KeptListReads, KeptListReadable, KeptListWritable, PresentReads, PresentReadable};
-ghost use Rattle.kept_lists.specs.Keeping.{KeptRelationReads, KeptRelationWritable, ProjectReads, ProjectWritable};
+ghost use Rattle.at_configuration.specs.AtConfiguration.{ListReads, ListReadable, PresentReads, PresentReadable, RelationReads};
+ghost use Rattle.kept_lists.specs.Keeping.{relationLists, projectLists, relationForms, KeptListWritable, KeptRelationWritable};
+ghost use Rattle.kept_lists.specs.Keeping.{ProjectReads, ProjectWritable};
 ghost use Rattle.kept_lists.specs.Steps.{pairIf, listIf, WordPairWritable, ListIfWritable};
-
-// Configuration c is in row x of the rows: expression x holds there, or form x is reached.
-pub fn row_has(rows: &[u64], x: usize, c: usize) -> bool
-    requires { ⌜ (x * 16 + 16 ≤ length (now rows)) × (c < 1024) ⌝ }
-    ensures { λ r. ⌜ r ≡ rowBit (rowIn 16 (now (rows .entry)) x) c ⌝ }
-{
-    Row::load(rows, x).has(c)
-}
 
 // One more than n, if the test is true.
 fn more_if(n: usize, test: bool) -> usize
@@ -39,15 +28,6 @@ fn more_if(n: usize, test: bool) -> usize
     n
 }
 
-// Entry k holds at c.
-fn entry_holds(entries: &[u16], conditions: &[u64], c: usize, k: usize) -> bool
-    requires { ⌜ KeptListReadable (now conditions) (now entries) c k 1 ⌝ }
-    ensures { λ b.
-        ⌜ ((T : Tables) → KeptListReads T (now (conditions .entry)) (now (entries .entry)) c k 1 → b ≡ at T c (entryExpression (T .entries) k)) ⌝ }
-{
-    row_has(conditions, entry_expression(entries, k), c)
-}
-
 // How many of the `count` entries from `start` on hold at c.
 pub fn kept_length(
     entries: &[u16],
@@ -56,14 +36,15 @@ pub fn kept_length(
     start: usize,
     count: usize,
 ) -> usize
-    requires { ⌜ KeptListReadable (now conditions) (now entries) c start count ⌝ }
-    ensures { λ r. ⌜ ((T : Tables) → KeptListReads T (now (conditions .entry)) (now (entries .entry)) c start count → r ≡ keptLength T c start count)
-        ⌝ }
+    requires { ⌜ ListReadable (now conditions) (now entries) c start count ⌝ }
+    ensures { λ r.
+        ⌜ ((T : Tables) (offset : ℕ) → ListReads T offset (now (conditions .entry)) (now (entries .entry)) c start count
+        → r ≡ keptLength T c (offset + start) count) ⌝ }
 {
     let mut kept = 0;
     let mut i = 0;
     while i < count {
-        let holds = entry_holds(entries, conditions, c, start + i);
+        let holds = entry_holds(entries, conditions, c, start, i);
         kept = more_if(kept, holds);
         i += 1;
     }
@@ -95,15 +76,14 @@ fn write_list(
 ) -> usize
     requires { ⌜ KeptListWritable (now conditions) (now entries) c start count (now out) at ⌝ }
     ensures { λ r.
-        ⌜ ((T : Tables) → KeptListReads T (now (conditions .entry)) (now (entries .entry)) c start count
-        → WrittenAt (keptList T c start count) (now (out .entry)) at (now (out .exit)) r) ⌝ }
+        ⌜ ((T : Tables) (offset : ℕ) → ListReads T offset (now (conditions .entry)) (now (entries .entry)) c start count
+        → WrittenAt (keptList T c (offset + start) count) (now (out .entry)) at (now (out .exit)) r) ⌝ }
 {
     let mut p = at;
     let mut i = 0;
     while i < count {
-        let k = start + i;
-        let a = entry_attribute(entries, k);
-        let holds = entry_holds(entries, conditions, c, k);
+        let a = entry_attribute(entries, start + i);
+        let holds = entry_holds(entries, conditions, c, start, i);
         p = write_pair(holds, a, 0, &mut *out, p);
         i += 1;
     }
@@ -123,21 +103,13 @@ fn write_list_if(
 ) -> usize
     requires { ⌜ ListIfWritable keep (now conditions) (now entries) c start count (now out) at ⌝ }
     ensures { λ r.
-        ⌜ ((T : Tables) → KeptListReads T (now (conditions .entry)) (now (entries .entry)) c start count
-        → WrittenAt (listIf keep T c start count) (now (out .entry)) at (now (out .exit)) r) ⌝ }
+        ⌜ ((T : Tables) (offset : ℕ) → ListReads T offset (now (conditions .entry)) (now (entries .entry)) c start count
+        → WrittenAt (listIf keep T c (offset + start) count) (now (out .entry)) at (now (out .exit)) r) ⌝ }
 {
     if keep {
         return write_list(entries, conditions, c, start, count, out, at);
     }
     at
-}
-
-// Relation r is present at c.
-fn is_present(relations: &[u16], conditions: &[u64], c: usize, r: usize) -> bool
-    requires { ⌜ PresentReadable (now conditions) (now relations) c (r + 1) ⌝ }
-    ensures { λ b. ⌜ ((T : Tables) → PresentReads T (now (conditions .entry)) (now (relations .entry)) c → b ≡ present T c r) ⌝ }
-{
-    row_has(conditions, relation_expression(relations, r), c)
 }
 
 // The new number of relation r: how many below it are present at c.
@@ -157,15 +129,15 @@ pub fn new_relation(relations: &[u16], conditions: &[u64], c: usize, r: usize) -
 
 // Writes the lists of the relations that are present at c.
 pub fn write_relation_lists(
-    entries: &[u16],
+    relation_entries: &[u16],
     relations: &[u16],
     conditions: &[u64],
     c: usize,
     out: &mut [u16],
 ) -> usize
-    requires { ⌜ KeptRelationWritable relationLists (now conditions) (now entries) (now relations) c (now out) 0 ⌝ }
+    requires { ⌜ KeptRelationWritable relationLists (now conditions) (now «relation_entries») (now relations) c (now out) 0 ⌝ }
     ensures { λ r.
-        ⌜ ((T : Tables) → KeptRelationReads T (now (conditions .entry)) (now (entries .entry)) (now (relations .entry)) c
+        ⌜ ((T : Tables) → RelationReads T (now (conditions .entry)) (now («relation_entries» .entry)) (now (relations .entry)) c
         → WrittenAt (relationLists T c) (now (out .entry)) 0 (now (out .exit)) r) ⌝ }
 {
     let count = relations.len() / 2;
@@ -175,7 +147,16 @@ pub fn write_relation_lists(
     while r < count {
         let n = relation_length(relations, r);
         let present = is_present(relations, conditions, c, r);
-        p = write_list_if(present, entries, conditions, c, start, n, &mut *out, p);
+        p = write_list_if(
+            present,
+            relation_entries,
+            conditions,
+            c,
+            start,
+            n,
+            &mut *out,
+            p,
+        );
         start += n;
         r += 1;
     }
@@ -184,15 +165,15 @@ pub fn write_relation_lists(
 
 // Writes the relations that are present at c: expression 0, and how many of its entries are kept.
 pub fn write_relation_forms(
-    entries: &[u16],
+    relation_entries: &[u16],
     relations: &[u16],
     conditions: &[u64],
     c: usize,
     out: &mut [u16],
 ) -> usize
-    requires { ⌜ KeptRelationWritable relationForms (now conditions) (now entries) (now relations) c (now out) 0 ⌝ }
+    requires { ⌜ KeptRelationWritable relationForms (now conditions) (now «relation_entries») (now relations) c (now out) 0 ⌝ }
     ensures { λ r.
-        ⌜ ((T : Tables) → KeptRelationReads T (now (conditions .entry)) (now (entries .entry)) (now (relations .entry)) c
+        ⌜ ((T : Tables) → RelationReads T (now (conditions .entry)) (now («relation_entries» .entry)) (now (relations .entry)) c
         → WrittenAt (relationForms T c) (now (out .entry)) 0 (now (out .exit)) r) ⌝ }
 {
     let count = relations.len() / 2;
@@ -202,7 +183,7 @@ pub fn write_relation_forms(
     while r < count {
         let n = relation_length(relations, r);
         let present = is_present(relations, conditions, c, r);
-        let kept = kept_length(entries, conditions, c, start, n);
+        let kept = kept_length(relation_entries, conditions, c, start, n);
         p = write_pair(present, 0, kept, &mut *out, p);
         start += n;
         r += 1;
@@ -210,31 +191,39 @@ pub fn write_relation_forms(
     p
 }
 
-// Writes the lists of the project forms that c reaches, which lie from `first` on. Another form has no entries, so its list is written as none.
+// Writes the lists of the project forms that c reaches. Another form has no entries, so its list is written as none.
 pub fn write_project_lists(
-    entries: &[u16],
+    project_entries: &[u16],
     queries: &[u16],
     conditions: &[u64],
     reach: &[u64],
     c: usize,
-    first: usize,
     out: &mut [u16],
     at: usize,
 ) -> usize
-    requires { ⌜ ProjectWritable (now conditions) (now reach) (now entries) (now queries) first c (now out) at ⌝ }
+    requires { ⌜ ProjectWritable (now conditions) (now reach) (now «project_entries») (now queries) c (now out) at ⌝ }
     ensures { λ r.
-        ⌜ ((T : Tables) → ProjectReads T (now (conditions .entry)) (now (reach .entry)) (now (entries .entry)) (now (queries .entry)) first c
+        ⌜ ((T : Tables) → ProjectReads T (now (conditions .entry)) (now (reach .entry)) (now («project_entries» .entry)) (now (queries .entry)) c
         → WrittenAt (projectLists T c) (now (out .entry)) at (now (out .exit)) r) ⌝ }
 {
     let count = queries.len() / 4;
-    let mut start = first;
+    let mut start = 0;
     let mut p = at;
     let mut q = 0;
     while q < count {
         let x = query_at(queries, q);
         let n = project_length(x);
-        let reached = row_has(reach, q, c);
-        p = write_list_if(reached, entries, conditions, c, start, n, &mut *out, p);
+        let reached = holds_at(reach, q, c);
+        p = write_list_if(
+            reached,
+            project_entries,
+            conditions,
+            c,
+            start,
+            n,
+            &mut *out,
+            p,
+        );
         start += n;
         q += 1;
     }

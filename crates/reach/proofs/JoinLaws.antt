@@ -133,30 +133,23 @@ module _ (out one two reach : List ℕ) (p q r : ℕ → ℕ → Bool) where
       ∙ or-assoc (rowBit out i) (rowBit one (i % 1024) && p (i % 1024) (i / 1024)) (second i)
       ∙ ap (λ (b : Bool). rowBit out i || b) (h (i % 1024) (i / 1024) (omega arith)))
 
--- ---- row x of what was joined
+-- ---- row x of a long row
 
-pub joined-row : (out reach : List ℕ) (p : ℕ → ℕ → Bool) (x : ℕ) → x * 16 + 16 ≤ length out
-    → rowIn 16 (joined out reach p) x ≡ rowOf 16 (λ c. rowBit out (x * 1024 + c) || (rowBit reach c && p c x))
-unfolding joined
-joined-row out reach p x h = table-same 16 (λ i. getD (rowOf (length out) whole) (x * 16 + i) 0) (wordOf one) word
+pub row-of : (words : ℕ) (p : ℕ → ℕ → Bool) (x : ℕ) → x * 16 + 16 ≤ words
+    → rowIn 16 (rowOf words (λ i. p (i % 1024) (i / 1024))) x ≡ rowOf 16 (λ c. p c x)
+row-of words p x h = table-same 16 (λ i. getD (rowOf words whole) (x * 16 + i) 0) (wordOf (λ c. p c x)) word
   where
     whole : ℕ → Bool
-    whole i = rowBit out i || (rowBit reach (i % 1024) && p (i % 1024) (i / 1024))
+    whole i = p (i % 1024) (i / 1024)
 
-    one : ℕ → Bool
-    one c = rowBit out (x * 1024 + c) || (rowBit reach c && p c x)
-
-    each : (i j : ℕ) → i < 16 → j < 64 → whole ((x * 16 + i) * 64 + j) ≡ one (i * 64 + j)
+    each : (i j : ℕ) → i < 16 → j < 64 → whole ((x * 16 + i) * 64 + j) ≡ p (i * 64 + j) x
     each i j g k =
         let c = (x * 16 + i) * 64 + j in
-        let d = i * 64 + j in
-        let e1 : c ≡ x * 1024 + d = omega arith in
-        let e2 : c % 1024 ≡ d = omega arith in
-        let e3 : c / 1024 ≡ x = omega arith in
-        ap₂ (λ (m y : ℕ). rowBit out m || (rowBit reach (c % 1024) && p (c % 1024) y)) e1 e3
-        ∙ ap (λ (m : ℕ). rowBit out (x * 1024 + d) || (rowBit reach m && p m x)) e2
+        let e1 : c % 1024 ≡ i * 64 + j = omega arith in
+        let e2 : c / 1024 ≡ x = omega arith in
+        ap₂ p e1 e2
 
-    word : (i : ℕ) → i < 16 → getD (rowOf (length out) whole) (x * 16 + i) 0 ≡ wordOf one i
+    word : (i : ℕ) → i < 16 → getD (rowOf words whole) (x * 16 + i) 0 ≡ wordOf (λ c. p c x) i
     word i g =
-        table-at (length out) (wordOf whole) 0 (x * 16 + i) (omega (arith, h))
-        ∙ bitsOf-same 64 (λ j. whole ((x * 16 + i) * 64 + j)) (λ j. one (i * 64 + j)) (λ j k. each i j g k)
+        table-at words (wordOf whole) 0 (x * 16 + i) (omega (arith, h))
+        ∙ bitsOf-same 64 (λ j. whole ((x * 16 + i) * 64 + j)) (λ j. p (i * 64 + j) x) (λ j k. each i j g k)

@@ -24,7 +24,7 @@ use Rattle.reach.proofs.JoinLaws.{join-join, join-same}
 -- of a row that has no more configurations the walk reads the same
 reads-less : {T : Tables} {queries conditions reach : List ℕ} (less : List ℕ) → ((c : ℕ) → c < 1024 → rowBit less c ≡ true → rowBit reach c ≡ true)
     → WalkReads T queries conditions reach → WalkReads T queries conditions less
-reads-less less h S = record { filled = S .filled; queriesAre = S .queriesAre; among = λ c l e. S .among c l (h c l e) }
+reads-less less h S = record { formed = S .formed; filled = S .filled; queriesAre = S .queriesAre; among = λ c l e. S .among c l (h c l e) }
 
 module _ {T : Tables} {queries conditions reach : List ℕ} (less other : List ℕ) where
   pub reads-intersect : less ≡ rowIntersect 16 reach other → WalkReads T queries conditions reach → WalkReads T queries conditions less
@@ -88,11 +88,11 @@ module _ {T : Tables} {queries conditions reach : List ℕ} (S : WalkReads T que
     is = ap (λ (l : List ℕ). queryOperands (query l q)) (sym (S .queriesAre)) ∙ sym e
 
     pub free : OperandsFree (expressionCount T) (T .queries) q to
-    free = subst (OperandsFree (expressionCount T) (T .queries) q) is (operands-at (S .filled .formed) q inside-any)
+    free = subst (OperandsFree (expressionCount T) (T .queries) q) is (operands-at (S .formed) q inside-any)
 
     rule : (c x : ℕ) → leads T c x q ≡ (eqb x q || onward T c (leads T c x) to)
     rule c x =
-        leads-in (S .filled .formed) c q inside-any x ∙ ap (λ (b : Bool). eqb x q || b) (ap (onward T c (leads T c x)) is)
+        leads-in (S .formed) c q inside-any x ∙ ap (λ (b : Bool). eqb x q || b) (ap (onward T c (leads T c x)) is)
 
   module _ (out : List ℕ) where
     abbrev own : List ℕ

@@ -5,9 +5,10 @@ use report::Operands;
 use sets::Row;
 ghost use mathlib.Core.Path.{_≡_};
 ghost use Prim.Native.Nat.{_+_, _*_, _≤_};
-ghost use lib.ListN.{length};
+ghost use lib.ListN.{length, replicate};
 ghost use lib.Dec.{eqb};
-ghost use Rattle.reach.specs.Reach.{joined, WalkReady, Walked};
+ghost use Rattle.report.specs.Tables.{Tables};
+ghost use Rattle.reach.specs.Reach.{joined, reachRows, ReachReads, ReachReadable, WalkReady, Walked};
 
 // Joins `reach` into row `form` of out.
 fn join_row(form: usize, reach: Row, out: &mut [u64])
@@ -22,7 +23,7 @@ fn join_row(form: usize, reach: Row, out: &mut [u64])
 // Joins `reach` into row `form` of out, and into the rows of the forms below it the configurations that it passes on to them: a choice those
 // of its expression to its first alternative and the others to its second, any other form all to each operand. Operands are lower, so the
 // form number falls at each call.
-pub fn walk(queries: &[u16], conditions: &[u64], form: usize, reach: Row, out: &mut [u64])
+fn walk(queries: &[u16], conditions: &[u64], form: usize, reach: Row, out: &mut [u64])
     requires { ⌜ WalkReady (now queries) (now conditions) (reach .words) (now out) form ⌝ }
     ensures { λ _. ⌜ Walked (now (queries .entry)) (now (conditions .entry)) form (reach .words) (now (out .entry)) (now (out .exit)) ⌝ }
 {
@@ -43,4 +44,32 @@ pub fn walk(queries: &[u16], conditions: &[u64], form: usize, reach: Row, out: &
             walk(queries, conditions, d, others, &mut *out);
         }
     }
+}
+
+// Makes all words 0: rows without a configuration.
+pub fn clear_words(words: &mut [u64])
+    ensures { λ _. ⌜ now (words .exit) ≡ replicate (length (now (words .entry))) 0 ⌝ }
+{
+    let mut i = 0;
+    while i < words.len() {
+        words[i] = 0;
+        i += 1;
+    }
+}
+
+// Fills `out` with the reach rows, by the walk from the report with the permitted configurations. Words after the rows become 0.
+pub fn fill_reach(queries: &[u16], conditions: &[u64], permitted: Row, out: &mut [u64])
+    requires { ⌜ ReachReadable (now queries) (now conditions) (permitted .words) (now out) ⌝ }
+    ensures { λ _.
+        ⌜ ((T : Tables) → ReachReads T (now (queries .entry)) (now (conditions .entry)) (permitted .words)
+        → now (out .exit) ≡ reachRows T (length (now (out .entry)))) ⌝ }
+{
+    clear_words(&mut *out);
+    walk(
+        queries,
+        conditions,
+        queries.len() / 4 - 1,
+        permitted,
+        &mut *out,
+    );
 }

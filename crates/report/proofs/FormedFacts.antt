@@ -12,9 +12,9 @@ use lib.Dec.{ltb}
 use Rattle.sets.proofs.SearchLaws.{some-at}
 use Rattle.report.specs.Tables.{Tables, entryAttribute, entryExpression, relationExpression, relationLength, expression, comparison, query}
 use Rattle.report.specs.Tables.{expressionCount, entryCount, relationCount, comparisonCount, queryCount, report}
-use Rattle.report.specs.Tables.{relationStart, projectLength, projectedBefore, projectStart}
+use Rattle.report.specs.Tables.{relationStart, projectLength, projectedBefore, relationsEnd, projectStart}
 use Rattle.report.specs.Operands.{comparisonOperands, queryOperands}
-use Rattle.report.specs.FormChecks.{isOperand, listFits, relationsEnd, listsEnd}
+use Rattle.report.specs.FormChecks.{isOperand, listFits, listsEnd}
 use Rattle.report.specs.Formed.{Formed, ExpressionLower, ComparisonLower, OperandsBelow, ListIn, Free, OperandsFree, QueryLower}
 use Rattle.report.specs.declared.Query.{Query}
 use Rattle.report.proofs.FormFacts.{expression-lower, comparison-lower, comparison-below, list-in, query-lower}

@@ -7,7 +7,7 @@ use lib.Dec.{leb, ltb, eqb}
 use Rattle.sets.specs.Search.{lowest, someBelow}
 use Rattle.report.specs.Tables.{Tables, Shape, shapeOf, shapes, words, entryAttribute, entryExpression, relationExpression, relationLength}
 use Rattle.report.specs.Tables.{expression, comparison, query, expressionCount, entryCount, relationCount, comparisonCount, queryCount}
-use Rattle.report.specs.Tables.{relationStart, projectedBefore, projectStart}
+use Rattle.report.specs.Tables.{relationStart, projectedBefore, relationsEnd, projectStart}
 use Rattle.report.specs.Operands.{queryOperands, isAmong}
 use Rattle.report.specs.Verdicts.{refusal, refuseIf, refuseAt, orElse, firstFrom}
 use Rattle.report.specs.declared.Verdict.{Verdict}
@@ -152,12 +152,8 @@ module _ (T : Tables) where
   abbrev pub comparisonOk : ℕ → Bool
   comparisonOk f = comparisonFits (T .attributes) (expressionCount T) f (comparison (T .comparisons) f)
 
-  -- where the lists of the relations end
-  abbrev pub relationsEnd : ℕ
-  relationsEnd = relationStart (T .relations) (relationCount T)
-
   abbrev pub queryFitsIn : ℕ → Query → Bool
-  queryFitsIn = queryFitsAt (expressionCount T) (relationCount T) (comparisonCount T) (T .entries) relationsEnd (T .queries)
+  queryFitsIn = queryFitsAt (expressionCount T) (relationCount T) (comparisonCount T) (T .entries) (relationsEnd T) (T .queries)
 
   abbrev pub queryOk : ℕ → Bool
   queryOk q = queryFitsIn q (query (T .queries) q)
@@ -180,5 +176,5 @@ module _ (T : Tables) where
       (orElse (entriesCheck (T .attributes) (expressionCount T) (T .entries))
       (orElse (relationsCheck (expressionCount T) (T .entries) (T .relations))
       (orElse (comparisonsCheck (T .attributes) (expressionCount T) (T .comparisons))
-      (orElse (queriesCheck (expressionCount T) (relationCount T) (comparisonCount T) (T .entries) relationsEnd (T .queries))
+      (orElse (queriesCheck (expressionCount T) (relationCount T) (comparisonCount T) (T .entries) (relationsEnd T) (T .queries))
       (orElse (untakenCheck (T .queries)) (leftEntryCheck listsEnd (entryCount T))))))))))

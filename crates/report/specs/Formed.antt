@@ -5,7 +5,7 @@ use mathlib.Core.Path.{_≡_}
 use mathlib.Core.Bool.{true, false}
 use mathlib.Core.List.{List}
 use lib.ListN.{length}
-use Rattle.report.specs.Tables.{Tables, Shape, shapeOf, entryAttribute, query, projectStart}
+use Rattle.report.specs.Tables.{Tables, Shape, shapeOf, entryAttribute, entryExpression, query, projectStart}
 use Rattle.report.specs.Tables.{expressionCount, entryCount, relationCount, comparisonCount, queryCount}
 use Rattle.report.specs.FormChecks.{isOperand, takenBelow, expressionOk, entryOk, relationOk, comparisonOk, queryOk, listsEnd}
 use Rattle.report.specs.declared.Expression.{Expression}
@@ -74,6 +74,12 @@ OperandsBelow f (Operands.Choice e a b) = (a < f) × (b < f)
 pub record ListIn (entries : List ℕ) (start count : ℕ) : Type 0 where
   pub inside : start + count ≤ length entries / 2
   pub once : (i j : ℕ) → i < j → j < count → entryAttribute entries (start + i) ≡ entryAttribute entries (start + j) → ⊥
+
+-- `entries` are entries of table 1 of T, from entry `offset` on
+pub record EntriesFrom (T : Tables) (offset : ℕ) (entries : List ℕ) : Type 0 where
+  pub inside : offset + length entries / 2 ≤ entryCount T
+  pub attribute : (k : ℕ) → k < length entries / 2 → entryAttribute entries k ≡ entryAttribute (T .entries) (offset + k)
+  pub expression : (k : ℕ) → k < length entries / 2 → entryExpression entries k ≡ entryExpression (T .entries) (offset + k)
 
 -- x can be an operand of form q: it is lower, and no form below q has taken it
 pub record Free (queries : List ℕ) (q x : ℕ) : Type 0 where

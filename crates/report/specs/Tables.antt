@@ -2,7 +2,7 @@
 use Prim.Native.Nat.{ℕ, zero, suc, _+_, _-_, _*_, _/_}
 use mathlib.Core.Bool.{Bool, true, false, cond, _&&_}
 use mathlib.Core.List.{List, [], _∷_}
-use lib.ListN.{length, getD}
+use lib.ListN.{length, getD, take, drop}
 use lib.Dec.{eqb}
 use Rattle.report.specs.declared.Expression.{Expression}
 use Rattle.report.specs.declared.Comparison.{Comparison}
@@ -172,6 +172,17 @@ abbrev pub projectedBefore : List ℕ → ℕ → ℕ
 projectedBefore queries zero = 0
 projectedBefore queries (suc q) = projectedBefore queries q + projectLength (query queries q)
 
+-- where table 1 is split: the lists of the relations end there, and those of the project forms start
+abbrev pub relationsEnd : Tables → ℕ
+relationsEnd T = relationStart (T .relations) (relationCount T)
+
+-- the entries of the relations' lists, and those of the project forms' lists, each counted from 0
+abbrev pub entriesOfRelations : Tables → List ℕ
+entriesOfRelations T = take (relationsEnd T * 2) (T .entries)
+
+abbrev pub entriesOfProjects : Tables → List ℕ
+entriesOfProjects T = drop (relationsEnd T * 2) (T .entries)
+
 -- where the list of the project form q starts in table 1
 abbrev pub projectStart : Tables → ℕ → ℕ
-projectStart T q = relationStart (T .relations) (relationCount T) + projectedBefore (T .queries) q
+projectStart T q = relationsEnd T + projectedBefore (T .queries) q

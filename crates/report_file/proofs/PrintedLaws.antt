@@ -1,10 +1,9 @@
 -- That what the calls write is the print of the answer.
-use Prim.Native.Nat.{ℕ, _*_, _%_, _^_, _≤_}
+use Prim.Native.Nat.{ℕ, _+_, _*_, _%_, _^_, _≤_}
 use mathlib.Core.Path.{_≡_, refl, sym, ap, ap₂, _∙_}
 use mathlib.Core.List.{List}
-use native.Mathlib.Nat.{le-refl}
 use native.Mathlib.Omega.{arith}
-use lib.ListN.{length, getD, take, replicate, length-replicate}
+use lib.ListN.{length, getD, take}
 use lib.Pow.{pow-mono}
 use Rattle.sets.specs.Rows.{rowOf, rowIn}
 use Rattle.sets.specs.Writing.{WrittenAt}
@@ -12,20 +11,19 @@ use Rattle.sets.proofs.BitLaws.{shl-one}
 use Rattle.sets.proofs.WritingLaws.{from-start}
 use Rattle.report.specs.Tables.{Tables, tablesOf}
 use Rattle.report.specs.Expressions.{configurations, permitted}
-use Rattle.report.specs.ColumnRows.{columnRows}
-use Rattle.report.specs.Configuring.{written}
-use Rattle.report.specs.Verdicts.{after}
-use Rattle.report.specs.Calls.{answer, checking, rowsAfter}
+use Rattle.report.specs.Verdicts.{orElse}
+use Rattle.report.specs.FormChecks.{formCheck}
+use Rattle.report.specs.Calls.{answer, checking}
 use Rattle.report.specs.Print.{printAnswer, printFile, print}
 use Rattle.report.specs.HarbourFile.{File}
 use Rattle.report.specs.declared.Refusal.{Refusal}
 use Rattle.report.specs.declared.Verdict.{Verdict}
-use Rattle.report.proofs.Formed.{formed}
-use Rattle.report.proofs.VerdictLaws.{both-accepted}
+use Rattle.report.proofs.VerdictLaws.{or-else-accepted}
+use Rattle.report.proofs.FirstFault.{first-none, first-one}
 use Rattle.report.proofs.TypingLaws.{rows-length}
-use Rattle.conditions.specs.Conditions.{expressionRows, ExpressionsFillable}
-use Rattle.conditions.proofs.FillLaws.{fillable}
-use Rattle.checker.proofs.CheckLaws.{answer-parts, begun}
+use Rattle.conditions.proofs.PermittedLaws.{model-room, model-row}
+use Rattle.judging.specs.Judging.{meaningCheck, reportCheck}
+use Rattle.judging.proofs.JudgingLaws.{answer-parts, Rows}
 use Rattle.printing.specs.Lines.{refusalLine, unreadLine, acceptedText, AcceptedRead}
 use Rattle.printing.proofs.LinePieces.{refusal-print, unread-print}
 use Rattle.printing.proofs.PrintLaws.{accepted-print, accepted-room}
@@ -49,12 +47,10 @@ same-prints e p = rw e p
 
 -- ---- the print of an accepted report
 
-module _ {T : Tables} {n model : ℕ} {expressions rows : List ℕ} (R : ColumnReads T n model expressions rows) where
-  -- the expression rows have room in 4,096 words
-  pub columns-fillable : ExpressionsFillable n expressions (replicate 4096 0)
-  columns-fillable =
-      rw (R .features, R .expressionsAre)
-      (fillable (R .formed) (replicate 4096 0) (let s = R .formed .sized0 .fits in omega (arith, length-replicate {A = ℕ} 4096 0)))
+module _ {T : Tables} {n model : ℕ} {conditions columns : List ℕ} (R : ColumnReads T n model conditions columns) where
+  -- the expression rows have that of the model
+  pub columns-room : model * 16 + 16 ≤ length conditions
+  columns-room = let l = model-room (R .formed) (R .filled) in let e = R .modelled in omega arith
 
   -- 1 << n is the number of configurations
   configurations-are : (1 * 2 ^ n) % 2 ^ 64 ≡ configurations T
@@ -64,51 +60,49 @@ module _ {T : Tables} {n model : ℕ} {expressions rows : List ℕ} (R : ColumnR
   columns-few = omega (arith, configurations-are, pow-mono {i = T .features} {j = 10} (R .formed .few))
 
   -- there is room for the print of up to 1,024 configurations
-  pub columns-read : (permits : List ℕ) {count : ℕ} {out : List ℕ} → count ≤ 1024 → 201653 ≤ length out → AcceptedRead permits count rows out 0
+  pub columns-read : (permits : List ℕ) {count : ℕ} {out : List ℕ} → count ≤ 1024 → 201653 ≤ length out → AcceptedRead permits count columns out 0
   columns-read permits {count} few h = record {
-    long = ap length (R .columns) ∙ rows-length T;
+    long = ap length (R .shows) ∙ rows-length T;
     few = few;
-    room = record { fits = omega (arith, accepted-room permits count rows few) };
+    room = record { fits = omega (arith, accepted-room permits count columns few) };
   }
 
-  -- the row of the model has the permitted configurations
-  permits-are : {conditions permits : List ℕ} → conditions ≡ written (expressionRows n expressions) (replicate 4096 0)
-      → permits ≡ rowIn 16 conditions model
-      → permits ≡ rowOf 16 (permitted T)
-  permits-are {conditions} fills load =
-      begun (R .formed) (le-refl 4096)
-      (fills ∙ ap₂ (λ (k : ℕ) (t : List ℕ). written (expressionRows k t) (replicate 4096 0)) (R .features) (R .expressionsAre))
-      (load ∙ ap (rowIn 16 conditions) (R .modelled)) .permitting
-
-  pub columns-printed : {conditions permits : List ℕ} → conditions ≡ written (expressionRows n expressions) (replicate 4096 0)
-      → permits ≡ rowIn 16 conditions model → {out o : List ℕ} {r : ℕ} → 201653 ≤ length out
-      → WrittenAt (acceptedText permits ((1 * 2 ^ n) % 2 ^ 64) rows) out 0 o r → Prints (printAnswer T Verdict.Accepted) out o r
-  columns-printed {permits = permits} fills load l w =
+  pub columns-printed : {permits : List ℕ} → permits ≡ rowIn 16 conditions model → {out o : List ℕ} {r : ℕ} → 201653 ≤ length out
+      → WrittenAt (acceptedText permits ((1 * 2 ^ n) % 2 ^ 64) columns) out 0 o r → Prints (printAnswer T Verdict.Accepted) out o r
+  columns-printed {permits} load l w =
       same-prints
-      (sym (ap (λ (k : ℕ). acceptedText permits k rows) configurations-are ∙ accepted-print (R .formed) (permits-are fills load) (R .columns)))
-      (prints (accepted-room permits ((1 * 2 ^ n) % 2 ^ 64) rows columns-few) l w)
+      (sym (ap (λ (k : ℕ). acceptedText permits k columns) configurations-are ∙ accepted-print (R .formed) permits-are (R .shows)))
+      (prints (accepted-room permits ((1 * 2 ^ n) % 2 ^ 64) columns columns-few) l w)
+    where
+      -- the row of the model has the permitted configurations
+      permits-are : permits ≡ rowOf 16 (permitted T)
+      permits-are = load ∙ ap (rowIn 16 conditions) (R .modelled) ∙ model-row (R .formed) (R .filled)
 
 -- ---- the print of the answer
 
-module _ (T : Tables) {v : Verdict} (own : v ≡ answer T (checking 1024)) where
+-- the answer of a check with rows at their full length, which the print shows
+checked : (T : Tables) → answer T (checking 1024) ≡ reportCheck T
+checked T =
+    answer-parts T (checking 1024)
+    ∙ ap₂ (λ (v w : Verdict). orElse (formCheck T) (orElse v (orElse (meaningCheck T) w))) (first-one _ _) first-none
+    ∙ ap (orElse (formCheck T)) (or-else-accepted (meaningCheck T))
+
+module _ (T : Tables) {v : Verdict} (own : v ≡ reportCheck T) where
+  answers : printFile (File.holds T) ≡ printAnswer T v
+  answers = ap (printAnswer T) (checked T ∙ sym own)
+
   pub refusal-printed : {f : Refusal} → v ≡ Verdict.Refused f → {out o : List ℕ} {r : ℕ} → Prints (refusalLine f) out o r
       → Prints (printFile (File.holds T)) out o r
-  refusal-printed {f} e = same-prints (ap (printAnswer T) (sym own ∙ e) ∙ refusal-print T f)
+  refusal-printed {f} e = same-prints (answers ∙ ap (printAnswer T) e ∙ refusal-print T f)
 
-  module _ (accepts : v ≡ Verdict.Accepted) where
-    pub acceptance-printed : {out o : List ℕ} {r : ℕ} → Prints (printAnswer T Verdict.Accepted) out o r → Prints (printFile (File.holds T)) out o r
-    acceptance-printed = same-prints (ap (printAnswer T) (sym own ∙ accepts))
+  pub acceptance-printed : v ≡ Verdict.Accepted → {out o : List ℕ} {r : ℕ} → Prints (printAnswer T Verdict.Accepted) out o r
+      → Prints (printFile (File.holds T)) out o r
+  acceptance-printed e = same-prints (answers ∙ ap (printAnswer T) e)
 
-    -- the tables have passed the form checks, and the rows are their column rows
-    pub accepted-reads : (lent : List ℕ) {rows : List ℕ} → length lent ≡ 1024 → rows ≡ rowsAfter T lent
-        → ColumnReads T (T .features) (T .model) (T .expressions) rows
-    accepted-reads lent size e = record {
-      formed = formed T (both-accepted _ _ (sym (answer-parts T 1024) ∙ sym own ∙ accepts) .0);
-      features = refl;
-      modelled = refl;
-      expressionsAre = refl;
-      columns = e ∙ ap (λ (x : Verdict). after x (columnRows T) lent) (ap (λ (k : ℕ). answer T (checking k)) size ∙ sym own ∙ accepts);
-    }
+-- what the print reads of a report that has passed
+pub accepted-reads : {T : Tables} {conditions reach columns : List ℕ} → Rows T conditions reach columns
+    → ColumnReads T (T .features) (T .model) conditions columns
+accepted-reads R = record { formed = R .formed; features = refl; modelled = refl; filled = R .filled; shows = R .shows }
 
 -- ---- the print of a file
 

@@ -1,11 +1,11 @@
 // The print of the answer for tables, written into lent bytes.
-use checker::COLUMN_WORDS;
-use checker::check;
-use conditions::fill_rows;
+use judging::COLUMN_WORDS;
+use judging::EXPRESSION_WORDS;
+use judging::REACH_WORDS;
+use judging::typed;
 use printing::put_accepted;
 use printing::put_refused;
 use report::Verdict;
-use sets::AttributeSet;
 use sets::Row;
 ghost use Prim.Native.Nat.{_≤_};
 ghost use lib.ListN.{length};
@@ -15,17 +15,22 @@ ghost use Rattle.report.specs.Print.{printAnswer, printFile};
 ghost use Rattle.report.specs.declared.Verdict.{Verdict};
 ghost use Rattle.report_file.specs.Printing.{ColumnReads, ColumnReadable, Prints};
 
-// The print of an accepted report of n features, whose column rows are `rows`. Its feature model is expression `model` of table 0.
-fn print_columns(n: usize, model: usize, expressions: &[u16], rows: &[u64], out: &mut [u8]) -> usize
-    requires { ⌜ ColumnReadable n model (now expressions) (now rows) (now out) ⌝ }
+// The print of an accepted report of n features, whose column rows are `columns` and whose expression rows `conditions` starts with. Its feature
+// model is expression `model` of table 0.
+fn print_columns(
+    n: usize,
+    model: usize,
+    conditions: &[u64],
+    columns: &[u64],
+    out: &mut [u8],
+) -> usize
+    requires { ⌜ ColumnReadable n model (now conditions) (now columns) (now out) ⌝ }
     ensures { λ r.
-        ⌜ ((T : Tables) → ColumnReads T n model (now (expressions .entry)) (now (rows .entry))
+        ⌜ ((T : Tables) → ColumnReads T n model (now (conditions .entry)) (now (columns .entry))
         → Prints (printAnswer T Verdict.Accepted) (now (out .entry)) (now (out .exit)) r) ⌝ }
 {
-    let mut conditions = [0; AttributeSet::MOST_EXPRESSIONS * Row::WORDS];
-    fill_rows(n, expressions, &mut conditions);
-    let permitted = Row::load(&conditions, model);
-    put_accepted(out, 0, permitted, 1 << n, rows)
+    let permitted = Row::load(conditions, model);
+    put_accepted(out, 0, permitted, 1 << n, columns)
 }
 
 // The print of the answer for these tables: a refusal, or the columns of each permitted configuration.
@@ -48,20 +53,26 @@ pub fn print_tables(
         (now (queries .entry)))))
         (now (out .entry)) (now (out .exit)) r ⌝ }
 {
-    let mut rows = [0; COLUMN_WORDS];
-    let v = check(
-        features,
-        attributes,
+    let n = features as usize;
+    let model = model as usize;
+    let mut conditions = [0; EXPRESSION_WORDS];
+    let mut reach = [0; REACH_WORDS];
+    let mut columns = [0; COLUMN_WORDS];
+    let v = typed(
+        n,
+        attributes as usize,
         model,
         expressions,
         entries,
         relations,
         comparisons,
         queries,
-        &mut rows,
+        &mut conditions,
+        &mut reach,
+        &mut columns,
     );
     if let Verdict::Refused(r) = v {
         return put_refused(out, 0, r);
     }
-    print_columns(features as usize, model as usize, expressions, &rows, out)
+    print_columns(n, model, &conditions, &columns, out)
 }

@@ -11,7 +11,7 @@ use native.Mathlib.Omega.{arith}
 use lib.ListN.{length, getD, set, take, drop, replicate, length-set, length-append, length-replicate, drop-of-length-le, List·getD-append}
 use lib.Seq.{ext-getD, getD-set-same, getD-set-other, getD-append-add, take-at, drop-append-add, drop-drop, drop-cons, set-at}
 use Rattle.sets.specs.Search.{countBelow}
-use Rattle.sets.specs.Lists.{table, concat, kept}
+use Rattle.sets.specs.Lists.{table, concat, kept, NumbersAre}
 use Rattle.sets.proofs.SearchLaws.{count-yes, count-no}
 
 module _ {A : Type 0} where
@@ -137,6 +137,49 @@ module _ {A : Type 0} where
       concat-step l =
           let next : n * w + w ≡ (n + 1) * w = sym (ap (λ (k : ℕ). k * w) (add-one n) ∙ suc-mul n w) in
           concat-more n (n * w) w l concat-length ∙ ap (λ (k : ℕ). concat (n + 1) f ++ drop k l) next
+
+-- ---- numbers that stand at the front of a list
+
+-- numbers that were written are those of f
+pub numbers-are : (count : ℕ) (f : ℕ → ℕ) (rest : List ℕ) {numbers : List ℕ} → numbers ≡ table count f ++ rest → NumbersAre count f numbers
+numbers-are count f rest e = record {
+  room = omega (arith, ap length e ∙ length-append (table count f) rest, table-length count f);
+  each = λ k h.
+      ap (λ (l : List ℕ). getD l k 0) e ∙ List·getD-append (table count f) rest 0 k (omega (arith, table-length count f)) ∙ table-at count f 0 k h;
+}
+
+-- a loop that writes `count` numbers over `lent`: those below k stand there. What they are numbers of is left open: for each X that the loop can
+-- read, those of f X
+pub record NumbersFilling {S : Type 0} (Reads : S → Type 0) (f : S → ℕ → ℕ) (count : ℕ) (lent numbers : List ℕ) (k : ℕ) : Type 0 where
+  pub most : k ≤ count
+  pub size : length numbers ≡ length lent
+  pub filled : (X : S) → Reads X → numbers ≡ table k (f X) ++ drop k lent
+
+module _ {S : Type 0} {Reads : S → Type 0} {f : S → ℕ → ℕ} {count : ℕ} {lent : List ℕ} where
+  pub filling-none : NumbersFilling Reads f count lent lent 0
+  filling-none = record { most = omega arith; size = refl; filled = λ X R. refl }
+
+  module _ {numbers : List ℕ} {k : ℕ} (F : NumbersFilling Reads f count lent numbers k) where
+    pub filling-below : {X : S} → Reads X → NumbersAre k (f X) numbers
+    filling-below {X} R = numbers-are k (f X) (drop k lent) (F .filled X R)
+
+    module _ (room : count ≤ length lent) (h : k < count) where
+      -- there is a place for the next number
+      pub filling-place : k < length numbers
+      filling-place = let s = F .size in omega arith
+
+      pub filling-more : {n : ℕ} → ((X : S) → Reads X → n ≡ f X k) → NumbersFilling Reads f count lent (set numbers k n) (k + 1)
+      filling-more {n} e = record {
+        most = omega arith;
+        size = length-set numbers k n ∙ F .size;
+        filled = λ X R. ap₂ (λ (l : List ℕ) (x : ℕ). set l k x) (F .filled X R) (e X R) ∙ table-more k (f X) lent (omega arith);
+      }
+
+    pub filling-all : count ≤ k → (X : S) → Reads X → {whole : ℕ} → count ≡ whole
+        → numbers ≡ table whole (f X) ++ drop (length (table whole (f X))) lent
+    filling-all h X R {whole} e =
+        let m : k ≡ whole = (let l = F .most in omega arith) in
+        F .filled X R ∙ ap₂ (λ (i j : ℕ). table i (f X) ++ drop j lent) m (m ∙ sym (table-length whole (f X)))
 
 -- ---- what is kept of a row of lists, one after another
 

@@ -1,4 +1,3 @@
 pub mod RowSearch
-pub mod StartLaws
 pub mod RowsVerdict
 pub mod TypingSteps

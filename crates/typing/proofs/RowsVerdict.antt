@@ -59,10 +59,6 @@ module _ {T : Tables} (F : Formed T) {rows : List ℕ} (R : RowsAre 16 (queryCou
       lowest-failing : First (λ c. fails T c q) 1024 c
       lowest-failing = lowest-at (λ c. fails T c q) 1024 c (sym row-lowest ∙ f)
 
-      -- which is one of 1,024, and permitted
-      pub configuration-in : c < 1024
-      configuration-in = lowest-failing .below
-
       pub configuration-fails : fails T c q ≡ true
       configuration-fails = lowest-failing .holds
 

@@ -1,9 +1,7 @@
 // Checks 15 to 19: the lowest form that fails, its lowest failing configuration and the lowest item at fault there; and the column rows.
-use decoders::project_length;
 use decoders::query_at;
 use fault_rows::fill_faults;
-use fault_rows::items_at;
-use reach::walk;
+use faults_at::faults_at;
 use report::Query;
 use report::Refusal;
 use report::Verdict;
@@ -11,14 +9,14 @@ use sets::AttributeSet;
 use sets::Found;
 use sets::Row;
 ghost use mathlib.Core.Path.{_≡_};
-ghost use Prim.Native.Nat.{_+_, _*_, _≤_};
+ghost use Prim.Native.Nat.{_*_, _≤_};
 ghost use lib.ListN.{length};
 ghost use Rattle.sets.specs.Search.{lowest};
 ghost use Rattle.sets.specs.Bits.{lowestMember};
-ghost use Rattle.report.specs.Tables.{Tables, projectedBefore};
+ghost use Rattle.report.specs.Tables.{Tables};
 ghost use Rattle.report.specs.Checks.{ruleNumber, typingCheck};
-ghost use Rattle.typing.specs.Typed.{rowed, StartRead, told, ToldReads, ToldReadable, RowsReads, RowsReadable};
-ghost use Rattle.typing.specs.Typed.{TypingReads, TypingReadable, Checked};
+ghost use Rattle.faults_at.specs.FaultsAt.{FaultsReads, FaultsReadable};
+ghost use Rattle.typing.specs.Typed.{rowed, told, RowsReads, RowsReadable, TypingReads, TypingReadable, Checked};
 
 // The lowest of `count` rows that is not empty.
 fn lowest_row(rows: &[u64], count: usize) -> Found
@@ -34,20 +32,6 @@ fn lowest_row(rows: &[u64], count: usize) -> Found
         q += 1;
     }
     Found::Nothing
-}
-
-// Where the list of the project form q starts; those of all project forms lie from `first` on.
-fn project_start(queries: &[u16], q: usize, first: usize) -> usize
-    requires { ⌜ StartRead (now queries) first q ⌝ }
-    ensures { λ r. ⌜ r ≡ first + projectedBefore (now (queries .entry)) q ⌝ }
-{
-    let mut start = first;
-    let mut i = 0;
-    while i < q {
-        start += project_length(query_at(queries, i));
-        i += 1;
-    }
-    start
 }
 
 // The number of a query form's rule.
@@ -80,36 +64,31 @@ fn lowest_item(found: AttributeSet) -> u64
 
 // The refusal of form q at configuration c.
 fn refusal_at(
-    entries: &[u16],
+    relation_entries: &[u16],
+    project_entries: &[u16],
     relations: &[u16],
     comparisons: &[u16],
     queries: &[u16],
     conditions: &[u64],
-    full: Row,
-    first: usize,
-    items: usize,
     q: usize,
     c: usize,
 ) -> Refusal
-    requires { ⌜ ToldReadable (now conditions) (full .words) (now entries) (now relations) (now comparisons) (now queries) first items q c ⌝ }
+    requires { ⌜ FaultsReadable (now conditions) (now «relation_entries») (now «project_entries») (now relations) (now comparisons) (now queries)
+        q c ⌝ }
     ensures { λ r.
         ⌜ ((T : Tables)
-        → ToldReads T (now (conditions .entry)) (full .words) (now (entries .entry)) (now (relations .entry)) (now (comparisons .entry))
-        (now (queries .entry)) first items q c
+        → FaultsReads T (now (conditions .entry)) (now («relation_entries» .entry)) (now («project_entries» .entry)) (now (relations .entry))
+        (now (comparisons .entry)) (now (queries .entry)) q c
         → r ≡ told T q c) ⌝ }
 {
-    let start = project_start(queries, q, first);
-    let found = items_at(
-        entries,
+    let found = faults_at(
+        relation_entries,
+        project_entries,
         relations,
         comparisons,
         queries,
         conditions,
-        full,
-        first,
-        items,
         q,
-        start,
         c,
     );
     let number = rule_number(query_at(queries, q));
@@ -125,21 +104,20 @@ fn refusal_at(
 // The answer from the rows of the configurations at which each form fails. A row that is not empty has a lowest configuration, so the second
 // return is never taken.
 fn check_rows(
-    entries: &[u16],
+    relation_entries: &[u16],
+    project_entries: &[u16],
     relations: &[u16],
     comparisons: &[u16],
     queries: &[u16],
     conditions: &[u64],
-    full: Row,
-    first: usize,
-    items: usize,
     rows: &[u64],
 ) -> Verdict
-    requires { ⌜ RowsReadable (now conditions) (full .words) (now entries) (now relations) (now comparisons) (now queries) first items (now rows) ⌝ }
+    requires { ⌜ RowsReadable (now conditions) (now «relation_entries») (now «project_entries») (now relations) (now comparisons) (now queries)
+        (now rows) ⌝ }
     ensures { λ v.
         ⌜ ((T : Tables)
-        → RowsReads T (now (conditions .entry)) (full .words) (now (entries .entry)) (now (relations .entry)) (now (comparisons .entry))
-        (now (queries .entry)) first items (now (rows .entry))
+        → RowsReads T (now (conditions .entry)) (now («relation_entries» .entry)) (now («project_entries» .entry)) (now (relations .entry))
+        (now (comparisons .entry)) (now (queries .entry)) (now (rows .entry))
         → v ≡ typingCheck T) ⌝ }
 {
     let form = lowest_row(rows, queries.len() / 4);
@@ -151,74 +129,63 @@ fn check_rows(
         return Verdict::Accepted;
     };
     let refusal = refusal_at(
-        entries,
+        relation_entries,
+        project_entries,
         relations,
         comparisons,
         queries,
         conditions,
-        full,
-        first,
-        items,
         q,
         c,
     );
     Verdict::Refused(refusal)
 }
 
-// Checks 15 to 19 of tables whose expression rows `conditions` starts with, and the column rows, whatever the answer. `full` has all
-// configurations and `permitted` the permitted ones; the lists of project forms lie from `first` on, and every item at fault is below `items`.
+// Checks 15 to 19 of tables whose expression rows `conditions` starts with and whose reach rows `reach` starts with, and the column rows,
+// whatever the answer. `full` has all configurations and `permitted` the permitted ones; every item at fault is below `items`.
 pub fn check_typing(
-    entries: &[u16],
+    relation_entries: &[u16],
+    project_entries: &[u16],
     relations: &[u16],
     comparisons: &[u16],
     queries: &[u16],
     conditions: &[u64],
     full: Row,
     permitted: Row,
-    first: usize,
     items: usize,
+    reach: &[u64],
     columns: &mut [u64],
 ) -> Verdict
-    requires { ⌜ TypingReadable (now conditions) (full .words) (permitted .words) (now entries) (now relations) (now comparisons)
-        (now queries) first items (now columns) ⌝ }
+    requires { ⌜ TypingReadable (now conditions) (full .words) (permitted .words) (now reach) (now «relation_entries») (now «project_entries»)
+        (now relations) (now comparisons) (now queries) items (now columns) ⌝ }
     ensures { λ v.
         ⌜ ((T : Tables)
-        → TypingReads T (now (conditions .entry)) (full .words) (permitted .words) (now (entries .entry)) (now (relations .entry))
-        (now (comparisons .entry)) (now (queries .entry)) first items
+        → TypingReads T (now (conditions .entry)) (full .words) (permitted .words) (now (reach .entry)) (now («relation_entries» .entry))
+        (now («project_entries» .entry)) (now (relations .entry)) (now (comparisons .entry)) (now (queries .entry)) items
         → Checked T v (now (columns .exit))) ⌝ }
 {
-    let mut reach = [0; AttributeSet::MOST_QUERIES * Row::WORDS];
     let mut faults = [0; AttributeSet::MOST_QUERIES * Row::WORDS];
-    walk(
-        queries,
-        conditions,
-        queries.len() / 4 - 1,
-        permitted,
-        &mut reach,
-    );
     fill_faults(
-        entries,
+        relation_entries,
+        project_entries,
         relations,
         comparisons,
         queries,
         conditions,
         full,
         permitted,
-        first,
         items,
-        &reach,
+        reach,
         &mut faults,
         &mut *columns,
     );
     check_rows(
-        entries,
+        relation_entries,
+        project_entries,
         relations,
         comparisons,
         queries,
         conditions,
-        full,
-        first,
-        items,
         &faults,
     )
 }

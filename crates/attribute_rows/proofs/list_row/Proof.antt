@@ -1,5 +1,4 @@
 use Prim.Native.Nat.{_-_}
-use native.Mathlib.Omega.{arith}
 use borrow.Author.Needs.{needs}
 use Rattle.attribute_rows.proofs.ListedLaws.{EntriesJoining, listing-none, entry-read, listing-more, listing-all}
 use Rattle.attribute_rows.proofs.list_row.Statement.{statement}
@@ -23,7 +22,6 @@ list-row-spec =
     μ-loop
     (λ c κs. search needs)
     (λ c. listing-none (c .empty .ensures))
-    (λ c. let l = start-of-turn c .pre .reads .inside in omega arith)
     (λ c κs. entry-read (start-of-turn c .pre) _ (c .loop-test .taken))
     (λ c. search needs)
     (λ c. search needs)

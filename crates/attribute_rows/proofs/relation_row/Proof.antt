@@ -13,7 +13,7 @@ relation-length p = p .before .before .before .before
 list-row-requires : tie.Need-list-row-requires
 list-row-requires c κs =
     let p = start (c .before) .pre in
-    record { tables = p .tables; reads = relation-reads (p .at) (c .before .relation-length .ensures .same) }
+    record { tables = p .tables; offset = 0; reads = relation-reads (p .at) (c .before .relation-length .ensures .same) }
 
 load-requires : tie.Need-load-requires
 load-requires c κs = relation-rowed (start (c .before .before) .pre .at) (c .before .relation-expression .ensures .same)
@@ -22,7 +22,7 @@ returns : tie.Need-returns
 returns c = λ T A.
     let n = relation-length c .relation-length .ensures .same in
     relation-is A _ n (c .before .before .before .relation-expression .ensures .same)
-    (c .before .before .list-row .ensures T (relation-reads A n)) (c .before .load .ensures) (c .intersect .ensures)
+    (c .before .before .list-row .ensures T 0 (relation-reads A n)) (c .before .load .ensures) (c .intersect .ensures)
 
 pub relation-row-spec : {M : Type 1} → statement M
 relation-row-spec =

@@ -23,6 +23,7 @@ pub with-entry-spec : {M : Type 1} → statement M
 with-entry-spec =
     tie.close
     (tie.spec
+    (λ c. search needs)
     (λ c κs. search needs)
     (λ c κs. search needs)
     (λ c κs. search needs)

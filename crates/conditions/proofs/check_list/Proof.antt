@@ -6,28 +6,30 @@ use Rattle.conditions.proofs.check_list.Statement.{statement}
 use Rattle.conditions.proofs.check_list.Tie as tie
 
 abbrev Inv-loop : tie.InvT-loop
-Inv-loop rows present entries r start count end k₀ k = Listed rows (present .words) entries start count k
+Inv-loop rows present entries r start count i₀ i = Listed rows (present .words) entries start count i
 
 abbrev μ-loop : tie.MeasureT-loop
-μ-loop rows present entries r start count end k₀ k = start + count - k
+μ-loop rows present entries r start count i₀ i = count - i
 
 -- places of the code that the needs look back to
 abbrev start-of-turn : tie.In-loop Inv-loop μ-loop → tie.Start Inv-loop μ-loop
 start-of-turn p = p .before .before .before .before
 
-abbrev start-of-is-empty : tie.After-is-empty Inv-loop μ-loop → tie.Start Inv-loop μ-loop
-start-of-is-empty p = p .before .before .before .before .before .before .before .before
-
 abbrev turn : tie.After-is-empty Inv-loop μ-loop → tie.In-loop Inv-loop μ-loop
 turn p = p .before .before .before .before
+
+abbrev start-of-is-empty : tie.After-is-empty Inv-loop μ-loop → tie.Start Inv-loop μ-loop
+start-of-is-empty p = start-of-turn (turn p)
 
 abbrev entry-expression : tie.After-is-empty Inv-loop μ-loop → tie.After-entry-expression Inv-loop μ-loop
 entry-expression p = p .before .before .before
 
 load-requires : tie.Need-load-requires Inv-loop μ-loop
 load-requires c κs =
-    let i = start-of-turn (c .before) .pre .inside in
-    let l = start-of-turn (c .before) .pre .rowed (c .before .before .loop .k) (omega arith) in
+    let t = c .before in
+    let s = start-of-turn t in
+    let i = s .pre .inside in
+    let l = s .pre .rowed (s .args .start + t .before .loop .i) (let u = t .loop-test .taken in omega arith) in
     let e = c .entry-expression .ensures .same in
     omega arith
 
@@ -45,12 +47,6 @@ returns c =
     (d .before .before .before .load .ensures) (d .before .before .intersect .ensures) (d .before .is-empty .ensures) _ (d .if1 .taken)
     (c .entry-attribute .ensures .same)
 
-add-k : tie.Need-add-k Inv-loop μ-loop
-add-k c =
-    let i = start-of-is-empty (c .before) .pre .inside in
-    let t = turn (c .before) .loop-test .taken in
-    omega arith
-
 loop-again : tie.Need-loop-again Inv-loop μ-loop
 loop-again c =
     let i = turn (c .before) in
@@ -63,15 +59,15 @@ check-list-spec =
     (tie.spec
     Inv-loop
     μ-loop
-    (λ c. let i = c .before .before .pre .inside in omega arith)
     (λ c. listed-none _ _ _ _ _)
+    (λ c. let i = start-of-turn c .pre .inside in omega arith)
     (λ c κs. let i = start-of-turn c .pre .inside in omega arith)
     load-requires
     (λ c κs. search needs)
     (λ c κs. search needs)
     entry-attribute-requires
     returns
-    add-k
+    (λ c. search needs)
     (λ c. let t = turn (c .before) .loop-test .taken in omega arith)
     loop-again
     (λ c. listed-all _ _ _ _ _ _ (c .before .loop .inv) (c .loop-test .left)))

@@ -20,7 +20,7 @@ missing-row-requires c κs =
 returns : tie.Need-returns
 returns c =
     let i = start (c .before .before .before) in
-    absent-here (i .pre) (i .args .full .words) (c .before .before .if1 .taken) (c .before .relation-expression .ensures .same)
+    absent-here (i .pre) (i .args .reached .words) (c .before .before .if1 .taken) (c .before .relation-expression .ensures .same)
     (c .missing-row .ensures)
 
 empty-requires : tie.Need-empty-requires
@@ -29,7 +29,7 @@ empty-requires c κs = search needs
 returns-2 : tie.Need-returns-2
 returns-2 c =
     let i = start (c .before .before) in
-    absent-other (i .pre) (i .args .full .words) (c .before .if1 .left) (c .empty .ensures)
+    absent-other (i .pre) (i .args .reached .words) (c .before .if1 .left) (c .empty .ensures)
 
 pub absent-row-spec : {M : Type 1} → statement M
 absent-row-spec =

@@ -1,64 +1,66 @@
 use borrow.Author.Needs.{needs}
 use Prim.Native.Nat.{_-_}
 use native.Mathlib.Omega.{arith}
-use Rattle.fault_rows.proofs.FailLaws.{Arrays, arrays-clear, arrays-kept, arrays-readable}
-use Rattle.fault_rows.proofs.FailLaws.{Failing, failing-none, failing-join, failing-column, failing-more, failing-all}
+use Rattle.fault_rows.proofs.FailLaws.{Arrays, arrays-clear, arrays-kept, arrays-named, arrays-relations}
+use Rattle.fault_rows.proofs.FailLaws.{Failing, failing-none, failing-forms, failing-column, failing-more, failing-all}
 use Rattle.fault_rows.proofs.fill_faults.Statement.{statement}
 use Rattle.fault_rows.proofs.fill_faults.Tie as tie
 
 abbrev Inv-loop : tie.InvT-loop
-Inv-loop entries relations comparisons queries conditions full permits first items reach faults₀ columns₀ named₀ relationRows₀ sets₀ a₀ faults columns
-    named relationRows sets a =
+Inv-loop relationEntries projectEntries relations comparisons queries conditions full permits items reach faults₀ columns₀ named₀ relationRows₀ sets₀
+    a₀ faults columns named relationRows sets a =
     Arrays named relationRows sets
-    × Failing conditions (full .words) (permits .words) reach entries relations comparisons queries first items faults₀ columns₀ faults columns a
+    × Failing conditions (full .words) (permits .words) reach relationEntries projectEntries relations comparisons queries items faults₀ columns₀
+    faults columns a
 
 abbrev μ-loop : tie.MeasureT-loop
-μ-loop entries relations comparisons queries conditions full permits first items reach faults₀ columns₀ named₀ relationRows₀ sets₀ a₀ faults columns
-    named relationRows sets a =
+μ-loop relationEntries projectEntries relations comparisons queries conditions full permits items reach faults₀ columns₀ named₀ relationRows₀ sets₀
+    a₀ faults columns named relationRows sets a =
     items - a
 
 -- places of the code that the needs look back to
 abbrev start : tie.After-slice-known2 Inv-loop μ-loop → tie.Start Inv-loop μ-loop
-start p = p .before .before .before .before .before .before .before .before
+start p = p .before .before .before .before .before .before .before .before .before
 
-abbrev loop : tie.After-sets Inv-loop μ-loop → tie.At-loop Inv-loop μ-loop
-loop p = p .before .before .before .before
+abbrev turn : tie.After-fill-relation-rows Inv-loop μ-loop → tie.In-loop Inv-loop μ-loop
+turn p = p .before .before .before .before .before
 
-abbrev turn : tie.After-fill-attribute Inv-loop μ-loop → tie.In-loop Inv-loop μ-loop
-turn p = p .before .before .before .before
+abbrev fill-relation-rows : tie.After-type-forms-arg Inv-loop μ-loop → tie.After-fill-relation-rows Inv-loop μ-loop
+fill-relation-rows p = p .before .before .before .before .before
 
-abbrev fill-attribute : tie.After-sets3 Inv-loop μ-loop → tie.After-fill-attribute Inv-loop μ-loop
-fill-attribute p = p .before .before .before .before .before
+abbrev type-forms : tie.After-store-column-arg Inv-loop μ-loop → tie.After-type-forms Inv-loop μ-loop
+type-forms p = p .before .before .before .before .before
 
-abbrev fill-attribute-of-store-column-arg : tie.After-store-column-arg Inv-loop μ-loop → tie.After-fill-attribute Inv-loop μ-loop
-fill-attribute-of-store-column-arg p = p .before .before .before .before .before .before .before .before .before .before .before
+fill-named-rows-requires : tie.Need-fill-named-rows-requires Inv-loop μ-loop
+fill-named-rows-requires c κs =
+    let l = c .before .before in
+    arrays-named (start (l .before) .pre .reads .reads) (l .loop .inv .0)
 
-abbrev join-faults : tie.After-store-column Inv-loop μ-loop → tie.After-join-faults Inv-loop μ-loop
-join-faults p = p .before .before .before .before .before
+fill-relation-rows-requires : tie.Need-fill-relation-rows-requires Inv-loop μ-loop
+fill-relation-rows-requires c κs =
+    let l = c .before .before .before .before .before in
+    arrays-relations (start (l .before) .pre .reads .reads) (l .loop .inv .0)
 
-fill-attribute-requires : tie.Need-fill-attribute-requires Inv-loop μ-loop
-fill-attribute-requires c κs =
-    let l = loop c in
-    arrays-readable (start (l .before) .pre .reads .reads) (l .loop .inv .0)
-
-join-faults-requires : tie.Need-join-faults-requires Inv-loop μ-loop
-join-faults-requires c κs =
-    let f = fill-attribute (c .before) in
-    let l = loop (f .before) in
-    failing-join (start (l .before) .pre) (l .loop .inv .1) (f .fill-attribute .ensures)
+type-forms-requires : tie.Need-type-forms-requires Inv-loop μ-loop
+type-forms-requires c κs =
+    let r = fill-relation-rows c in
+    let n = r .before .before .before in
+    let l = turn r .before in
+    failing-forms (start (l .before) .pre) (l .loop .inv .1) (l .loop .inv .0) (n .fill-named-rows .ensures) (r .fill-relation-rows .ensures)
 
 store-column-requires : tie.Need-store-column-requires Inv-loop μ-loop
 store-column-requires c κs =
-    let f = fill-attribute-of-store-column-arg c in
-    let i = turn f in
+    let t = type-forms c in
+    let r = fill-relation-rows (t .before) in
+    let n = r .before .before .before in
+    let i = turn r in
     let l = i .before in
-    let p = start (l .before) .pre in
-    failing-column p (l .loop .inv .1) (f .fill-attribute .ensures) (i .loop-test .taken)
+    failing-column (start (l .before) .pre) (l .loop .inv .1) (l .loop .inv .0) (n .fill-named-rows .ensures) (r .fill-relation-rows .ensures)
+    (t .type-forms .ensures) (i .loop-test .taken)
 
 add-a : tie.Need-add-a Inv-loop μ-loop
 add-a c =
-    let f = fill-attribute-of-store-column-arg (c .before .before .before) in
-    let i = turn f in
+    let i = turn (fill-relation-rows (type-forms (c .before .before .before) .before)) in
     let m = start (i .before .before) .fits .items in
     let l = i .loop-test .taken in
     omega arith
@@ -66,16 +68,16 @@ add-a c =
 loop-again : tie.Need-loop-again Inv-loop μ-loop
 loop-again c =
     let s = c .before .before in
-    let j = join-faults s in
-    let f = fill-attribute (j .before .before) in
-    let i = turn f in
-    let l = i .before in
-    let a = f .fill-attribute in
-    let p = start (l .before) .pre in (
-      arrays-kept (l .loop .inv .0) (a .kept .1 .1 .1 .1 .1 .1 .1 .1 .0) (a .kept .1 .1 .1 .1 .1 .1 .1 .1 .1 .0)
-          (a .kept .1 .1 .1 .1 .1 .1 .1 .1 .1 .1 .0),
-      failing-more p (l .loop .inv .1) (f .fill-attribute .ensures) (i .loop-test .taken)
-          (j .join-faults .kept .1 .1 .1 .1 .1 .1 .1 .1 .1 .1 .0) (j .join-faults .ensures)
+    let t = type-forms (s .before) in
+    let r = fill-relation-rows (t .before) in
+    let n = r .before .before .before in
+    let i = turn r in
+    let l = i .before in (
+      arrays-kept (l .loop .inv .0) (n .fill-named-rows .kept .1 .1 .1 .1 .0) (r .fill-relation-rows .kept .1 .1 .1 .1 .0)
+          (t .type-forms .kept .1 .1 .1 .1 .1 .1 .1 .1 .0),
+      failing-more (start (l .before) .pre) (l .loop .inv .1) (l .loop .inv .0) (n .fill-named-rows .ensures) (r .fill-relation-rows .ensures)
+          (t .type-forms .ensures) (i .loop-test .taken)
+          (t .type-forms .kept .1 .1 .1 .1 .1 .1 .1 .1 .1 .0)
           (s .store-column .kept .1 .1 .1 .1 .0) (s .store-column .ensures),
     )
 
@@ -92,12 +94,13 @@ fill-faults-spec =
     μ-loop
     (λ c. (arrays-clear, failing-none (start c .pre)))
     (λ c. search needs)
+    fill-named-rows-requires
+    (λ c. search needs)
+    fill-relation-rows-requires
     (λ c. search needs)
     (λ c. search needs)
-    fill-attribute-requires
     (λ c. search needs)
-    (λ c. search needs)
-    join-faults-requires
+    type-forms-requires
     (λ c. search needs)
     store-column-requires
     add-a

@@ -7,10 +7,10 @@ use Rattle.forms.proofs.check_queries.Statement.{statement}
 use Rattle.forms.proofs.check_queries.Tie as tie
 
 abbrev Inv-loop : tie.InvT-loop
-Inv-loop counts entries start queries marks₀ count end₀ q₀ marks end q = QueriesPassed counts entries start queries marks end q
+Inv-loop counts entries split queries marks₀ count end₀ q₀ marks end q = QueriesPassed counts entries queries marks end q
 
 abbrev μ-loop : tie.MeasureT-loop
-μ-loop counts entries start queries marks₀ count end₀ q₀ marks end q = length queries / 4 - q
+μ-loop counts entries split queries marks₀ count end₀ q₀ marks end q = length queries / 4 - q
 
 -- places of the code that the needs look back to
 abbrev query-fits : tie.After-project-length Inv-loop μ-loop → tie.After-query-fits Inv-loop μ-loop
@@ -90,5 +90,7 @@ check-queries-spec =
     loop-again
     (λ c. search needs)
     (λ c. search needs)
+    (λ c. let l = c .before .before in let i = l .loop .inv .inside in let m = l .before .before .before .pre .few in omega arith)
+    (λ c. let m = c .before .before .before .before .before .pre .few in omega arith)
     (λ c κs. search needs)
     returns-2)

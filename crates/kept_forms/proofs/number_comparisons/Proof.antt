@@ -1,11 +1,14 @@
 use Prim.Native.Nat.{_/_, _-_}
 use mathlib.Core.Bool.{not}
+use mathlib.Core.Path.{ap}
+use mathlib.Core.List.{List}
 use native.Mathlib.Omega.{arith}
 use borrow.Author.Needs.{needs}
 use lib.ListN.{length}
-use Rattle.report.specs.Operands.{comparisonOperands, isChoice}
-use Rattle.kept_forms.proofs.NumberLaws.{one-more, ComparisonNumbering, numbering-none}
-use Rattle.kept_forms.proofs.NumberLaws.{comparisons-few, comparison-place, some-comparison, comparisons-more, comparisons-all}
+use Rattle.sets.proofs.ListLaws.{filling-place, filling-all}
+use Rattle.report.specs.Operands.{isChoice}
+use Rattle.kept_forms.proofs.NumberLaws.{one-more, ComparisonNumbering, comparison-to, comparison-counts}
+use Rattle.kept_forms.proofs.NumberLaws.{numbering-none, numbering-few, numbering-read, numbering-more}
 use Rattle.kept_forms.proofs.number_comparisons.Statement.{statement}
 use Rattle.kept_forms.proofs.number_comparisons.Tie as tie
 
@@ -19,31 +22,43 @@ abbrev μ-loop : tie.MeasureT-loop
 abbrev start : tie.In-loop Inv-loop μ-loop → tie.Start Inv-loop μ-loop
 start p = p .before .before .before .before .before
 
-comparison-number-requires : tie.Need-comparison-number-requires Inv-loop μ-loop
-comparison-number-requires c κs =
-    let i = c .before .before in
-    some-comparison (i .before .loop .inv) (start i .pre) (i .loop-test .taken) (c .before .comparison-at .ensures)
+form-number-requires : tie.Need-form-number-requires Inv-loop μ-loop
+form-number-requires c κs =
+    let o = c .before in
+    let x = o .before in
+    let i = x .before in
+    let h = i .loop-test .taken in
+    let A = start i .pre in
+    numbering-read (i .before .loop .inv) (A .room) h
+    (λ T R. comparison-to R h (x .comparison-at .ensures) (o .comparison-operands .ensures)) (A .reads)
 
 slice-write-numbers : tie.Need-slice-write-numbers Inv-loop μ-loop
 slice-write-numbers c =
-    let i = c .before .before .before in
-    comparison-place (i .before .loop .inv) (start i .pre) (i .loop-test .taken)
+    let i = c .before .before .before .before in
+    filling-place (i .before .loop .inv .filling) (start i .pre .room) (i .loop-test .taken)
 
 add-kept : tie.Need-add-kept Inv-loop μ-loop
 add-kept c =
-    let x = c .before .before .before in
-    let i = x .before in
-    let A = start i .pre in
-    let l = comparisons-few (i .before .loop .inv) A (i .loop-test .taken) in
-    let s = c .comparison-kept .ensures in
-    omega (arith, one-more (not (isChoice (comparisonOperands (x .comparison-at .result)))))
+    let o = c .before .before .before in
+    let i = o .before .before in
+    let l = numbering-few (i .before .loop .inv) (start i .pre .reads) in
+    let h = i .loop-test .taken in
+    let s = c .kept-if .ensures in
+    omega (arith, one-more (not (isChoice (o .comparison-operands .result))))
 
 loop-again : tie.Need-loop-again Inv-loop μ-loop
 loop-again c =
-    let x = c .before .before .before in
+    let n = c .before in
+    let o = n .before .before in
+    let x = o .before in
     let i = x .before in
-    comparisons-more (i .before .loop .inv) (start i .pre) (i .loop-test .taken) (x .comparison-at .ensures)
-    (c .before .comparison-number .ensures) (c .comparison-kept .ensures)
+    let h = i .loop-test .taken in
+    numbering-more (i .before .loop .inv) (start i .pre .room) h
+    (λ T R. comparison-to R h (x .comparison-at .ensures) (o .comparison-operands .ensures)) (n .form-number .ensures)
+    (λ T R. comparison-counts R h (x .comparison-at .ensures) (o .comparison-operands .ensures) (c .kept-if .ensures))
+
+returns : tie.Need-returns Inv-loop μ-loop
+returns c = λ T R. filling-all (c .before .loop .inv .filling) (c .loop-test .left) T R (ap (λ (t : List _). length t / 5) (R .comparisonsAre))
 
 pub number-comparisons-spec : {M : Type 1} → statement M
 number-comparisons-spec =
@@ -53,7 +68,8 @@ number-comparisons-spec =
     μ-loop
     (λ c. numbering-none)
     (λ c κs. search needs)
-    comparison-number-requires
+    (λ c κs. search needs)
+    form-number-requires
     (λ c. search needs)
     slice-write-numbers
     (λ c κs. search needs)
@@ -61,5 +77,5 @@ number-comparisons-spec =
     (λ c. search needs)
     (λ c. search needs)
     loop-again
-    (λ c. c .before .loop .inv .size)
-    (λ c. comparisons-all (c .before .loop .inv) (c .loop-test .left)))
+    (λ c. c .before .loop .inv .filling .size)
+    returns)

@@ -11,7 +11,7 @@ cast-result c =
     let R = s .pre .reads in
     let e = c .new-relation .ensures (s .pre .tables) R in
     let l = s .pre .few in
-    let m = R .reads .filled .formed .sized2 .fits in
+    let m = R .reads .formed .sized2 .fits in
     omega (arith, count-le (present (s .pre .tables) (s .args .c)) (s .args .a))
 
 pub relation-word-spec : {M : Type 1} → statement M

@@ -9,11 +9,11 @@ use Rattle.kept_forms.proofs.write_queries.Statement.{statement}
 use Rattle.kept_forms.proofs.write_queries.Tie as tie
 
 abbrev Inv-loop : tie.InvT-loop
-Inv-loop entries relations queries conditions reach c first comparisonNumbers queryNumbers out₀ count start₀ p₀ q₀ out start p q =
-    QueryWriting conditions reach entries relations queries first c comparisonNumbers queryNumbers out₀ out q start p
+Inv-loop projectEntries relations queries conditions reach c comparisonNumbers queryNumbers out₀ count start₀ p₀ q₀ out start p q =
+    QueryWriting conditions reach projectEntries relations queries c comparisonNumbers queryNumbers out₀ out q start p
 
 abbrev μ-loop : tie.MeasureT-loop
-μ-loop entries relations queries conditions reach c first comparisonNumbers queryNumbers out₀ count start₀ p₀ q₀ out start p q =
+μ-loop projectEntries relations queries conditions reach c comparisonNumbers queryNumbers out₀ count start₀ p₀ q₀ out start p q =
     length queries / 4 - q
 
 -- places of the code that the needs look back to
@@ -23,8 +23,8 @@ start-of-loop p = p .before .before .before .before .before .before .before .bef
 abbrev query-at : tie.After-project-length Inv-loop μ-loop → tie.After-query-at Inv-loop μ-loop
 query-at p = p .before .before .before .before .before .before
 
-row-has-requires : tie.Need-row-has-requires Inv-loop μ-loop
-row-has-requires c κs =
+holds-at-requires : tie.Need-holds-at-requires Inv-loop μ-loop
+holds-at-requires c κs =
     let i = c .before in
     reach-rowed (start-of-loop (i .before) .pre .reads .reads) (i .loop-test .taken)
 
@@ -33,17 +33,17 @@ write-reached-requires c κs =
     let r = c .before in
     let x = r .before in
     let i = x .before in
-    query-forms-read (i .before .loop .inv) (i .loop-test .taken) (x .query-at .ensures) (r .row-has .ensures)
+    query-forms-read (i .before .loop .inv) (i .loop-test .taken) (x .query-at .ensures) (r .holds-at .ensures)
     (start-of-loop (i .before) .pre)
 
 add-start : tie.Need-add-start Inv-loop μ-loop
 add-start c =
     let x = query-at c in
     let i = x .before in
-    let l = query-forms-small (i .before .loop .inv) (i .loop-test .taken) (x .query-at .ensures)
-    (start-of-loop (i .before) .pre) in
+    let s = start-of-loop (i .before) in
+    let l = query-forms-small (i .before .loop .inv) (i .loop-test .taken) (x .query-at .ensures) (s .pre) in
     let e = c .project-length .ensures in
-    omega arith
+    omega (arith, s .good .0)
 
 loop-again : tie.Need-loop-again Inv-loop μ-loop
 loop-again c =
@@ -51,7 +51,7 @@ loop-again c =
     let r = w .before .before in
     let x = r .before in
     let i = x .before in
-    query-forms-more (i .before .loop .inv) (i .loop-test .taken) (x .query-at .ensures) (r .row-has .ensures) (w .write-reached .ensures)
+    query-forms-more (i .before .loop .inv) (i .loop-test .taken) (x .query-at .ensures) (r .holds-at .ensures) (w .write-reached .ensures)
     (c .project-length .ensures)
 
 pub write-queries-spec : {M : Type 1} → statement M
@@ -62,7 +62,7 @@ write-queries-spec =
     μ-loop
     (λ c. query-forms-none)
     (λ c κs. search needs)
-    row-has-requires
+    holds-at-requires
     write-reached-requires
     (λ c κs. search needs)
     add-start

@@ -1,6 +1,7 @@
 use native.Mathlib.Omega.{arith}
 use borrow.Author.Needs.{needs}
 use Rattle.sets.proofs.WritingLaws.{none-written}
+use Rattle.at_configuration.proofs.ListLaws.{form-lower}
 use Rattle.kept_forms.proofs.QueryLaws.{relation-reads, project-reads, some-relation, some-project, same-second}
 use Rattle.kept_forms.proofs.write_query.Statement.{statement}
 use Rattle.kept_forms.proofs.write_query.Tie as tie
@@ -27,7 +28,7 @@ mul-put-over c =
     let k = c .before .before in
     let start = k .before .before .before .before .before .before .before .before in
     let A = start .pre in
-    let l = rw (k .x2 .given .1) at (A .stands .stands .lower) in
+    let l = rw (k .x2 .given .1) at (form-lower (A .reads .at)) in
     omega arith
 
 shared-slice-read-put-over : tie.Need-shared-slice-read-put-over
@@ -35,7 +36,7 @@ shared-slice-read-put-over c =
     let k = c .before .before .before in
     let start = k .before .before .before .before .before .before .before .before in
     let A = start .pre in
-    let l = rw (k .x2 .given .1) at (A .stands .stands .lower) in
+    let l = rw (k .x2 .given .1) at (form-lower (A .reads .at)) in
     omega arith
 
 put-over-requires : tie.Need-put-over-requires
@@ -43,7 +44,7 @@ put-over-requires c κs =
     let k = c .before .before .before in
     let start = k .before .before .before .before .before .before .before .before in
     let A = start .pre in
-    let l = rw (k .x2 .given .1) at (A .stands .stands .lower) in
+    let l = rw (k .x2 .given .1) at (form-lower (A .reads .at)) in
     record { second = omega arith; room = rw (k .x2 .given .1) at (A .room) }
 
 length-word-requires : tie.Need-length-word-requires
@@ -57,7 +58,7 @@ put-over-requires-2 c κs =
     let k = c .before .before .before in
     let start = k .before .before .before .before .before .before .before .before in
     let A = start .pre in
-    let l = rw (k .x3 .given .1) at (A .stands .stands .lower) in
+    let l = rw (k .x3 .given .1) at (form-lower (A .reads .at)) in
     record { second = omega arith; room = record { fits = (rw (k .x3 .given .1) at (A .room)) .fits } }
 
 put-pair-requires : tie.Need-put-pair-requires
@@ -65,7 +66,7 @@ put-pair-requires c κs =
     let k = c .before .before in
     let start = k .before .before .before .before .before .before .before .before in
     let A = start .pre in
-    let l = rw (k .x4 .given .1) at (A .stands .stands .lower) in
+    let l = rw (k .x4 .given .1) at (form-lower (A .reads .at)) in
     record { first = omega arith; second = omega arith; room = rw (k .x4 .given .1) at (A .room) }
 
 put-pair-requires-2 : tie.Need-put-pair-requires-2
@@ -73,7 +74,7 @@ put-pair-requires-2 c κs =
     let k = c .before .before in
     let start = k .before .before .before .before .before .before .before .before in
     let A = start .pre in
-    let l = rw (k .x5 .given .1) at (A .stands .stands .lower) in
+    let l = rw (k .x5 .given .1) at (form-lower (A .reads .at)) in
     record { first = omega arith; second = omega arith; room = rw (k .x5 .given .1) at (A .room) }
 
 put-pair-requires-3 : tie.Need-put-pair-requires-3
@@ -81,7 +82,7 @@ put-pair-requires-3 c κs =
     let k = c .before .before in
     let start = k .before .before .before .before .before .before .before .before in
     let A = start .pre in
-    let l = rw (k .x6 .given .1) at (A .stands .stands .lower) in
+    let l = rw (k .x6 .given .1) at (form-lower (A .reads .at)) in
     record { first = omega arith; second = omega arith; room = rw (k .x6 .given .1) at (A .room) }
 
 returns-3 : tie.Need-returns-3
@@ -95,7 +96,7 @@ returns-5 c = λ T q A.
     let put = c .before .before in
     let n = put .before .before in
     let e = n .before .before .x3 .given .1 in
-    rw e (same-second (n .length-word .ensures T (project-reads A e)) (put .put-over2 .ensures))
+    rw e (same-second (n .length-word .ensures T _ (project-reads A e)) (put .put-over2 .ensures))
 
 pub write-query-spec : {M : Type 1} → statement M
 write-query-spec =

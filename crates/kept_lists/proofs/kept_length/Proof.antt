@@ -1,15 +1,16 @@
-use Prim.Native.Nat.{_-_}
+use Prim.Native.Nat.{ℕ, _+_, _-_}
 use native.Mathlib.Omega.{arith}
 use borrow.Author.Needs.{needs}
 use Rattle.report.specs.Configuring.{entryKept}
-use Rattle.kept_lists.specs.Keeping.{KeptListReads}
-use Rattle.kept_lists.proofs.KeepingLaws.{each-entry, some-entry, list-short, Counting, counting-none, counting-more, counting-all}
+use Rattle.at_configuration.specs.AtConfiguration.{ListReads}
+use Rattle.at_configuration.proofs.ListLaws.{each-entry, some-entry, list-small}
+use Rattle.kept_lists.proofs.CountLaws.{Counting, counting-none, counting-more, counting-all}
 use Rattle.kept_lists.proofs.kept_length.Statement.{statement}
 use Rattle.kept_lists.proofs.kept_length.Tie as tie
 
 abbrev Inv-loop : tie.InvT-loop
 Inv-loop entries conditions c start count kept₀ i₀ kept i =
-    Counting (λ T. KeptListReads T conditions entries c start count) (λ T. entryKept T c start) count kept i
+    (offset : ℕ) → Counting (λ T. ListReads T offset conditions entries c start count) (λ T. entryKept T c (offset + start)) count kept i
 
 abbrev μ-loop : tie.MeasureT-loop
 μ-loop entries conditions c start count kept₀ i₀ kept i = count - i
@@ -18,21 +19,20 @@ abbrev μ-loop : tie.MeasureT-loop
 abbrev start-of-turn : tie.In-loop Inv-loop μ-loop → tie.Start Inv-loop μ-loop
 start-of-turn p = p .before .before .before .before
 
-add-entry-holds : tie.Need-add-entry-holds Inv-loop μ-loop
-add-entry-holds c = let l = list-short (start-of-turn c .pre .reads) in omega arith
-
 more-if-requires : tie.Need-more-if-requires Inv-loop μ-loop
 more-if-requires c κs =
-    let i = c .before .before in
-    let l = list-short (i .before .before .before .pre .reads) in
-    let m = i .loop .inv .least in
+    let i = c .before in
+    let A = start-of-turn i .pre in
+    let l = list-small (A .reads) in
+    let m = i .before .loop .inv (A .offset) .least in
+    let h = i .loop-test .taken in
     omega arith
 
 loop-again : tie.Need-loop-again Inv-loop μ-loop
-loop-again c =
+loop-again c = λ offset.
     let i = c .before .before in
     let h = i .loop-test .taken in
-    counting-more (i .before .loop .inv) h (λ T R. c .before .entry-holds .ensures T (each-entry R _ h)) (c .more-if .ensures)
+    counting-more (i .before .loop .inv offset) h (λ T R. c .before .entry-holds .ensures T offset (each-entry R h)) (c .more-if .ensures)
 
 pub kept-length-spec : {M : Type 1} → statement M
 kept-length-spec =
@@ -40,11 +40,10 @@ kept-length-spec =
     (tie.spec
     Inv-loop
     μ-loop
-    (λ c. counting-none)
-    add-entry-holds
-    (λ c κs. some-entry (start-of-turn c .pre) _ (c .loop-test .taken))
+    (λ c. λ offset. counting-none)
+    (λ c κs. some-entry (start-of-turn c .pre) (c .loop-test .taken))
     more-if-requires
     (λ c. search needs)
     (λ c. search needs)
     loop-again
-    (λ c. counting-all (c .before .loop .inv) (c .loop-test .left)))
+    (λ c. λ T offset. counting-all (c .before .loop .inv offset) (c .loop-test .left) T))

@@ -2,8 +2,8 @@ use Prim.Native.Nat.{_-_}
 use native.Mathlib.Omega.{arith}
 use borrow.Author.Needs.{needs}
 use Rattle.report.specs.Typing.{present}
-use Rattle.kept_lists.specs.Keeping.{PresentReads}
-use Rattle.kept_lists.proofs.KeepingLaws.{some-relation, relations-few, Counting, counting-none, counting-more, counting-all}
+use Rattle.at_configuration.specs.AtConfiguration.{PresentReads}
+use Rattle.kept_lists.proofs.CountLaws.{some-relation, relations-few, Counting, counting-none, counting-more, counting-all}
 use Rattle.kept_lists.proofs.new_relation.Statement.{statement}
 use Rattle.kept_lists.proofs.new_relation.Tie as tie
 

@@ -1,7 +1,6 @@
 use Prim.Native.Nat.{_-_}
-use native.Mathlib.Omega.{arith}
 use borrow.Author.Needs.{needs}
-use Rattle.kept_lists.proofs.KeepingLaws.{each-entry, entry-read, list-short}
+use Rattle.at_configuration.proofs.ListLaws.{each-entry}
 use Rattle.kept_lists.proofs.StepLaws.{keeping-none, keeping-all, keeping-length, EntriesWriting, listing-room, listing-more}
 use Rattle.kept_lists.proofs.write_list.Statement.{statement}
 use Rattle.kept_lists.proofs.write_list.Tie as tie
@@ -17,31 +16,30 @@ abbrev μ-loop : tie.MeasureT-loop
 abbrev start-of-loop : tie.At-loop Inv-loop μ-loop → tie.Start Inv-loop μ-loop
 start-of-loop p = p .before .before .before .before
 
-add-k : tie.Need-add-k Inv-loop μ-loop
-add-k c = let l = list-short (start-of-loop (c .before) .pre .reads) in omega arith
-
-entry-attribute-requires : tie.Need-entry-attribute-requires Inv-loop μ-loop
-entry-attribute-requires c κs = entry-read (each-entry (start-of-loop (c .before) .pre .reads) _ (c .loop-test .taken))
-
 entry-holds-requires : tie.Need-entry-holds-requires Inv-loop μ-loop
 entry-holds-requires c κs =
     let i = c .before in
     let A = start-of-loop (i .before) .pre in
-    record { tables = A .tables; reads = each-entry (A .reads) _ (i .loop-test .taken) }
+    record { tables = A .tables; offset = A .offset; reads = each-entry (A .reads) (i .loop-test .taken) }
 
 write-pair-requires : tie.Need-write-pair-requires Inv-loop μ-loop
 write-pair-requires c κs =
-    let e = c .before in
-    let i = e .before .before in
-    listing-room (i .before .loop .inv) (i .loop-test .taken) (e .before .entry-attribute .ensures) (e .entry-holds .ensures)
+    let h = c .before in
+    let e = h .before in
+    let i = e .before in
+    listing-room (i .before .loop .inv) (i .loop-test .taken) (e .entry-attribute .ensures) (h .entry-holds .ensures)
     (start-of-loop (i .before) .pre)
 
 loop-again : tie.Need-loop-again Inv-loop μ-loop
 loop-again c =
     let w = c .before .before in
-    let e = w .before .before in
-    let i = e .before .before in
-    listing-more (i .before .loop .inv) (i .loop-test .taken) (e .before .entry-attribute .ensures) (e .entry-holds .ensures) (w .write-pair .ensures)
+    let h = w .before .before in
+    let e = h .before in
+    let i = e .before in
+    listing-more (i .before .loop .inv) (i .loop-test .taken) (e .entry-attribute .ensures) (h .entry-holds .ensures) (w .write-pair .ensures)
+
+same-size : tie.Need-same-length Inv-loop μ-loop
+same-size c = let A = start-of-loop (c .before) .pre in keeping-length (c .before .loop .inv (A .offset)) (A .reads)
 
 pub write-list-spec : {M : Type 1} → statement M
 write-list-spec =
@@ -49,13 +47,13 @@ write-list-spec =
     (tie.spec
     Inv-loop
     μ-loop
-    (λ c. keeping-none)
-    add-k
-    entry-attribute-requires
+    (λ c. λ offset. keeping-none)
+    (λ c. search needs)
+    (λ c κs. search needs)
     entry-holds-requires
     write-pair-requires
     (λ c. search needs)
     (λ c. search needs)
     loop-again
-    (λ c. keeping-length (c .before .loop .inv) (start-of-loop (c .before) .pre .reads))
-    (λ c. keeping-all (c .before .loop .inv) (c .loop-test .left)))
+    same-size
+    (λ c. λ T offset. keeping-all (c .before .loop .inv offset) (c .loop-test .left) T))

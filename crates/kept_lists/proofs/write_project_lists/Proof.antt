@@ -9,11 +9,11 @@ use Rattle.kept_lists.proofs.write_project_lists.Statement.{statement}
 use Rattle.kept_lists.proofs.write_project_lists.Tie as tie
 
 abbrev Inv-loop : tie.InvT-loop
-Inv-loop entries queries conditions reach c first out₀ at count start₀ p₀ q₀ out start p q =
-    Projecting conditions reach entries queries first c out₀ at out q start p
+Inv-loop projectEntries queries conditions reach c out₀ at count start₀ p₀ q₀ out start p q =
+    Projecting conditions reach projectEntries queries c out₀ at out q start p
 
 abbrev μ-loop : tie.MeasureT-loop
-μ-loop entries queries conditions reach c first out₀ at count start₀ p₀ q₀ out start p q = length queries / 4 - q
+μ-loop projectEntries queries conditions reach c out₀ at count start₀ p₀ q₀ out start p q = length queries / 4 - q
 
 -- places of the code that the needs look back to
 abbrev start-of-loop : tie.At-loop Inv-loop μ-loop → tie.Start Inv-loop μ-loop
@@ -22,8 +22,8 @@ start-of-loop p = p .before .before .before .before .before .before
 abbrev project-length : tie.After-slice-known2 Inv-loop μ-loop → tie.After-project-length Inv-loop μ-loop
 project-length p = p .before .before .before .before .before
 
-row-has-requires : tie.Need-row-has-requires Inv-loop μ-loop
-row-has-requires c κs =
+holds-at-requires : tie.Need-holds-at-requires Inv-loop μ-loop
+holds-at-requires c κs =
     let i = c .before .before in
     projecting-rowed (start-of-loop (i .before) .pre) (i .loop-test .taken)
 
@@ -33,7 +33,7 @@ write-list-if-requires c κs =
     let n = b .before in
     let x = n .before in
     let i = x .before in
-    projecting-room (i .before .loop .inv) (i .loop-test .taken) (x .query-at .ensures) (n .project-length .ensures) (b .row-has .ensures)
+    projecting-room (i .before .loop .inv) (i .loop-test .taken) (x .query-at .ensures) (n .project-length .ensures) (b .holds-at .ensures)
     (start-of-loop (i .before) .pre)
 
 add-start : tie.Need-add-start Inv-loop μ-loop
@@ -52,7 +52,7 @@ loop-again c =
     let n = b .before in
     let x = n .before in
     let i = x .before in
-    projecting-more (i .before .loop .inv) (i .loop-test .taken) (x .query-at .ensures) (n .project-length .ensures) (b .row-has .ensures)
+    projecting-more (i .before .loop .inv) (i .loop-test .taken) (x .query-at .ensures) (n .project-length .ensures) (b .holds-at .ensures)
     (w .write-list-if .ensures)
 
 pub write-project-lists-spec : {M : Type 1} → statement M
@@ -64,7 +64,7 @@ write-project-lists-spec =
     (λ c. projecting-none)
     (λ c κs. search needs)
     (λ c κs. search needs)
-    row-has-requires
+    holds-at-requires
     write-list-if-requires
     add-start
     (λ c. search needs)

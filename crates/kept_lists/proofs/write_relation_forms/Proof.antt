@@ -10,11 +10,11 @@ use Rattle.kept_lists.proofs.write_relation_forms.Statement.{statement}
 use Rattle.kept_lists.proofs.write_relation_forms.Tie as tie
 
 abbrev Inv-loop : tie.InvT-loop
-Inv-loop entries relations conditions c out₀ count start₀ p₀ r₀ out start p r =
-    Relating relationFormAt conditions entries relations c out₀ out r start p
+Inv-loop relationEntries relations conditions c out₀ count start₀ p₀ r₀ out start p r =
+    Relating relationFormAt conditions relationEntries relations c out₀ out r start p
 
 abbrev μ-loop : tie.MeasureT-loop
-μ-loop entries relations conditions c out₀ count start₀ p₀ r₀ out start p r = length relations / 2 - r
+μ-loop relationEntries relations conditions c out₀ count start₀ p₀ r₀ out start p r = length relations / 2 - r
 
 -- places of the code that the needs look back to
 abbrev start-of-loop : tie.At-loop Inv-loop μ-loop → tie.Start Inv-loop μ-loop

@@ -1,24 +1,26 @@
 -- A refusal is its line; what is accepted has passed the form checks, and the rows are its column rows.
 use Prim.Native.Nat.{_≤_}
-use mathlib.Core.Path.{refl}
 use native.Mathlib.Omega.{arith}
 use borrow.Author.Needs.{needs}
-use lib.ListN.{length, replicate}
+use lib.ListN.{length}
 use Rattle.report.specs.Tables.{Tables, tablesOf}
 use Rattle.printing.specs.Lines.{refusalLine}
 use Rattle.printing.proofs.PrintLaws.{refusal-room}
-use Rattle.report_file.specs.Printing.{ColumnReads}
+use Rattle.judging.proofs.JudgingLaws.{own-rows}
 use Rattle.report_file.proofs.PrintedLaws.{prints, refusal-printed, acceptance-printed, accepted-reads}
 use Rattle.report_file.proofs.printed.print_tables.Statement.{statement}
 use Rattle.report_file.proofs.printed.print_tables.Tie as tie
 
--- from the call of the check back to the start
-abbrev start : tie.After-check → tie.Start
-start k = k .before .before .before .before .before .before .before .before
+-- places of the code that the needs look back to
+abbrev start : tie.After-typed → tie.Start
+start y = y .before .before .before .before .before .before .before .before .before .before
 
-abbrev tables : tie.After-check → Tables
-tables k =
-    let a = start k .args in
+abbrev typed : tie.After-enum-told → tie.After-typed
+typed t = t .before .before .before .before .before
+
+abbrev tables : tie.After-typed → Tables
+tables y =
+    let a = start y .args in
     tablesOf (a .features) (a .attributes) (a .model) (a .expressions .now) (a .entries .now) (a .relations .now) (a .comparisons .now)
     (a .queries .now)
 
@@ -33,41 +35,36 @@ returns : tie.Need-returns
 returns c =
     let put = c .before .before in
     let v = put .before .before .before in
-    let k = v .before .before .before in
-    refusal-printed (tables k) (k .check .ensures .0) (v .v .given .1) (prints (short (put .before)) (start k .pre) (put .put-refused .ensures))
-
--- the tables passed the check, and the rows are their column rows
-reading : (t : tie.After-enum-told)
-    → let k = t .before .before .before in
-    ColumnReads (tables k) (start k .args .features) (start k .args .model) (start k .args .expressions .now)
-    (k .check .last .1 .1 .1 .1 .1 .1 .1 .1 .0)
-reading t =
-    let k = t .before .before .before in
-    accepted-reads (tables k) (k .check .ensures .0) (t .enum-told .given .1) (replicate 1024 0) refl (k .check .ensures .1)
+    let y = v .before .before .before .before .before in
+    refusal-printed (tables y) (y .typed .ensures .answers) (v .v .given .1) (prints (short (put .before)) (start y .pre) (put .put-refused .ensures))
 
 print-columns-requires : tie.Need-print-columns-requires
 print-columns-requires c κs =
-    let t = c .before .before in
-    let k = t .before .before .before in
-    record { tables = tables k; reads = reading t; room = start k .pre }
+    let t = c .before .before .before in
+    let y = typed t in
+    record { tables = tables y; reads = accepted-reads (own-rows (y .typed .ensures) (t .enum-told .given .1)); room = start y .pre }
 
 returns-2 : tie.Need-returns-2
 returns-2 c =
     let put = c .before .before in
-    let t = put .before .before .before in
-    let k = t .before .before .before in
-    acceptance-printed (tables k) (k .check .ensures .0) (t .enum-told .given .1) (put .print-columns .ensures (tables k) (reading t))
+    let t = put .before .before .before .before in
+    let y = typed t in
+    acceptance-printed (tables y) (y .typed .ensures .answers) (t .enum-told .given .1)
+    (put .print-columns .ensures (tables y) (accepted-reads (own-rows (y .typed .ensures) (t .enum-told .given .1))))
 
 pub print-tables-spec : {M : Type 1} → statement M
 print-tables-spec =
     tie.close
     (tie.spec
     (λ c. search needs)
+    (λ c. search needs)
+    (λ c. search needs)
     (λ c κs. search needs)
     (λ c. search needs)
     put-refused-requires
     (λ c. search needs)
     returns
+    (λ c. search needs)
     (λ c. search needs)
     (λ c. search needs)
     print-columns-requires

@@ -1,0 +1,50 @@
+// What holds at one configuration c, read from the expression rows and the reach rows: an expression, an entry of a list, a relation, a choice.
+use decoders::entry_expression;
+use decoders::relation_expression;
+use sets::Row;
+ghost use mathlib.Core.Path.{_≡_};
+ghost use mathlib.Core.Bool.{cond};
+ghost use Prim.Native.Nat.{ℕ, _+_, _*_, _<_, _≤_};
+ghost use lib.ListN.{length};
+ghost use Rattle.sets.specs.Rows.{rowBit, rowIn};
+ghost use Rattle.report.specs.Tables.{Tables, entryExpression};
+ghost use Rattle.report.specs.Typing.{at, present};
+ghost use Rattle.at_configuration.specs.AtConfiguration.{ListReads, ListReadable, PresentReads, PresentReadable};
+
+// Configuration c is in row x of the rows: expression x holds there, or form x is reached.
+pub fn holds_at(rows: &[u64], x: usize, c: usize) -> bool
+    requires { ⌜ (x * 16 + 16 ≤ length (now rows)) × (c < 1024) ⌝ }
+    ensures { λ r. ⌜ r ≡ rowBit (rowIn 16 (now (rows .entry)) x) c ⌝ }
+{
+    let word = rows[x * Row::WORDS + c / 64];
+    (word >> (c % 64)) % 2 == 1
+}
+
+// The alternative that a choice on expression e takes at c: a where e holds, b elsewhere.
+pub fn taken_at(conditions: &[u64], c: usize, e: usize, a: usize, b: usize) -> usize
+    requires { ⌜ (e * 16 + 16 ≤ length (now conditions)) × (c < 1024) ⌝ }
+    ensures { λ k. ⌜ k ≡ cond (rowBit (rowIn 16 (now (conditions .entry)) e) c) a b ⌝ }
+{
+    if holds_at(conditions, e, c) {
+        return a;
+    }
+    b
+}
+
+// Entry i of the list that starts at `start` holds at c.
+pub fn entry_holds(entries: &[u16], conditions: &[u64], c: usize, start: usize, i: usize) -> bool
+    requires { ⌜ ListReadable (now conditions) (now entries) c start (i + 1) ⌝ }
+    ensures { λ b.
+        ⌜ ((T : Tables) (offset : ℕ) → ListReads T offset (now (conditions .entry)) (now (entries .entry)) c start (i + 1)
+        → b ≡ at T c (entryExpression (T .entries) (offset + start + i))) ⌝ }
+{
+    holds_at(conditions, entry_expression(entries, start + i), c)
+}
+
+// Relation r is present at c.
+pub fn is_present(relations: &[u16], conditions: &[u64], c: usize, r: usize) -> bool
+    requires { ⌜ PresentReadable (now conditions) (now relations) c (r + 1) ⌝ }
+    ensures { λ b. ⌜ ((T : Tables) → PresentReads T (now (conditions .entry)) (now (relations .entry)) c → b ≡ present T c r) ⌝ }
+{
+    holds_at(conditions, relation_expression(relations, r), c)
+}

@@ -1,0 +1,12 @@
+-- What the call `check` promises: the answer, and what the words lent to it hold afterwards.
+use Prim.Native.Nat.{ℕ}
+use mathlib.Core.Path.{_≡_}
+use mathlib.Core.List.{List}
+use lib.ListN.{length}
+use Rattle.report.specs.Tables.{Tables}
+use Rattle.report.specs.Calls.{answer, checking, rowsAfter}
+use Rattle.report.specs.declared.Verdict.{Verdict}
+
+-- with these rows lent
+abbrev pub Checks : Tables → List ℕ → Verdict → List ℕ → Type 0
+Checks T rows r rows′ = (r ≡ answer T (checking (length rows))) × (rows′ ≡ rowsAfter T rows)

@@ -1,0 +1,115 @@
+// The entry point `check`.
+use forms::check_forms;
+use judging::COLUMN_WORDS;
+use judging::EXPRESSION_WORDS;
+use judging::REACH_WORDS;
+use judging::judge_tables;
+use report::Verdict;
+use table_checks::refuse;
+ghost use mathlib.Core.Path.{_≡_};
+ghost use lib.ListN.{length};
+ghost use Rattle.report.specs.Tables.{tablesOf};
+ghost use Rattle.checking.specs.Promises.{Checks};
+ghost use Rattle.checking.specs.Steps.{MeaningReads, Meant};
+
+// Copies the words of `from` to `to`, which is as long.
+fn copy_words(from: &[u64], to: &mut [u64])
+    requires { ⌜ length (now from) ≡ length (now to) ⌝ }
+    ensures { λ _. ⌜ now (to .exit) ≡ now (from .entry) ⌝ }
+{
+    let count = from.len();
+    let mut i = 0;
+    while i < count {
+        to[i] = from[i];
+        i += 1;
+    }
+}
+
+// Checks 12 to 19 of tables that have passed 1 to 10. Accepted: `rows`, of 1,024 words, holds the column rows. Refused: `rows` is as it was.
+fn check_meaning(
+    n: usize,
+    m: usize,
+    model: usize,
+    expressions: &[u16],
+    entries: &[u16],
+    relations: &[u16],
+    comparisons: &[u16],
+    queries: &[u16],
+    rows: &mut [u64],
+) -> Verdict
+    requires { ⌜ MeaningReads (tablesOf n m model (now expressions) (now entries) (now relations) (now comparisons) (now queries)) (now rows) ⌝ }
+    ensures { λ v.
+        ⌜ Meant (tablesOf n m model (now (expressions .entry)) (now (entries .entry)) (now (relations .entry)) (now (comparisons .entry))
+        (now (queries .entry))) v (now (rows .entry)) (now (rows .exit)) ⌝ }
+{
+    let mut conditions = [0; EXPRESSION_WORDS];
+    let mut reach = [0; REACH_WORDS];
+    let mut columns = [0; COLUMN_WORDS];
+    let meaning = judge_tables(
+        n,
+        m,
+        model,
+        expressions,
+        entries,
+        relations,
+        comparisons,
+        queries,
+        &mut conditions,
+        &mut reach,
+        &mut columns,
+    );
+    if let Verdict::Refused(_) = meaning {
+        return meaning;
+    }
+    copy_words(&columns, rows);
+    Verdict::Accepted
+}
+
+// Checks the report of these tables. Accepted: `rows` holds its column rows. Refused: `rows` is as it was.
+pub fn check(
+    features: u64,
+    attributes: u64,
+    model: u64,
+    expressions: &[u16],
+    entries: &[u16],
+    relations: &[u16],
+    comparisons: &[u16],
+    queries: &[u16],
+    rows: &mut [u64],
+) -> Verdict
+    ensures { λ r.
+        ⌜ Checks (tablesOf features attributes model (now (expressions .entry)) (now (entries .entry)) (now (relations .entry))
+        (now (comparisons .entry)) (now (queries .entry)))
+        (now (rows .entry)) r (now (rows .exit)) ⌝ }
+{
+    let n = features as usize;
+    let m = attributes as usize;
+    let model = model as usize;
+    let form = check_forms(
+        n,
+        m,
+        model,
+        expressions,
+        entries,
+        relations,
+        comparisons,
+        queries,
+    );
+    if let Verdict::Refused(_) = form {
+        return form;
+    }
+    if rows.len() != COLUMN_WORDS {
+        return refuse(11, 0);
+    }
+    check_meaning(
+        n,
+        m,
+        model,
+        expressions,
+        entries,
+        relations,
+        comparisons,
+        queries,
+        rows,
+    )
+}

@@ -1,0 +1,211 @@
+-- How the parts of configuring make its answer, and what each part leaves for the next.
+use Prim.Native.Nat.{ℕ, _+_, _*_, _/_, _%_, _^_, _≤_, _<_}
+use mathlib.Core.Path.{_≡_, refl, sym, ap, ap₂, _∙_}
+use mathlib.Core.Bool.{Bool, true, false, not, _&&_}
+use mathlib.Core.List.{List, [], _∷_, _++_}
+use native.Mathlib.Nat.{div-add-mod'}
+use native.Mathlib.Decide.{decLt}
+use native.Mathlib.Omega.{arith}
+use borrow.Author.Tests.{lt-ltb, le-ltb, not-false}
+use lib.Dec.{ltb}
+use lib.Pow.{pow-mono}
+use lib.ListN.{length, take, drop}
+use lib.Seq.{take-at}
+use Rattle.sets.specs.Rows.{rowBit, rowOf, RowsAre}
+use Rattle.sets.proofs.RowLaws.{rowBit-rowOf, within-out}
+use Rattle.report.specs.Tables.{Tables, tablesOf, queryCount}
+use Rattle.report.specs.Expressions.{holds, permitted}
+use Rattle.report.specs.Configuring.{configured, written}
+use Rattle.report.specs.Verdicts.{refusal, refuseIf, orElse, firstOf}
+use Rattle.report.specs.FormChecks.{formCheck}
+use Rattle.report.specs.Formed.{Formed}
+use Rattle.report.specs.Checks.{isTypingFault}
+use Rattle.report.specs.Calls.{answer, permittedCondition, roomConditions, configuring}
+use Rattle.report.specs.declared.Refusal.{Refusal}
+use Rattle.report.specs.declared.Verdict.{Verdict}
+use Rattle.report.proofs.VerdictLaws.{or-else-assoc, both-accepted, then-next, if-accepted, accepted-if}
+use Rattle.report.proofs.FirstFault.{first-none, first-room, room-fits, first-own}
+use Rattle.forms.proofs.Chain.{stops, goes-on}
+use Rattle.judging.specs.Judging.{meaningCheck, reportCheck}
+use Rattle.judging.proofs.JudgingLaws.{answer-parts, Rows}
+use Rattle.configuring.specs.declared.Configured.{Configured}
+use Rattle.configuring.specs.Promises.{configuredAnswer, Rooms, Leaves, Configures, isConfiguredFault}
+use Rattle.configuring.specs.Steps.{lateVerdict, SourceReads, LateReads, ConfigureReads}
+
+-- ---- 20
+
+-- the permitted configurations are below 1,024, so a larger number is none of them
+told-permitted : (T : Tables) → T .features ≤ 10 → {permits : List ℕ} → permits ≡ rowOf 16 (permitted T) → (c : ℕ)
+    → (ltb c 1024 && rowBit permits c) ≡ permitted T c
+unfolding permitted
+told-permitted T few {permits} e c = go (decLt c 1024)
+  where
+    go : Dec (c < 1024) → (ltb c 1024 && rowBit permits c) ≡ permitted T c
+    go (yes h) = rw (lt-ltb c 1024 h) (ap (λ (l : List ℕ). rowBit l c) e ∙ rowBit-rowOf 16 (permitted T) c h)
+    go (no h) =
+        let m : 2 ^ (T .features) ≤ 1024 = pow-mono few in
+        rw (le-ltb c 1024 (omega arith)) (sym (within-out (T .features) (λ d. holds (T .expressions) d (T .model)) c (omega arith)))
+
+-- ---- 21
+
+module _ {T : Tables} {entries relations comparisons queries : List ℕ} (R : SourceReads T entries relations comparisons queries)
+    (entriesRoom relationsRoom comparisonsRoom queriesRoom : ℕ) where
+  -- the four tests, one after another
+  pub room-answers : {a b c d x y v : Verdict} → a ≡ refuseIf (ltb entriesRoom (length entries)) (refusal 21 1 0 0)
+      → b ≡ refuseIf (ltb relationsRoom (length relations)) (refusal 21 2 0 0) → c ≡ refuseIf (ltb comparisonsRoom (length comparisons)) (refusal 21 3 0 0)
+      → d ≡ refuseIf (ltb queriesRoom (length queries)) (refusal 21 4 0 0) → x ≡ orElse c d → y ≡ orElse b x → v ≡ orElse a y
+      → v ≡ firstOf (roomConditions entriesRoom relationsRoom comparisonsRoom queriesRoom T)
+  room-answers ea eb ec ed ex ey ev =
+      let e = ev ∙ ap₂ orElse ea (ey ∙ ap₂ orElse eb (ex ∙ ap₂ orElse ec ed)) in
+      (rw (R .entriesAre, R .relationsAre, R .comparisonsAre, R .queriesAre) at e)
+      ∙ sym (first-room T entriesRoom relationsRoom comparisonsRoom queriesRoom)
+
+-- where they accept there is room for each table
+pub room-accepted : (T : Tables) (newEntries newRelations newComparisons newQueries : List ℕ)
+    → firstOf (roomConditions (length newEntries) (length newRelations) (length newComparisons) (length newQueries) T) ≡ Verdict.Accepted
+    → Rooms T newEntries newRelations newComparisons newQueries
+room-accepted T newEntries newRelations newComparisons newQueries e =
+    let h = room-fits T (length newEntries) (length newRelations) (length newComparisons) (length newQueries) .0 e in
+    record { entries = h .0; relations = h .1; comparisons = h .2; queries = h .3 }
+
+-- ---- 20 and 21
+
+module _ {T : Tables} {permits entries relations comparisons queries : List ℕ} (R : LateReads T permits entries relations comparisons queries) (c : ℕ)
+    (entriesRoom relationsRoom comparisonsRoom queriesRoom : ℕ) where
+  abbrev room : Verdict
+  room = firstOf (roomConditions entriesRoom relationsRoom comparisonsRoom queriesRoom T)
+
+  abbrev late : Verdict
+  late = firstOf (permittedCondition c T ++ roomConditions entriesRoom relationsRoom comparisonsRoom queriesRoom T)
+
+  abbrev permittedCheck : Verdict
+  permittedCheck = refuseIf (not (permitted T c)) (refusal 20 0 0 c)
+
+  late-parts : late ≡ orElse permittedCheck room
+  late-parts = first-own T c entriesRoom relationsRoom comparisonsRoom queriesRoom
+
+  module _ {told : Bool} (tells : told ≡ (ltb c 1024 && rowBit permits c)) where
+    is-told : told ≡ permitted T c
+    is-told = tells ∙ told-permitted T (R .few) (R .permitting) c
+
+    pub late-refuses : not told ≡ true → Verdict.Refused (refusal 20 0 0 c) ≡ late
+    late-refuses f =
+        let own : Verdict.Refused (refusal 20 0 0 c) ≡ permittedCheck = ap (λ (b : Bool). refuseIf b (refusal 20 0 0 c)) (sym f ∙ ap not is-told) in
+        stops room own refl ∙ sym late-parts
+
+    pub room-decides : not told ≡ false → {w : Verdict} → w ≡ room → w ≡ late
+    room-decides f e = e ∙ sym (then-next (accepted-if (refusal 20 0 0 c) (ap not (sym is-told) ∙ f))) ∙ sym late-parts
+
+-- where they accept, c is permitted and there is room for each table
+pub late-accepted : (T : Tables) (c : ℕ) (newEntries newRelations newComparisons newQueries : List ℕ)
+    → lateVerdict T c newEntries newRelations newComparisons newQueries ≡ Verdict.Accepted
+    → (permitted T c ≡ true) × Rooms T newEntries newRelations newComparisons newQueries
+late-accepted T c newEntries newRelations newComparisons newQueries e =
+    let parts = first-own T c (length newEntries) (length newRelations) (length newComparisons) (length newQueries) in
+    let p = both-accepted (refuseIf (not (permitted T c)) (refusal 20 0 0 c)) _ (sym parts ∙ e) in
+    (not-false _ (if-accepted _ _ (p .0)), room-accepted T newEntries newRelations newComparisons newQueries (p .1))
+
+-- ---- the answer
+
+-- a refused call leaves the tables as they were
+pub leaves-refused : {v : Verdict} {r : Refusal} {U : Tables} {newEntries newRelations newComparisons newQueries : List ℕ} → Verdict.Refused r ≡ v
+    → Leaves v U newEntries newRelations newComparisons newQueries (Configured.Refused r) newEntries newRelations newComparisons newQueries
+leaves-refused e = rw (← e) record { answers = refl; entries = refl; relations = refl; comparisons = refl; queries = refl }
+
+module _ (T : Tables) (c : ℕ) (newEntries newRelations newComparisons newQueries : List ℕ) where
+  abbrev verdict : Verdict
+  verdict = answer T (configuring c (length newEntries) (length newRelations) (length newComparisons) (length newQueries))
+
+  -- the parts of the answer, in the order in which they run
+  parts : verdict ≡ orElse (reportCheck T) (lateVerdict T c newEntries newRelations newComparisons newQueries)
+  parts =
+      answer-parts T (configuring c (length newEntries) (length newRelations) (length newComparisons) (length newQueries))
+      ∙ ap (λ (v : Verdict). orElse (formCheck T) (orElse v (orElse (meaningCheck T) (lateVerdict T c newEntries newRelations newComparisons newQueries))))
+      first-none
+      ∙ simp or-else-assoc
+
+  module _ {v : Verdict} (checked : v ≡ reportCheck T) where
+    -- a check before 20 refuses
+    pub report-refuses : {r : Refusal} → v ≡ Verdict.Refused r
+        → Configures T c newEntries newRelations newComparisons newQueries (Configured.Refused r) newEntries newRelations newComparisons newQueries
+    report-refuses f = leaves-refused (sym f ∙ stops _ checked f ∙ sym parts)
+
+    -- 20 and 21 answer
+    pub late-answers : v ≡ Verdict.Accepted → {r : Configured} {newEntries′ newRelations′ newComparisons′ newQueries′ : List ℕ}
+        → Leaves (lateVerdict T c newEntries newRelations newComparisons newQueries) (configured T c)
+        newEntries newRelations newComparisons newQueries r newEntries′ newRelations′ newComparisons′ newQueries′
+        → Configures T c newEntries newRelations newComparisons newQueries r newEntries′ newRelations′ newComparisons′ newQueries′
+    late-answers f L = rw (← goes-on checked f refl ∙ sym parts) L
+
+-- 20 and 21 accept, and the tables are written
+pub written-late : (T : Tables) (c : ℕ) (newEntries newRelations newComparisons newQueries : List ℕ) {v : Verdict}
+    → v ≡ lateVerdict T c newEntries newRelations newComparisons newQueries → v ≡ Verdict.Accepted
+    → {r : Configured} {newEntries′ newRelations′ newComparisons′ newQueries′ : List ℕ}
+    → (permitted T c ≡ true → Leaves Verdict.Accepted (configured T c) newEntries newRelations newComparisons newQueries r
+    newEntries′ newRelations′ newComparisons′ newQueries′)
+    → Leaves (lateVerdict T c newEntries newRelations newComparisons newQueries) (configured T c)
+    newEntries newRelations newComparisons newQueries r newEntries′ newRelations′ newComparisons′ newQueries′
+written-late T c newEntries newRelations newComparisons newQueries e f L =
+    rw (← e, f) (L (late-accepted T c newEntries newRelations newComparisons newQueries (sym e ∙ f) .0))
+
+-- what 20, 21 and the writing read of a report that has passed the checks before
+pub judged-reads : {T : Tables} {conditions reach columns : List ℕ} → Rows T conditions reach columns
+    → ConfigureReads T (T .model) conditions reach (T .entries) (T .relations) (T .comparisons) (T .queries)
+judged-reads R = record {
+  formed = R .formed;
+  number = refl;
+  filled = R .filled;
+  reaching = R .reaching;
+  source = record { entriesAre = refl; relationsAre = refl; comparisonsAre = refl; queriesAre = refl };
+}
+
+-- ---- for those who read the answer
+
+module _ {v : Verdict} {U : Tables} {newEntries newRelations newComparisons newQueries : List ℕ} {r : Configured}
+    {newEntries′ newRelations′ newComparisons′ newQueries′ : List ℕ}
+    (L : Leaves v U newEntries newRelations newComparisons newQueries r newEntries′ newRelations′ newComparisons′ newQueries′) where
+  -- it is a typing fault where the verdict is one
+  pub configured-fault : isConfiguredFault r ≡ isTypingFault v
+  configured-fault = ap isConfiguredFault (L .answers) ∙ go v
+    where
+      go : (v : Verdict) → isConfiguredFault (configuredAnswer v U) ≡ isTypingFault v
+      go Verdict.Accepted = refl
+      go (Verdict.Refused r) = refl
+
+  -- and has the refusal that the verdict has
+  pub configured-refused : {x : Refusal} → v ≡ Verdict.Refused x → r ≡ Configured.Refused x
+  configured-refused e = L .answers ∙ ap (λ (v : Verdict). configuredAnswer v U) e
+
+-- as many words as so many forms have are the table that was written
+read : {new after : List ℕ} (lent : List ℕ) (count width : ℕ) → after ≡ written new lent → count ≡ length new / width → length new % width ≡ 0
+    → take (count * width) after ≡ new
+read {new} lent count width e f whole =
+    let d = div-add-mod' (length new) width in
+    let all : length new / width * width ≡ length new = omega arith in
+    ap (take (count * width)) e ∙ take-at new (drop (length new) lent) (count * width) (sym (ap (λ (k : ℕ). k * width) f ∙ all))
+
+read-tables : {U : Tables} → Formed U
+    → {newEntries newRelations newComparisons newQueries newEntries′ newRelations′ newComparisons′ newQueries′ : List ℕ} {a b c d : ℕ}
+    → Leaves Verdict.Accepted U newEntries newRelations newComparisons newQueries
+    (Configured.Written a b c d) newEntries′ newRelations′ newComparisons′ newQueries′
+    → tablesOf (U .features) (U .attributes) (U .model) (U .expressions) (take (a * 2) newEntries′) (take (b * 2) newRelations′)
+    (take (c * 5) newComparisons′) (take (d * 4) newQueries′)
+    ≡ U
+read-tables {U} F {newEntries} {newRelations} {newComparisons} {newQueries} {newEntries′} {newRelations′} {newComparisons′} {newQueries′} {a} {b} {c}
+    {d} L =
+    let counted = L .answers in
+    let e1 : take (a * 2) newEntries′ ≡ U .entries = read newEntries a 2 (L .entries) (cc) (F .sized1 .whole) in
+    let e2 : take (b * 2) newRelations′ ≡ U .relations = read newRelations b 2 (L .relations) (cc) (F .sized2 .whole) in
+    let e3 : take (c * 5) newComparisons′ ≡ U .comparisons = read newComparisons c 5 (L .comparisons) (cc) (F .sized3 .whole) in
+    let e4 : take (d * 4) newQueries′ ≡ U .queries = read newQueries d 4 (L .queries) (cc) (F .sized4 .whole) in
+    rw (e1, e2, e3, e4)
+
+-- so what the call answers and leaves gives the tables written
+pub read-back : (T : Tables) (k : ℕ) → Formed (configured T k)
+    → {newEntries newRelations newComparisons newQueries newEntries′ newRelations′ newComparisons′ newQueries′ : List ℕ} {a b c d : ℕ}
+    → Leaves Verdict.Accepted (configured T k) newEntries newRelations newComparisons newQueries
+    (Configured.Written a b c d) newEntries′ newRelations′ newComparisons′ newQueries′
+    → tablesOf 0 (T .attributes) 0 (1 ∷ 0 ∷ 0 ∷ []) (take (a * 2) newEntries′) (take (b * 2) newRelations′) (take (c * 5) newComparisons′)
+    (take (d * 4) newQueries′) ≡ configured T k
+unfolding configured
+read-back T k = read-tables

@@ -1,0 +1,2 @@
+pub mod ConfigureLaws
+pub mod WriteLaws

@@ -1,0 +1,235 @@
+-- The writing of configured tables: what each writer reads, that there is room, and that together they write the tables of `configured`.
+use Prim.Native.Nat.{ℕ, _+_, _-_, _*_, _/_, _≤_}
+use mathlib.Core.Path.{_≡_, refl, sym, ap, ap₂, _∙_}
+use mathlib.Core.Bool.{true}
+use mathlib.Core.List.{List, _++_}
+use native.Mathlib.Omega.{arith}
+use lib.ListN.{length, take, drop, replicate, length-append, take-append-drop}
+use Rattle.sets.specs.Lists.{table, NumbersAre}
+use Rattle.sets.specs.Rows.{rowIn}
+use Rattle.sets.specs.Writing.{Room, WrittenAt}
+use Rattle.sets.proofs.ListLaws.{numbers-are}
+use Rattle.sets.proofs.WritingLaws.{from-start}
+use Rattle.report.specs.Tables.{Tables, comparisonCount, queryCount, relationStart, relationsEnd, entriesOfRelations, entriesOfProjects}
+use Rattle.report.specs.Expressions.{permitted}
+use Rattle.report.specs.Configuring.{newComparison, newQuery, configured, written}
+use Rattle.report.specs.Formed.{Formed}
+use Rattle.report.specs.declared.Verdict.{Verdict}
+use Rattle.report.proofs.FormedFacts.{counts}
+use Rattle.report.proofs.EntryParts.{words-from, split-in}
+use Rattle.report.proofs.TypingLaws.{permitted-within}
+use Rattle.report.proofs.WrittenQueries.{entries-room, relations-room, comparisons-room, queries-room}
+use Rattle.conditions.proofs.PermittedLaws.{model-row}
+use Rattle.at_configuration.specs.AtConfiguration.{RelationReads, ComparisonReads, ComparisonNumberable}
+use Rattle.kept_lists.specs.Keeping.{relationLists, projectLists, relationForms, KeptRelationWritable, ProjectReads}
+use Rattle.kept_forms.specs.Numbering.{comparisonForms, queryForms, ComparisonFormReads, ComparisonFormWritable}
+use Rattle.kept_forms.specs.Numbering.{QueryReads, QueryNumberable, QueryFormReads, QueryFormWritable}
+use Rattle.configuring.specs.declared.Configured.{Configured}
+use Rattle.configuring.specs.Promises.{Rooms, Leaves}
+use Rattle.configuring.specs.Steps.{LateReads, ConfigureReads, EntriesReads, EntriesWritable, KeptReads, KeptWritable}
+
+-- ---- the texts are the tables of `configured`
+
+module _ (T : Tables) (c : ℕ) where
+  entries-text : configured T c .entries ≡ relationLists T c ++ projectLists T c
+  unfolding configured relationLists projectLists
+  entries-text = refl
+
+  relations-text : configured T c .relations ≡ relationForms T c
+  unfolding configured relationForms
+  relations-text = refl
+
+  comparisons-text : configured T c .comparisons ≡ comparisonForms T c
+  unfolding configured comparisonForms
+  comparisons-text = refl
+
+  queries-text : configured T c .queries ≡ queryForms T c
+  unfolding configured queryForms
+  queries-text = refl
+
+-- a text has room where its table has
+text-room : {text new lent : List ℕ} {source : ℕ} → new ≡ text → length new ≤ source → source ≤ length lent → Room text lent 0
+text-room e f g = record { fits = omega (arith, ap length e) }
+
+-- a text written from the start of a table: the place after it, and the table
+text-written : {text new lent after : List ℕ} {place : ℕ} → new ≡ text → Room text lent 0 → WrittenAt text lent 0 after place
+    → (place ≡ length new) × (after ≡ written new lent)
+text-written e room w = rw e (omega (arith, w .place), from-start room w)
+
+parts-length : (T : Tables) → length (T .entries) ≡ length (entriesOfRelations T) + length (entriesOfProjects T)
+parts-length T = ap length (sym (take-append-drop (relationsEnd T * 2) (T .entries))) ∙ length-append (entriesOfRelations T) (entriesOfProjects T)
+
+-- there is as much room for the tables of another reading
+pub same-rooms : {T U : Tables} {conditions reach relationEntries projectEntries relations comparisons queries : List ℕ} {c : ℕ}
+    {newEntries newRelations newComparisons newQueries : List ℕ}
+    → KeptReads U conditions reach relationEntries projectEntries relations comparisons queries c
+    → KeptReads T conditions reach relationEntries projectEntries relations comparisons queries c
+    → Rooms U newEntries newRelations newComparisons newQueries
+    → Rooms T newEntries newRelations newComparisons newQueries
+same-rooms {T} {U} S R H = record {
+  entries =
+      let t = parts-length T in let u = parts-length U in let h = H .entries in
+      let a = ap length (sym (S .relationEntriesAre) ∙ R .relationEntriesAre) in
+      let b = ap length (sym (S .projectEntriesAre) ∙ R .projectEntriesAre) in
+      omega arith;
+  relations = let h = H .relations in rw (← R .relationsAre, S .relationsAre) h;
+  comparisons = let h = H .comparisons in rw (← R .comparisonsAre, S .comparisonsAre) h;
+  queries = let h = H .queries in rw (← R .queriesAre, S .queriesAre) h;
+}
+
+module _ {T : Tables} (F : Formed T) (c : ℕ) {newEntries newRelations newComparisons newQueries : List ℕ}
+    (S : Rooms T newEntries newRelations newComparisons newQueries) where
+  entries-fit : Room (relationLists T c ++ projectLists T c) newEntries 0
+  entries-fit = text-room (entries-text T c) (entries-room F c) (S .entries)
+
+  relations-fit : Room (relationForms T c) newRelations 0
+  relations-fit = text-room (relations-text T c) (relations-room F c) (S .relations)
+
+  comparisons-fit : Room (comparisonForms T c) newComparisons 0
+  comparisons-fit = text-room (comparisons-text T c) (comparisons-room F c) (S .comparisons)
+
+  queries-fit : Room (queryForms T c) newQueries 0
+  queries-fit = text-room (queries-text T c) (queries-room F c) (S .queries)
+
+  -- what the writers leave
+  pub tables-left : {newEntries′ newRelations′ newComparisons′ newQueries′ : List ℕ} {e r f q : ℕ}
+      → WrittenAt (relationLists T c ++ projectLists T c) newEntries 0 newEntries′ e
+      → WrittenAt (relationForms T c) newRelations 0 newRelations′ r → WrittenAt (comparisonForms T c) newComparisons 0 newComparisons′ f
+      → WrittenAt (queryForms T c) newQueries 0 newQueries′ q
+      → Leaves Verdict.Accepted (configured T c) newEntries newRelations newComparisons newQueries
+      (Configured.Written (e / 2) (r / 2) (f / 5) (q / 4)) newEntries′ newRelations′ newComparisons′ newQueries′
+  tables-left entriesWritten relationsWritten comparisonsWritten queriesWritten =
+      let w1 = text-written (entries-text T c) entries-fit entriesWritten in
+      let w2 = text-written (relations-text T c) relations-fit relationsWritten in
+      let w3 = text-written (comparisons-text T c) comparisons-fit comparisonsWritten in
+      let w4 = text-written (queries-text T c) queries-fit queriesWritten in
+      record {
+        answers = rw (w1 .0, w2 .0, w3 .0, w4 .0);
+        entries = w1 .1;
+        relations = w2 .1;
+        comparisons = w3 .1;
+        queries = w4 .1;
+      }
+
+-- ---- what the writers read
+
+module _ {T : Tables} {conditions reach relationEntries projectEntries relations comparisons queries : List ℕ} {c : ℕ}
+    (R : KeptReads T conditions reach relationEntries projectEntries relations comparisons queries c) where
+  pub relation-reads : RelationReads T conditions relationEntries relations c
+  relation-reads = record { reads = R .reads; entriesAre = R .relationEntriesAre; relationsAre = R .relationsAre }
+
+  project-reads : ProjectReads T conditions reach projectEntries queries c
+  project-reads = record { reads = R .reads; reaching = R .reaching; entriesAre = R .projectEntriesAre; queriesAre = R .queriesAre }
+
+  pub entries-reads : EntriesReads T conditions reach relationEntries projectEntries relations queries c
+  entries-reads = record { lists = relation-reads; projects = project-reads }
+
+  pub comparison-reads : ComparisonReads T conditions comparisons c
+  comparison-reads = record { reads = R .reads; comparisonsAre = R .comparisonsAre }
+
+  pub query-reads : QueryReads T conditions reach queries c
+  query-reads = record { reads = R .reads; reaching = R .reaching; queriesAre = R .queriesAre }
+
+  module _ {comparisonNumbers : List ℕ}
+      (first-numbers : comparisonNumbers ≡ written (table (comparisonCount T) (newComparison T c)) (replicate 256 0)) where
+    compared : NumbersAre (comparisonCount T) (newComparison T c) comparisonNumbers
+    compared = numbers-are (comparisonCount T) (newComparison T c) _ first-numbers
+
+    pub comparison-form-reads : ComparisonFormReads T c comparisons comparisonNumbers
+    comparison-form-reads = record { formed = R .reads .formed; comparisonsAre = R .comparisonsAre; numbered = compared }
+
+    pub form-reads : {queryNumbers : List ℕ} → queryNumbers ≡ written (table (queryCount T) (newQuery T c)) (replicate 256 0)
+        → QueryFormReads T conditions reach projectEntries relations queries c comparisonNumbers queryNumbers
+    form-reads e = record {
+      reads = query-reads;
+      entriesAre = R .projectEntriesAre;
+      relationsAre = R .relationsAre;
+      comparisonsNumbered = compared;
+      queriesNumbered = numbers-are (queryCount T) (newQuery T c) _ e;
+    }
+
+-- ---- and that there is room
+
+module _ {conditions reach relationEntries projectEntries relations comparisons queries : List ℕ} {c : ℕ}
+    {newEntries newRelations newComparisons newQueries : List ℕ}
+    (W : KeptWritable conditions reach relationEntries projectEntries relations comparisons queries c newEntries newRelations newComparisons newQueries)
+  where
+    formed : Formed (W .tables)
+    formed = W .reads .reads .formed
+
+    pub entries-writable : EntriesWritable conditions reach relationEntries projectEntries relations queries c newEntries
+    entries-writable = record { tables = W .tables; reads = entries-reads (W .reads); room = entries-fit formed c (W .rooms) }
+
+    pub relations-writable : KeptRelationWritable relationForms conditions relationEntries relations c newRelations 0
+    relations-writable = record { tables = W .tables; reads = relation-reads (W .reads); room = relations-fit formed c (W .rooms) }
+
+    pub comparisons-numberable : {numbers : List ℕ} → 256 ≤ length numbers → ComparisonNumberable conditions comparisons c numbers
+    comparisons-numberable h = record {
+      tables = W .tables;
+      reads = comparison-reads (W .reads);
+      room = let m = counts formed .most3 in omega (arith, ap length (W .reads .comparisonsAre));
+    }
+
+    pub queries-numberable : {numbers : List ℕ} → 256 ≤ length numbers → QueryNumberable conditions reach queries c numbers
+    queries-numberable h = record {
+      tables = W .tables;
+      reads = query-reads (W .reads);
+      room = let m = counts formed .most4 in omega (arith, ap length (W .reads .queriesAre));
+    }
+
+    module _ {comparisonNumbers : List ℕ}
+        (first-numbers : comparisonNumbers ≡ written (table (comparisonCount (W .tables)) (newComparison (W .tables) c)) (replicate 256 0))
+      where
+        pub comparisons-writable : ComparisonFormWritable comparisons comparisonNumbers newComparisons
+        comparisons-writable = record {
+          tables = W .tables;
+          configuration = c;
+          reads = comparison-form-reads (W .reads) first-numbers;
+          room = comparisons-fit formed c (W .rooms);
+        }
+
+        pub queries-writable : {queryNumbers : List ℕ}
+            → queryNumbers ≡ written (table (queryCount (W .tables)) (newQuery (W .tables) c)) (replicate 256 0)
+            → QueryFormWritable conditions reach projectEntries relations queries c comparisonNumbers queryNumbers newQueries
+        queries-writable e =
+            record { tables = W .tables; reads = form-reads (W .reads) first-numbers e; room = queries-fit formed c (W .rooms) }
+
+-- ---- from the tables
+
+module _ {T : Tables} {model : ℕ} {conditions reach entries relations comparisons queries : List ℕ}
+    (R : ConfigureReads T model conditions reach entries relations comparisons queries) where
+  -- the expression rows have that of the model, which is that of the permitted configurations
+  pub model-room : model * 16 + 16 ≤ length conditions
+  model-room = let m = R .filled .room in let i = R .formed .modelIn in let e = R .number in omega arith
+
+  pub late-reads : {permits : List ℕ} → permits ≡ rowIn 16 conditions model → LateReads T permits entries relations comparisons queries
+  late-reads load = record {
+    few = R .formed .few;
+    permitting = load ∙ ap (rowIn 16 conditions) (R .number) ∙ model-row (R .formed) (R .filled);
+    source = R .source;
+  }
+
+  pub few-relations : length relations / 2 ≤ 32
+  few-relations = let s = counts (R .formed) .most2 in let e = ap length (R .source .relationsAre) in omega arith
+
+  module _ {split : ℕ} (is : split ≡ relationStart relations (length relations / 2)) where
+    split-is : split ≡ relationsEnd T
+    split-is = is ∙ ap (λ (t : List ℕ). relationStart t (length t / 2)) (R .source .relationsAre)
+
+    -- table 1 can be split there
+    pub split-words : split * 2 ≤ length entries
+    split-words = let l = split-in (R .formed) split-is in let e = ap length (R .source .entriesAre) in omega arith
+
+    -- at a permitted configuration
+    pub kept-reads : {c : ℕ} → permitted T c ≡ true
+        → KeptReads T conditions reach (take (split * 2) entries) (take (length entries - split * 2) (drop (split * 2) entries)) relations comparisons
+        queries c
+    kept-reads {c} p = record {
+      reads = record { formed = R .formed; filled = R .filled; inside = permitted-within T c p };
+      reaching = R .reaching;
+      relationEntriesAre = ap₂ (λ (k : ℕ) (l : List ℕ). take (k * 2) l) split-is (R .source .entriesAre);
+      projectEntriesAre = words-from entries (split * 2) ∙ ap₂ (λ (k : ℕ) (l : List ℕ). drop (k * 2) l) split-is (R .source .entriesAre);
+      relationsAre = R .source .relationsAre;
+      comparisonsAre = R .source .comparisonsAre;
+      queriesAre = R .source .queriesAre;
+    }

@@ -1,0 +1,63 @@
+use borrow.Author.Needs.{needs}
+use Rattle.report.specs.Tables.{Tables, tablesOf}
+use Rattle.judging.proofs.JudgingLaws.{own-rows}
+use Rattle.configuring.proofs.ConfigureLaws.{report-refuses, late-answers, judged-reads}
+use Rattle.configuring.proofs.configure.Statement.{statement}
+use Rattle.configuring.proofs.configure.Tie as tie
+
+-- places of the code that the needs look back to
+abbrev start : tie.After-typed → tie.Start
+start y = y .before .before .before .before .before .before .before .before .before .before .before .before .before
+
+abbrev typed : tie.After-enum-told → tie.After-typed
+typed t = t .before .before .before .before .before
+
+abbrev tables : tie.After-typed → Tables
+tables y =
+    let a = start y .args in
+    tablesOf (a .features) (a .attributes) (a .model) (a .expressions .now) (a .entries .now) (a .relations .now) (a .comparisons .now)
+    (a .queries .now)
+
+returns : tie.Need-returns
+returns c =
+    let y = c .before .before .before .before .before .before in
+    let a = start y .args in
+    report-refuses (tables y) (a .c) (a .new-entries .now) (a .new-relations .now) (a .new-comparisons .now) (a .new-queries .now)
+    (y .typed .ensures .answers) (c .before .checked .given .1)
+
+configure-judged-requires : tie.Need-configure-judged-requires
+configure-judged-requires c κs =
+    let t = c .before .before .before .before .before .before in
+    let y = typed t in
+    record { tables = tables y; reads = judged-reads (own-rows (y .typed .ensures) (t .enum-told .given .1)) }
+
+returns-2 : tie.Need-returns-2
+returns-2 c =
+    let j = c .before .before .before .before .before .before .before .before in
+    let t = j .before .before .before .before .before .before .before in
+    let y = typed t in
+    let a = start y .args in
+    late-answers (tables y) (a .c) (a .new-entries .now) (a .new-relations .now) (a .new-comparisons .now) (a .new-queries .now)
+    (y .typed .ensures .answers) (t .enum-told .given .1)
+    (j .configure-judged .ensures (tables y)
+    (judged-reads (own-rows (y .typed .ensures) (t .enum-told .given .1))))
+
+pub configure-spec : {M : Type 1} → statement M
+configure-spec =
+    tie.close
+    (tie.spec
+    (λ c. search needs)
+    (λ c. search needs)
+    (λ c. search needs)
+    (λ c κs. search needs)
+    (λ c. search needs)
+    returns
+    (λ c. search needs)
+    (λ c. search needs)
+    (λ c. search needs)
+    configure-judged-requires
+    (λ c. search needs)
+    (λ c. search needs)
+    (λ c. search needs)
+    (λ c. search needs)
+    returns-2)

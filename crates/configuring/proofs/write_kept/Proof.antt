@@ -1,0 +1,85 @@
+use borrow.Author.Needs.{needs}
+use native.Mathlib.Nat.{le-refl}
+use Rattle.configuring.proofs.WriteLaws.{relation-reads, entries-reads, comparison-reads, query-reads, comparison-form-reads, form-reads}
+use Rattle.configuring.proofs.WriteLaws.{entries-writable, relations-writable, comparisons-numberable, comparisons-writable}
+use Rattle.configuring.proofs.WriteLaws.{queries-numberable, queries-writable, same-rooms, tables-left}
+use Rattle.configuring.proofs.write_kept.Statement.{statement}
+use Rattle.configuring.proofs.write_kept.Tie as tie
+
+-- from each call back to the one before it
+abbrev start : tie.After-write-entries → tie.Start
+start l = l .before .before .before .before .before .before .before .before .before .before .before .before .before
+
+abbrev entries : tie.After-write-relation-forms → tie.After-write-entries
+entries r = r .before .before .before .before
+
+abbrev forms : tie.After-number-comparisons → tie.After-write-relation-forms
+forms n = n .before .before .before .before
+
+abbrev numbers : tie.After-write-comparisons → tie.After-number-comparisons
+numbers w = w .before .before .before .before
+
+abbrev compared : tie.After-number-queries → tie.After-write-comparisons
+compared n = n .before .before .before .before
+
+abbrev counted : tie.After-write-queries → tie.After-number-queries
+counted w = w .before .before .before .before .before
+
+write-relation-forms-requires : tie.Need-write-relation-forms-requires
+write-relation-forms-requires c κs = relations-writable (start (c .before .before .before) .pre)
+
+number-comparisons-requires : tie.Need-number-comparisons-requires
+number-comparisons-requires c κs = comparisons-numberable (start (entries (c .before .before .before)) .pre) (le-refl 256)
+
+write-comparisons-requires : tie.Need-write-comparisons-requires
+write-comparisons-requires c κs =
+    let n = c .before .before .before in
+    let W = start (entries (forms n)) .pre in
+    comparisons-writable W (n .number-comparisons .ensures (W .tables) (comparison-reads (W .reads)))
+
+number-queries-requires : tie.Need-number-queries-requires
+number-queries-requires c κs = queries-numberable (start (entries (forms (numbers (c .before .before .before)))) .pre) (le-refl 256)
+
+write-queries-requires : tie.Need-write-queries-requires
+write-queries-requires c κs =
+    let q = c .before .before .before .before in
+    let n = numbers (compared q) in
+    let W = start (entries (forms n)) .pre in
+    queries-writable W (n .number-comparisons .ensures (W .tables) (comparison-reads (W .reads)))
+    (q .number-queries .ensures (W .tables) (query-reads (W .reads)))
+
+returns : tie.Need-returns
+returns c T R =
+    let w = c .before .before in
+    let q = counted w in
+    let k = compared q in
+    let n = numbers k in
+    let r = forms n in
+    let l = entries r in
+    let W = start l .pre in
+    let first-numbers = n .number-comparisons .ensures T (comparison-reads R) in
+    tables-left (R .reads .formed) (start l .args .c) (same-rooms (W .reads) R (W .rooms)) (l .write-entries .ensures T (entries-reads R))
+    (r .write-relation-forms .ensures T (relation-reads R))
+    (k .write-comparisons .ensures T (start l .args .c) (comparison-form-reads R first-numbers))
+    (w .write-queries .ensures T (form-reads R first-numbers (q .number-queries .ensures T (query-reads R))))
+
+pub write-kept-spec : {M : Type 1} → statement M
+write-kept-spec =
+    tie.close
+    (tie.spec
+    (λ c κs. entries-writable (c .before .before .before .before .before .before .before .before .before .before .before .before .pre))
+    write-relation-forms-requires
+    (λ c. search needs)
+    number-comparisons-requires
+    (λ c. search needs)
+    write-comparisons-requires
+    (λ c. search needs)
+    number-queries-requires
+    (λ c. search needs)
+    (λ c. search needs)
+    write-queries-requires
+    (λ c. search needs)
+    (λ c. search needs)
+    (λ c. search needs)
+    (λ c. search needs)
+    returns)

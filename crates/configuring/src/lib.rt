@@ -1,0 +1,316 @@
+// The entry point `configure`: the plain tables of an accepted report at one configuration.
+use forms::relations_end;
+use judging::COLUMN_WORDS;
+use judging::EXPRESSION_WORDS;
+use judging::REACH_WORDS;
+use judging::typed;
+use kept_forms::number_comparisons;
+use kept_forms::number_queries;
+use kept_forms::write_comparisons;
+use kept_forms::write_queries;
+use kept_lists::write_project_lists;
+use kept_lists::write_relation_forms;
+use kept_lists::write_relation_lists;
+use report::Refusal;
+use report::Verdict;
+use sets::AttributeSet;
+use sets::Row;
+use table_checks::or_else;
+use table_checks::refuse_if;
+ghost use mathlib.Core.Path.{_≡_};
+ghost use mathlib.Core.Bool.{_&&_};
+ghost use mathlib.Core.List.{_++_};
+ghost use lib.Dec.{ltb};
+ghost use Rattle.sets.specs.Rows.{rowBit};
+ghost use Rattle.sets.specs.Writing.{WrittenAt};
+ghost use Rattle.report.specs.Tables.{Tables, tablesOf};
+ghost use Rattle.report.specs.Configuring.{configured};
+ghost use Rattle.report.specs.Verdicts.{firstOf};
+ghost use Rattle.report.specs.Calls.{permittedCondition, roomConditions};
+ghost use Rattle.report.specs.declared.Verdict.{Verdict};
+ghost use Rattle.kept_lists.specs.Keeping.{relationLists, projectLists};
+ghost use Rattle.configuring.specs.Promises.{Leaves, Configures};
+ghost use Rattle.configuring.specs.Steps.{lateVerdict, SourceReads, LateReads, ConfigureReads, ConfigureReadable};
+ghost use Rattle.configuring.specs.Steps.{EntriesReads, EntriesWritable, KeptReads, KeptWritable};
+
+// What configuring answers: how many forms tables 1 to 4 have, or the refusal.
+pub enum Configured {
+    Written(usize, usize, usize, usize),
+    Refused(Refusal),
+}
+
+// Configuration c is in the row. Any number may be asked for, so it is compared before it is narrowed.
+fn is_permitted(permitted: Row, c: u64) -> bool
+    ensures { λ r. ⌜ r ≡ (ltb c 1024 && rowBit (permitted .words) c) ⌝ }
+{
+    if c < 1024 {
+        permitted.has(c as usize)
+    } else {
+        false
+    }
+}
+
+// Check 21: each table lent for writing has as many words as its source.
+fn check_room(
+    entries: &[u16],
+    relations: &[u16],
+    comparisons: &[u16],
+    queries: &[u16],
+    entries_room: usize,
+    relations_room: usize,
+    comparisons_room: usize,
+    queries_room: usize,
+) -> Verdict
+    ensures { λ v.
+        ⌜ ((T : Tables) → SourceReads T (now (entries .entry)) (now (relations .entry)) (now (comparisons .entry)) (now (queries .entry))
+        → v ≡ firstOf (roomConditions «entries_room» «relations_room» «comparisons_room» «queries_room» T)) ⌝ }
+{
+    let a = refuse_if(entries_room < entries.len(), 21, 1);
+    let b = refuse_if(relations_room < relations.len(), 21, 2);
+    let c = refuse_if(comparisons_room < comparisons.len(), 21, 3);
+    let d = refuse_if(queries_room < queries.len(), 21, 4);
+    or_else(a, or_else(b, or_else(c, d)))
+}
+
+// Checks 20 and 21, where these configurations are permitted.
+fn check_late(
+    permitted: Row,
+    c: u64,
+    entries: &[u16],
+    relations: &[u16],
+    comparisons: &[u16],
+    queries: &[u16],
+    entries_room: usize,
+    relations_room: usize,
+    comparisons_room: usize,
+    queries_room: usize,
+) -> Verdict
+    ensures { λ v.
+        ⌜ ((T : Tables)
+        → LateReads T (permitted .words) (now (entries .entry)) (now (relations .entry)) (now (comparisons .entry)) (now (queries .entry))
+        → v ≡ firstOf (permittedCondition c T ++ roomConditions «entries_room» «relations_room» «comparisons_room» «queries_room» T)) ⌝ }
+{
+    if !is_permitted(permitted, c) {
+        return Verdict::Refused(Refusal {
+            number: 20,
+            place: 0,
+            item: 0,
+            configuration: c,
+        });
+    }
+    check_room(
+        entries,
+        relations,
+        comparisons,
+        queries,
+        entries_room,
+        relations_room,
+        comparisons_room,
+        queries_room,
+    )
+}
+
+// Writes table 1 at c: the lists of the relations that are present, then those of the project forms that are reached.
+fn write_entries(
+    relation_entries: &[u16],
+    project_entries: &[u16],
+    relations: &[u16],
+    queries: &[u16],
+    conditions: &[u64],
+    reach: &[u64],
+    c: usize,
+    out: &mut [u16],
+) -> usize
+    requires { ⌜ EntriesWritable (now conditions) (now reach) (now «relation_entries») (now «project_entries») (now relations) (now queries) c
+        (now out) ⌝ }
+    ensures { λ r.
+        ⌜ ((T : Tables)
+        → EntriesReads T (now (conditions .entry)) (now (reach .entry)) (now («relation_entries» .entry)) (now («project_entries» .entry))
+        (now (relations .entry)) (now (queries .entry)) c
+        → WrittenAt (relationLists T c ++ projectLists T c) (now (out .entry)) 0 (now (out .exit)) r) ⌝ }
+{
+    let lists = write_relation_lists(relation_entries, relations, conditions, c, &mut *out);
+    write_project_lists(project_entries, queries, conditions, reach, c, out, lists)
+}
+
+// Writes what the report keeps at c, from the expression rows and the configurations that reach each query form.
+fn write_kept(
+    relation_entries: &[u16],
+    project_entries: &[u16],
+    relations: &[u16],
+    comparisons: &[u16],
+    queries: &[u16],
+    conditions: &[u64],
+    reach: &[u64],
+    c: usize,
+    new_entries: &mut [u16],
+    new_relations: &mut [u16],
+    new_comparisons: &mut [u16],
+    new_queries: &mut [u16],
+) -> Configured
+    requires { ⌜ KeptWritable (now conditions) (now reach) (now «relation_entries») (now «project_entries») (now relations) (now comparisons)
+        (now queries) c (now «new_entries») (now «new_relations») (now «new_comparisons») (now «new_queries») ⌝ }
+    ensures { λ r.
+        ⌜ ((T : Tables)
+        → KeptReads T (now (conditions .entry)) (now (reach .entry)) (now («relation_entries» .entry)) (now («project_entries» .entry))
+        (now (relations .entry)) (now (comparisons .entry)) (now (queries .entry)) c
+        → Leaves Verdict.Accepted (configured T c) (now («new_entries» .entry)) (now («new_relations» .entry)) (now («new_comparisons» .entry))
+        (now («new_queries» .entry)) r
+        (now («new_entries» .exit)) (now («new_relations» .exit)) (now («new_comparisons» .exit)) (now («new_queries» .exit))) ⌝ }
+{
+    let entry_words = write_entries(
+        relation_entries,
+        project_entries,
+        relations,
+        queries,
+        conditions,
+        reach,
+        c,
+        new_entries,
+    );
+    let relation_words = write_relation_forms(
+        relation_entries,
+        relations,
+        conditions,
+        c,
+        new_relations,
+    );
+    let mut comparison_numbers = [0; AttributeSet::MOST_COMPARISONS];
+    number_comparisons(comparisons, conditions, c, &mut comparison_numbers);
+    let comparison_words = write_comparisons(comparisons, &comparison_numbers, new_comparisons);
+    let mut query_numbers = [0; AttributeSet::MOST_QUERIES];
+    number_queries(queries, conditions, reach, c, &mut query_numbers);
+    let query_words = write_queries(
+        project_entries,
+        relations,
+        queries,
+        conditions,
+        reach,
+        c,
+        &comparison_numbers,
+        &query_numbers,
+        new_queries,
+    );
+    Configured::Written(
+        entry_words / 2,
+        relation_words / 2,
+        comparison_words / 5,
+        query_words / 4,
+    )
+}
+
+// 20, 21 and the tables at c, of a report that has passed the checks before, from its expression rows and its reach rows.
+fn configure_judged(
+    model: usize,
+    conditions: &[u64],
+    reach: &[u64],
+    entries: &[u16],
+    relations: &[u16],
+    comparisons: &[u16],
+    queries: &[u16],
+    c: u64,
+    new_entries: &mut [u16],
+    new_relations: &mut [u16],
+    new_comparisons: &mut [u16],
+    new_queries: &mut [u16],
+) -> Configured
+    requires { ⌜ ConfigureReadable model (now conditions) (now reach) (now entries) (now relations) (now comparisons) (now queries) ⌝ }
+    ensures { λ r.
+        ⌜ ((T : Tables)
+        → ConfigureReads T model (now (conditions .entry)) (now (reach .entry)) (now (entries .entry)) (now (relations .entry))
+        (now (comparisons .entry)) (now (queries .entry))
+        → Leaves (lateVerdict T c (now («new_entries» .entry)) (now («new_relations» .entry)) (now («new_comparisons» .entry))
+        (now («new_queries» .entry)))
+        (configured T c) (now («new_entries» .entry)) (now («new_relations» .entry)) (now («new_comparisons» .entry)) (now («new_queries» .entry)) r
+        (now («new_entries» .exit)) (now («new_relations» .exit)) (now («new_comparisons» .exit)) (now («new_queries» .exit))) ⌝ }
+{
+    let late = check_late(
+        Row::load(conditions, model),
+        c,
+        entries,
+        relations,
+        comparisons,
+        queries,
+        new_entries.len(),
+        new_relations.len(),
+        new_comparisons.len(),
+        new_queries.len(),
+    );
+    if let Verdict::Refused(r) = late {
+        return Configured::Refused(r);
+    }
+    let split = relations_end(relations) * 2;
+    write_kept(
+        &entries[..split],
+        &entries[split..],
+        relations,
+        comparisons,
+        queries,
+        conditions,
+        reach,
+        c as usize,
+        new_entries,
+        new_relations,
+        new_comparisons,
+        new_queries,
+    )
+}
+
+// Writes the tables that the report of these tables becomes at configuration c into the tables lent for it. Refused: they are as they were.
+pub fn configure(
+    features: u64,
+    attributes: u64,
+    model: u64,
+    expressions: &[u16],
+    entries: &[u16],
+    relations: &[u16],
+    comparisons: &[u16],
+    queries: &[u16],
+    c: u64,
+    new_entries: &mut [u16],
+    new_relations: &mut [u16],
+    new_comparisons: &mut [u16],
+    new_queries: &mut [u16],
+) -> Configured
+    ensures { λ r.
+        ⌜ Configures
+        (tablesOf features attributes model (now (expressions .entry)) (now (entries .entry)) (now (relations .entry)) (now (comparisons .entry))
+        (now (queries .entry))) c
+        (now («new_entries» .entry)) (now («new_relations» .entry)) (now («new_comparisons» .entry)) (now («new_queries» .entry)) r
+        (now («new_entries» .exit)) (now («new_relations» .exit)) (now («new_comparisons» .exit)) (now («new_queries» .exit)) ⌝ }
+{
+    let model = model as usize;
+    let mut conditions = [0; EXPRESSION_WORDS];
+    let mut reach = [0; REACH_WORDS];
+    let mut columns = [0; COLUMN_WORDS];
+    let checked = typed(
+        features as usize,
+        attributes as usize,
+        model,
+        expressions,
+        entries,
+        relations,
+        comparisons,
+        queries,
+        &mut conditions,
+        &mut reach,
+        &mut columns,
+    );
+    if let Verdict::Refused(r) = checked {
+        return Configured::Refused(r);
+    }
+    configure_judged(
+        model,
+        &conditions,
+        &reach,
+        entries,
+        relations,
+        comparisons,
+        queries,
+        c,
+        new_entries,
+        new_relations,
+        new_comparisons,
+        new_queries,
+    )
+}

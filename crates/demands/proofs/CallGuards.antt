@@ -1,0 +1,61 @@
+-- The promises and the theorems of Demands are about something: calls on H1 (docs/FORMAT.md, "Worked examples"), by computation.
+use Prim.Native.Nat.{ℕ}
+use mathlib.Core.Path.{_≡_, refl, sym, ap}
+use mathlib.Core.Bool.{true}
+use mathlib.Core.List.{List, [], _∷_}
+use lib.ListN.{replicate}
+use lib.Dec.{lit≤}
+use Rattle.report.specs.Expressions.{permitted}
+use Rattle.report.specs.ColumnRows.{columnRows}
+use Rattle.report.specs.Verdicts.{refusal, after}
+use Rattle.report.specs.Examples.{h1}
+use Rattle.report.specs.declared.Verdict.{Verdict}
+use Rattle.report.proofs.ExamplesHold.{computed}
+use Rattle.report.proofs.Guards.{h1-accepted}
+use Rattle.checking.specs.Promises.{Checks}
+use Rattle.configuring.specs.declared.Configured.{Configured}
+use Rattle.configuring.specs.Promises.{Rooms, Configures}
+use Rattle.demands.specs.FoundWritten.{FoundWritten}
+use Rattle.demands.proofs.Demands.{found-written}
+
+-- tables lent with other words in them, table 1 with two words more than its source
+abbrev lent1 : List ℕ
+lent1 = replicate 12 9
+
+abbrev lent2 : List ℕ
+lent2 = replicate 2 9
+
+abbrev lent4 : List ℕ
+lent4 = replicate 8 9
+
+-- H4: H1 configured at 0. The words after those written are as they were
+pub h4-configures : Configures (h1 2) 0 lent1 lent2 [] lent4 (Configured.Written 3 1 0 2) (0 ∷ 0 ∷ 1 ∷ 0 ∷ 0 ∷ 0 ∷ replicate 6 9) (0 ∷ 2 ∷ []) []
+    (1 ∷ 0 ∷ 0 ∷ 0 ∷ 3 ∷ 1 ∷ 0 ∷ 0 ∷ [])
+unfolding computed
+h4-configures = record { answers = refl; entries = refl; relations = refl; comparisons = refl; queries = refl }
+
+-- 20: a configuration past the last, also where its low 16 bits are those of a permitted one
+pub past-refused : Configures (h1 2) 65536 lent1 lent2 [] lent4 (Configured.Refused (refusal 20 0 0 65536)) lent1 lent2 [] lent4
+unfolding computed
+past-refused = record { answers = refl; entries = refl; relations = refl; comparisons = refl; queries = refl }
+
+-- 21: a table with room for what is written, and shorter than its source
+pub short-refused : Configures (h1 2) 0 (replicate 9 9) lent2 [] lent4 (Configured.Refused (refusal 21 1 0 0)) (replicate 9 9) lent2 [] lent4
+unfolding computed
+short-refused = record { answers = refl; entries = refl; relations = refl; comparisons = refl; queries = refl }
+
+-- and H1 is accepted, so Demands says of H4 what it says of any such call
+h1-checks : Checks (h1 2) (replicate 1024 9) Verdict.Accepted (columnRows (h1 2))
+h1-checks = (sym h1-accepted, ap (λ (v : Verdict). after v (columnRows (h1 2)) (replicate 1024 9)) (sym h1-accepted))
+
+h4-permitted : permitted (h1 2) 0 ≡ true
+unfolding computed
+h4-permitted = refl
+
+h4-rooms : Rooms (h1 2) lent1 lent2 [] lent4
+h4-rooms = record { entries = lit≤ tt; relations = lit≤ tt; comparisons = lit≤ tt; queries = lit≤ tt }
+
+pub h4-found : FoundWritten (h1 2) 0 (columnRows (h1 2)) lent1 lent2 [] lent4 (Configured.Written 3 1 0 2) (0 ∷ 0 ∷ 1 ∷ 0 ∷ 0 ∷ 0 ∷ replicate 6 9)
+    (0 ∷ 2 ∷ []) [] (1 ∷ 0 ∷ 0 ∷ 0 ∷ 3 ∷ 1 ∷ 0 ∷ 0 ∷ [])
+h4-found =
+    found-written (h1 2) 0 lent1 lent2 [] lent4 _ _ _ _ _ h4-configures (replicate 1024 9) (columnRows (h1 2)) h1-checks h4-permitted h4-rooms

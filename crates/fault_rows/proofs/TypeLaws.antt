@@ -1,0 +1,167 @@
+-- Laws of the loop that types all forms in one attribute.
+use Prim.Native.Nat.{ℕ, suc, _+_, _*_, _/_, _<_, _≤_}
+use mathlib.Core.Path.{_≡_, refl, sym, ap, ap₂, _∙_}
+use mathlib.Core.Bool.{Bool, true, false, _&&_, _||_}
+use mathlib.Core.List.{List}
+use native.Mathlib.Nat.{le-refl}
+use native.Mathlib.Numerals.{add-one}
+use native.Mathlib.Omega.{arith}
+use lib.Bits.{bitOr}
+use lib.ListN.{length, getD}
+use Rattle.sets.specs.Search.{someBelow}
+use Rattle.sets.specs.Bits.{bit}
+use Rattle.sets.specs.Rows.{rowIn, rowJoin, rowIntersect, withRow, RowsAre}
+use Rattle.sets.proofs.SearchLaws.{someBelow-suc}
+use Rattle.sets.proofs.ListLaws.{table-length}
+use Rattle.sets.proofs.RowLaws.{rowOf-same, rowOf-row, join-rowOf, rows-are, withRow-other}
+use Rattle.report.specs.Tables.{Tables, query, queryCount, relationsEnd, projectLength, projectedBefore, projectStart}
+use Rattle.report.specs.Typing.{reached, faults}
+use Rattle.report.specs.declared.Query.{Query}
+use Rattle.report.proofs.EntryParts.{project-part, project-in-part}
+use Rattle.attribute_rows.specs.AttributeRows.{listRow, setRow, ListRowReads, ListRowReadable}
+use Rattle.attribute_rows.specs.RowRules.{setStep, SetRead}
+use Rattle.attribute_rows.proofs.AttributeLaws.{set-wide, sets-are}
+use Rattle.attribute_rows.proofs.FillLaws.{RowsFilling, filling-none, filling-more, filling-all}
+use Rattle.attribute_rows.proofs.SetLaws.{set-read, set-is}
+use Rattle.fault_rows.specs.FaultRows.{faultRow, faultyRow}
+use Rattle.fault_rows.specs.FaultRules.{faultStep, FaultRead, FormReads, FormReadable, FormsFilled}
+use Rattle.fault_rows.proofs.FormLaws.{fault-read, fault-is}
+
+-- one item more
+join-row : (T : Tables) (a q : ℕ) → rowJoin 16 (faultyRow T a q) (faultRow T a q) ≡ faultyRow T (a + 1) q
+join-row T a q =
+    join-rowOf 16 (λ c. reached T c q && someBelow (bit (faults T c q)) a) (λ c. reached T c q && bit (faults T c q) a)
+    ∙ rowOf-same 16 (λ c. (reached T c q && someBelow (bit (faults T c q)) a) || (reached T c q && bit (faults T c q) a))
+    (λ c. reached T c q && someBelow (bit (faults T c q)) (suc a))
+    (λ c h. go (reached T c q) (someBelow (bit (faults T c q)) a) (bit (faults T c q) a)
+    ∙ ap (λ (t : Bool). reached T c q && t) (sym (someBelow-suc (bit (faults T c q)) a)))
+    ∙ ap (λ (k : ℕ). faultyRow T k q) (sym (add-one a))
+  where
+    go : (r s b : Bool) → ((r && s) || (r && b)) ≡ (r && (s || b))
+    go true s b = refl
+    go false s b = refl
+
+join-wide : (s t : List ℕ) → length (rowJoin 16 s t) ≡ 16
+join-wide s t = table-length 16 (λ i. bitOr (getD s i 0) (getD t i 0))
+
+pub faulty-wide : (T : Tables) (items q : ℕ) → length (faultyRow T items q) ≡ 16
+faulty-wide T items q = rowOf-row 16 (λ c. reached T c q && someBelow (bit (faults T c q)) items) .size
+
+-- ---- the loop
+
+-- where `lent` starts with the fault rows of the items below a: the rows of the forms below q stand in `sets`, and in `faults` theirs have item a
+-- besides, while the others are those of `lent`; the list of the next project starts at `start`
+pub record FormsTyping (conditions projectEntries relations queries reach named relationRows : List ℕ) (a : ℕ) (before sets lent faults : List ℕ)
+    (q start : ℕ)
+    : Type 0 where
+  pub shaped : RowsFilling (λ T. FormReads T conditions projectEntries relations queries reach named relationRows a lent) setRow a
+      (length queries / 4) before sets q
+  pub joined : RowsFilling (λ T. FormReads T conditions projectEntries relations queries reach named relationRows a lent)
+      (λ T x k. faultyRow T (x + 1) k) a (length queries / 4) lent faults q
+  pub rest : (k : ℕ) → q ≤ k → rowIn 16 faults k ≡ rowIn 16 lent k
+  pub starts : start ≡ projectedBefore queries q
+
+pub typing-none : {conditions projectEntries relations queries reach named relationRows : List ℕ} {a : ℕ} {before lent : List ℕ}
+    → FormsTyping conditions projectEntries relations queries reach named relationRows a before before lent lent 0 0
+typing-none = record { shaped = filling-none; joined = filling-none; rest = λ k h. refl; starts = refl }
+
+module _ {conditions projectEntries relations queries reach named relationRows : List ℕ} {a : ℕ} {before sets lent faults : List ℕ} {q start : ℕ}
+    (S : FormsTyping conditions projectEntries relations queries reach named relationRows a before sets lent faults q start) where
+  module _ (h : q < length queries / 4) where
+    module _ {T : Tables} (R : FormReads T conditions projectEntries relations queries reach named relationRows a lent) where
+      in-table : q < queryCount T
+      in-table = rw (R .queriesAre) at h
+
+      lower : RowsAre 16 q (setRow T a) sets
+      lower = rows-are 16 q (setRow T a) (λ k l. set-wide T a k) _ (S .shaped .filled T R)
+
+    -- form q has its rows
+    module _ (A : FormReadable conditions projectEntries relations queries reach named relationRows a before lent) where
+      pub typing-reach : q * 16 + 16 ≤ length reach
+      typing-reach = let m = A .reads .reaching .room in let i = in-table (A .reads) in omega arith
+
+      pub typing-faults : q * 16 + 16 ≤ length faults
+      typing-faults = let m = A .reads .faulty .room in let s = S .joined .size in let i = in-table (A .reads) in omega arith
+
+      pub typing-sets : q * 16 + 16 ≤ length sets
+      typing-sets = let m = A .room in let s = S .shaped .size in omega arith
+
+    -- the code finds it to be x
+    module _ {x : Query} (e : x ≡ query queries q) where
+      form : {T : Tables} → FormReads T conditions projectEntries relations queries reach named relationRows a lent → x ≡ query (T .queries) q
+      form R = e ∙ ap (λ (t : List ℕ). query t q) (R .queriesAre)
+
+      module _ (A : FormReadable conditions projectEntries relations queries reach named relationRows a before lent) where
+        pub typing-fault : FaultRead conditions relations named sets x
+        typing-fault =
+            let R = A .reads in
+            fault-read (R .formed) a (R .filled) (R .compared) (lower R) (in-table R) (form R) (R .relationsAre)
+
+        pub typing-set : SetRead conditions relationRows sets x
+        typing-set = let R = A .reads in set-read (R .formed) a (R .filled) (R .related) (lower R) (in-table R) (form R)
+
+      -- with n entries
+      module _ {n : ℕ} (p : n ≡ projectLength x) where
+        list-reads : {T : Tables} → FormReads T conditions projectEntries relations queries reach named relationRows a lent
+            → ListRowReads T (relationsEnd T) conditions projectEntries start n
+        list-reads R = record {
+          formed = R .formed;
+          filled = R .filled;
+          part = rw (R .entriesAre) (project-part (R .formed));
+          inside = rw (R .entriesAre, S .starts, R .queriesAre, p, form R) (project-in-part (R .formed) q (in-table R));
+        }
+
+        pub typing-list : FormReadable conditions projectEntries relations queries reach named relationRows a before lent
+            → ListRowReadable conditions projectEntries start n
+        typing-list A = record { tables = A .tables; offset = relationsEnd (A .tables); reads = list-reads (A .reads) }
+
+        -- the row of these entries
+        module _ {listed : List ℕ}
+            (list : (T : Tables) (offset : ℕ) → ListRowReads T offset conditions projectEntries start n
+            → listed ≡ listRow T a (offset + start) n) where
+          module _ {T : Tables} (R : FormReads T conditions projectEntries relations queries reach named relationRows a lent) where
+            own-list : listed ≡ listRow T a (projectStart T q) (projectLength x)
+            own-list =
+                list T (relationsEnd T) (list-reads R)
+                ∙ ap₂ (λ (i k : ℕ). listRow T a (relationsEnd T + i) k) (S .starts ∙ ap (λ (t : List ℕ). projectedBefore t q) (R .queriesAre)) p
+
+            own-set : {row : List ℕ} → row ≡ setStep conditions relationRows sets listed x → row ≡ setRow T a q
+            own-set = set-is (R .formed) a (R .filled) (R .related) (lower R) (in-table R) (form R) own-list
+
+            own-fault : {among here : List ℕ} → among ≡ rowIn 16 reach q
+                → here ≡ rowIntersect 16 (faultStep conditions relations named sets listed among a x) among
+                → rowJoin 16 (rowIn 16 faults q) here ≡ faultyRow T (a + 1) q
+            own-fault load step =
+                ap₂ (rowJoin 16) (S .rest q (le-refl q) ∙ R .faulty .each q (in-table R))
+                (fault-is (R .formed) a (R .filled) (R .compared) (lower R) (in-table R) (form R) (R .relationsAre) own-list
+                (load ∙ R .reaching .each q (in-table R)) step)
+                ∙ join-row T a q
+
+          pub typing-more : FormReadable conditions projectEntries relations queries reach named relationRows a before lent
+              → {among here row newFaults newSets : List ℕ} → among ≡ rowIn 16 reach q
+              → here ≡ rowIntersect 16 (faultStep conditions relations named sets listed among a x) among
+              → length newFaults ≡ length faults → newFaults ≡ withRow 16 faults q (rowJoin 16 (rowIn 16 faults q) here)
+              → row ≡ setStep conditions relationRows sets listed x → length newSets ≡ length sets → newSets ≡ withRow 16 sets q row
+              → FormsTyping conditions projectEntries relations queries reach named relationRows a before newSets lent newFaults (q + 1) (start + n)
+          typing-more A {here = here} {newFaults = newFaults} load fault same joins step alike stores = record {
+            shaped = filling-more set-wide (S .shaped) h (λ T R B. own-set R step) alike stores;
+            joined = filling-more (λ T x k. faulty-wide T (x + 1) k) (S .joined) h (λ T R B. own-fault R load fault) same joins;
+            rest = λ k l. other k (omega arith) ∙ S .rest k (omega arith);
+            starts =
+                let b = S .starts in let m = ap (projectedBefore queries) (add-one q) in let y = p ∙ ap projectLength e in
+                omega arith;
+          }
+            where
+              other : (k : ℕ) → (k ≡ q → ⊥) → rowIn 16 newFaults k ≡ rowIn 16 faults k
+              other k i =
+                  ap (λ (l : List ℕ). rowIn 16 l k) joins
+                  ∙ withRow-other 16 faults q (rowJoin 16 (rowIn 16 faults q) here) (join-wide (rowIn 16 faults q) here) (typing-faults A) k i
+
+  pub typing-all : length queries / 4 ≤ q → (T : Tables)
+      → FormReads T conditions projectEntries relations queries reach named relationRows a lent → FormsFilled T a sets lent faults
+  typing-all h T R =
+      let e = ap (λ (t : List ℕ). length t / 4) (R .queriesAre) in
+      record {
+        shaped = sets-are T a before (filling-all set-wide (S .shaped) h T R e);
+        joined = filling-all (λ U x k. faulty-wide U (x + 1) k) (S .joined) h T R e;
+      }

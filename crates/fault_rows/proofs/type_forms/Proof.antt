@@ -1,0 +1,122 @@
+use borrow.Author.Needs.{needs}
+use Prim.Native.Nat.{_/_, _-_}
+use native.Mathlib.Omega.{arith}
+use lib.ListN.{length}
+use Rattle.fault_rows.proofs.TypeLaws.{FormsTyping, typing-none, typing-list, typing-reach, typing-fault, typing-faults, typing-set}
+use Rattle.fault_rows.proofs.TypeLaws.{typing-sets, typing-more, typing-all}
+use Rattle.fault_rows.proofs.type_forms.Statement.{statement}
+use Rattle.fault_rows.proofs.type_forms.Tie as tie
+
+abbrev Inv-loop : tie.InvT-loop
+Inv-loop projectEntries relations queries conditions reach named relationRows a sets₀ faults₀ count start₀ q₀ sets faults start q =
+    FormsTyping conditions projectEntries relations queries reach named relationRows a sets₀ sets faults₀ faults q start
+
+abbrev μ-loop : tie.MeasureT-loop
+μ-loop projectEntries relations queries conditions reach named relationRows a sets₀ faults₀ count start₀ q₀ sets faults start q =
+    length queries / 4 - q
+
+-- places of the code that the needs look back to
+abbrev start : tie.In-loop Inv-loop μ-loop → tie.Start Inv-loop μ-loop
+start p = p .before .before .before .before .before .before .before .before .before .before .before
+
+abbrev query-at : tie.After-fault-row-arg Inv-loop μ-loop → tie.After-query-at Inv-loop μ-loop
+query-at p = p .before .before .before .before
+
+abbrev fault-row-arg : tie.After-set-row-arg Inv-loop μ-loop → tie.After-fault-row-arg Inv-loop μ-loop
+fault-row-arg p = p .before .before .before .before .before .before
+
+abbrev set-row-arg : tie.After-slice-known4 Inv-loop μ-loop → tie.After-set-row-arg Inv-loop μ-loop
+set-row-arg p = p .before .before .before .before .before
+
+abbrev turn : tie.After-slice-known4 Inv-loop μ-loop → tie.In-loop Inv-loop μ-loop
+turn p = query-at (fault-row-arg (set-row-arg p)) .before
+
+list-row-requires : tie.Need-list-row-requires Inv-loop μ-loop
+list-row-requires c κs =
+    let x = c .before in
+    let i = x .before in
+    typing-list (i .before .loop .inv) (i .loop-test .taken) (x .query-at .ensures) (c .project-length .ensures) (start i .pre)
+
+load-requires : tie.Need-load-requires Inv-loop μ-loop
+load-requires c κs =
+    let i = c .before .before .before in
+    typing-reach (i .before .loop .inv) (i .loop-test .taken) (start i .pre)
+
+fault-row-requires : tie.Need-fault-row-requires Inv-loop μ-loop
+fault-row-requires c κs =
+    let x = query-at c in
+    let i = x .before in
+    typing-fault (i .before .loop .inv) (i .loop-test .taken) (x .query-at .ensures) (start i .pre)
+
+join-fault-requires : tie.Need-join-fault-requires Inv-loop μ-loop
+join-fault-requires c κs =
+    let i = query-at (c .before .before) .before in
+    typing-faults (i .before .loop .inv) (i .loop-test .taken) (start i .pre)
+
+set-row-requires : tie.Need-set-row-requires Inv-loop μ-loop
+set-row-requires c κs =
+    let x = query-at (fault-row-arg c) in
+    let i = x .before in
+    typing-set (i .before .loop .inv) (i .loop-test .taken) (x .query-at .ensures) (start i .pre)
+
+store-requires : tie.Need-store-requires Inv-loop μ-loop
+store-requires c κs =
+    let i = query-at (fault-row-arg (c .before .before)) .before in
+    typing-sets (i .before .loop .inv) (i .loop-test .taken) (start i .pre)
+
+add-start : tie.Need-add-start Inv-loop μ-loop
+add-start c =
+    let n = fault-row-arg (set-row-arg c) .before .before .before in
+    let x = n .before in
+    let i = x .before in
+    let s = start i in
+    let l = typing-list (i .before .loop .inv) (i .loop-test .taken) (x .query-at .ensures) (n .project-length .ensures) (s .pre) .reads .inside in
+    omega arith
+
+add-q : tie.Need-add-q Inv-loop μ-loop
+add-q c =
+    let i = turn c in
+    let s = start i in
+    let l = i .loop-test .taken in
+    omega arith
+
+loop-less : tie.Need-loop-less Inv-loop μ-loop
+loop-less c = let l = turn c .loop-test .taken in omega arith
+
+loop-again : tie.Need-loop-again Inv-loop μ-loop
+loop-again c =
+    let s = set-row-arg c in
+    let store = c .before .before in
+    let join = s .before .before .before in
+    let f = fault-row-arg s in
+    let r = f .before in
+    let l = r .before in
+    let n = l .before in
+    let x = n .before in
+    let i = x .before in
+    typing-more (i .before .loop .inv) (i .loop-test .taken) (x .query-at .ensures) (n .project-length .ensures) (l .list-row .ensures)
+    (start i .pre) (r .load .ensures) (join .before .before .fault-row .ensures) (join .join-fault .kept .1 .1 .0) (join .join-fault .ensures)
+    (store .before .before .set-row .ensures) (store .store .kept .1 .0) (store .store .ensures)
+
+pub type-forms-spec : {M : Type 1} → statement M
+type-forms-spec =
+    tie.close
+    (tie.spec
+    Inv-loop
+    μ-loop
+    (λ c. typing-none)
+    (λ c κs. search needs)
+    (λ c κs. search needs)
+    list-row-requires
+    load-requires
+    fault-row-requires
+    join-fault-requires
+    set-row-requires
+    store-requires
+    add-start
+    add-q
+    loop-less
+    loop-again
+    (λ c. c .before .loop .inv .shaped .size)
+    (λ c. c .before .loop .inv .joined .size)
+    (λ c. typing-all (c .before .loop .inv) (c .loop-test .left)))

@@ -1,0 +1,118 @@
+-- Laws of the sets of lists and relations.
+use Prim.Native.Nat.{ℕ, _+_, _/_, _^_, _<_, _≤_}
+use mathlib.Core.Path.{_≡_, refl, sym, ap, ap₂, _∙_}
+use mathlib.Core.Bool.{Bool, true, false, cond}
+use mathlib.Core.List.{List}
+use native.Mathlib.Numerals.{add-one}
+use native.Mathlib.Omega.{arith}
+use lib.Bits.{bitOr, or-zero-r}
+use lib.ListN.{length, set}
+use Rattle.sets.specs.Lists.{table}
+use Rattle.sets.proofs.ListLaws.{NumbersFilling, filling-none, filling-place, filling-more, filling-all}
+use Rattle.report.specs.Tables.{Tables, entryAttribute, entryExpression, relationLength, relationStart, relationCount}
+use Rattle.report.specs.Typing.{at, listed, present, relationSet}
+use Rattle.report.specs.Configuring.{written}
+use Rattle.at_configuration.specs.AtConfiguration.{ListReads, PresentReads, PresentReadable, RelationReads}
+use Rattle.at_configuration.proofs.ListLaws.{attribute-is, each-entry, reads-present, starts-at, is-long, relation-list}
+use Rattle.faults_at.specs.SetsAt.{presentSet, RelationReadable, SomeRelation}
+
+-- ---- one entry more
+
+-- a set with an attribute more if a test holds
+with-test : (bits a : ℕ) (t : Bool) → cond t (bitOr bits (2 ^ a)) bits ≡ bitOr bits (cond t (2 ^ a) 0)
+with-test bits a true = refl
+with-test bits a false = sym (or-zero-r bits)
+
+module _ {T : Tables} {offset : ℕ} {conditions entries : List ℕ} {c start count : ℕ} (R : ListReads T offset conditions entries c start count)
+    {i : ℕ} (h : i < count) {a : ℕ} (p : a ≡ entryAttribute entries (start + i)) {t : Bool} (d : t ≡ at T c (entryExpression (T .entries) (offset + start + i))) where
+  entry-more : {bits after : ℕ} → bits ≡ listed T c (offset + start) i → after ≡ cond t (bitOr bits (2 ^ a)) bits
+      → after ≡ listed T c (offset + start) (i + 1)
+  unfolding listed
+  entry-more {bits} s joined =
+      joined ∙ with-test bits a t ∙ ap₂ bitOr s (ap₂ (λ (t : Bool) (b : ℕ). cond t (2 ^ b) 0) d (attribute-is R h p))
+      ∙ ap (listed T c (offset + start)) (sym (add-one i))
+
+-- ---- the loop over a list
+
+-- of the `count` entries from `start` on the first i are joined
+pub record EntriesJoining (conditions entries : List ℕ) (c start count bits i : ℕ) : Type 0 where
+  pub most : i ≤ count
+  pub joined : (T : Tables) (offset : ℕ) → ListReads T offset conditions entries c start count → bits ≡ listed T c (offset + start) i
+
+module _ {conditions entries : List ℕ} {c start count bits : ℕ} where
+  pub listing-none : bits ≡ 0 → EntriesJoining conditions entries c start count bits 0
+  unfolding listed
+  listing-none e = record { most = omega arith; joined = λ T offset R. e }
+
+  module _ {i : ℕ} (S : EntriesJoining conditions entries c start count bits i) where
+    pub listing-more : i < count → {a after : ℕ} {t : Bool} → a ≡ entryAttribute entries (start + i)
+        → ((T : Tables) (offset : ℕ) → ListReads T offset conditions entries c start (i + 1) → t ≡ at T c (entryExpression (T .entries) (offset + start + i)))
+        → after ≡ cond t (bitOr bits (2 ^ a)) bits
+        → EntriesJoining conditions entries c start count after (i + 1)
+    listing-more h p d e = record {
+      most = omega arith;
+      joined = λ T offset R. entry-more R h p (d T offset (each-entry R h)) (S .joined T offset R) e;
+    }
+
+    pub listing-all : count ≤ i → (T : Tables) (offset : ℕ) → ListReads T offset conditions entries c start count
+        → bits ≡ listed T c (offset + start) count
+    listing-all h T offset R =
+        let e : i ≡ count = (let l = S .most in omega arith) in
+        S .joined T offset R ∙ ap (listed T c (offset + start)) e
+
+-- ---- one relation
+
+-- present or absent, as the code found
+pub if-present : {T : Tables} {conditions relations : List ℕ} {c : ℕ} → PresentReads T conditions relations c → (r : ℕ) {b t : Bool}
+    → ((T : Tables) → PresentReads T conditions relations c → b ≡ present T c r) → b ≡ t → (x y : ℕ) {s : ℕ} → s ≡ cond t x y
+    → s ≡ cond (present T c r) x y
+if-present {T} R r p e x y q = q ∙ ap (λ (t : Bool). cond t x y) (sym e ∙ p T R)
+
+module _ {conditions entries relations : List ℕ} {c r start : ℕ} (A : SomeRelation conditions entries relations c r start) where
+  pub asked-present : PresentReadable conditions relations c (r + 1)
+  asked-present = record {
+    tables = A .tables;
+    reads = reads-present (A .reads);
+    few = let l = rw (A .reads .relationsAre) at (A .inside) in omega arith;
+  }
+
+  module _ {T : Tables} (R : RelationReads T conditions entries relations c) {n : ℕ} (e : n ≡ relationLength relations r) where
+    pub asked-list : ListReads T 0 conditions entries c start n
+    asked-list = relation-list R (A .starts) (A .inside) e
+
+    pub relation-listed : {s : ℕ} → s ≡ listed T c (0 + start) n → s ≡ relationSet T c r
+    relation-listed p = p ∙ ap₂ (listed T c) (starts-at R (A .starts) (A .inside) e) (is-long R (A .starts) (A .inside) e)
+
+-- ---- the loop over the relations
+
+-- the sets of those below r stand over `lent`, and the list of r starts at `start`
+pub record RelationsFilling (conditions entries relations : List ℕ) (c : ℕ) (lent relationSets : List ℕ) (r start : ℕ) : Type 0 where
+  pub sets : NumbersFilling (λ T. RelationReads T conditions entries relations c) (λ T. presentSet T c) (length relations / 2) lent relationSets r
+  pub starts : start ≡ relationStart relations r
+
+pub related-none : {conditions entries relations : List ℕ} {c : ℕ} {lent : List ℕ} → RelationsFilling conditions entries relations c lent lent 0 0
+related-none = record { sets = filling-none; starts = refl }
+
+module _ {conditions entries relations : List ℕ} {c : ℕ} {lent relationSets : List ℕ} {r start : ℕ}
+    (S : RelationsFilling conditions entries relations c lent relationSets r start) where
+  module _ (h : r < length relations / 2) where
+    pub related-some : RelationReadable conditions entries relations c lent → SomeRelation conditions entries relations c r start
+    related-some A = record { tables = A .tables; reads = A .reads; inside = h; starts = S .starts }
+
+    pub related-place : RelationReadable conditions entries relations c lent → r < length relationSets
+    related-place A = filling-place (S .sets) (A .room) h
+
+    module _ {n : ℕ} (e : n ≡ relationLength relations r) (A : RelationReadable conditions entries relations c lent) where
+      pub related-inside : start + n ≤ length entries / 2
+      related-inside = relation-list (A .reads) (S .starts) h e .lies
+
+      pub related-more : {s : ℕ} → ((T : Tables) → RelationReads T conditions entries relations c → s ≡ presentSet T c r)
+          → RelationsFilling conditions entries relations c lent (set relationSets r s) (r + 1) (start + n)
+      related-more s = record {
+        sets = filling-more (S .sets) (A .room) h s;
+        starts = ap₂ _+_ (S .starts) e ∙ ap (relationStart relations) (sym (add-one r));
+      }
+
+  pub related-all : length relations / 2 ≤ r → (T : Tables) → RelationReads T conditions entries relations c
+      → relationSets ≡ written (table (relationCount T) (presentSet T c)) lent
+  related-all h T R = filling-all (S .sets) h T R (ap (λ (t : List ℕ). length t / 2) (R .relationsAre))

@@ -1,0 +1,66 @@
+use Prim.Native.Nat.{_-_}
+use native.Mathlib.Omega.{arith}
+use borrow.Author.Needs.{needs}
+use Rattle.faults_at.proofs.SetLaws.{QueriesFilling, setting-none, setting-in, setting-place, setting-some, setting-inside, setting-more}
+use Rattle.faults_at.proofs.SetLaws.{setting-all}
+use Rattle.faults_at.proofs.fill_sets.Statement.{statement}
+use Rattle.faults_at.proofs.fill_sets.Tie as tie
+
+abbrev Inv-loop : tie.InvT-loop
+Inv-loop entries queries conditions relationSets c q sets₀ start₀ p₀ sets start p =
+    QueriesFilling conditions entries queries relationSets c q sets₀ sets p start
+
+abbrev μ-loop : tie.MeasureT-loop
+μ-loop entries queries conditions relationSets c q sets₀ start₀ p₀ sets start p = q - p
+
+-- places of the code that the needs look back to
+abbrev start-of-turn : tie.In-loop Inv-loop μ-loop → tie.Start Inv-loop μ-loop
+start-of-turn p = p .before .before .before .before .before .before .before
+
+query-at-requires : tie.Need-query-at-requires Inv-loop μ-loop
+query-at-requires c κs = setting-in (c .before .loop .inv) (start-of-turn c .pre) (c .loop-test .taken)
+
+set-at-requires : tie.Need-set-at-requires Inv-loop μ-loop
+set-at-requires c κs =
+    let x = c .before in
+    let i = x .before in
+    setting-some (i .before .loop .inv) (start-of-turn i .pre) (i .loop-test .taken) (x .query-at .ensures)
+
+slice-write-sets : tie.Need-slice-write-sets Inv-loop μ-loop
+slice-write-sets c =
+    let i = c .before .before .before in
+    setting-place (i .before .loop .inv) (start-of-turn i .pre) (i .loop-test .taken)
+
+add-start : tie.Need-add-start Inv-loop μ-loop
+add-start c =
+    let x = c .before .before .before in
+    let i = x .before in
+    let l = setting-inside (i .before .loop .inv) (start-of-turn i .pre) (i .loop-test .taken) (x .query-at .ensures) (c .project-length .ensures) in
+    omega arith
+
+loop-again : tie.Need-loop-again Inv-loop μ-loop
+loop-again c =
+    let s = c .before in
+    let x = s .before .before in
+    let i = x .before in
+    setting-more (i .before .loop .inv) (start-of-turn i .pre) (i .loop-test .taken) (x .query-at .ensures) (c .project-length .ensures)
+    (s .set-at .ensures)
+
+pub fill-sets-spec : {M : Type 1} → statement M
+fill-sets-spec =
+    tie.close
+    (tie.spec
+    Inv-loop
+    μ-loop
+    (λ c. setting-none)
+    query-at-requires
+    set-at-requires
+    (λ c. search needs)
+    slice-write-sets
+    (λ c κs. search needs)
+    add-start
+    (λ c. search needs)
+    (λ c. search needs)
+    loop-again
+    (λ c. c .before .loop .inv .formed .size)
+    (λ c. setting-all (c .before .loop .inv) (c .loop-test .left)))

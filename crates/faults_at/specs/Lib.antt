@@ -1,0 +1,2 @@
+pub mod FaultsAt
+pub mod SetsAt

@@ -1,0 +1,90 @@
+-- What the private functions work out at one configuration c, and what each reads of tables T; `..Readable`, `Some..`: there are such tables, and
+-- room for what is written.
+use Prim.Native.Nat.{ℕ, _/_, _<_, _≤_}
+use mathlib.Core.Path.{_≡_}
+use mathlib.Core.Bool.{cond}
+use mathlib.Core.List.{List}
+use lib.ListN.{length}
+use Rattle.sets.specs.Lists.{table, NumbersAre}
+use Rattle.report.specs.Tables.{Tables, comparison, relationCount, comparisonCount, queryCount, relationStart, projectedBefore, entriesOfProjects}
+use Rattle.report.specs.Typing.{present, relationSet, names, setOf}
+use Rattle.report.specs.Configuring.{written}
+use Rattle.report.specs.declared.Comparison.{Comparison}
+use Rattle.report.specs.declared.Query.{Query}
+use Rattle.at_configuration.specs.AtConfiguration.{AtReads, RelationReads, FormAt}
+
+-- the set of relation r: none where it is absent
+abbrev pub presentSet : Tables → ℕ → ℕ → ℕ
+presentSet T c r = cond (present T c r) (relationSet T c r) 0
+
+-- ---- relations
+
+-- room for the sets of all
+pub record RelationReadable (conditions entries relations : List ℕ) (c : ℕ) (lent : List ℕ) : Type 0 where
+  pub tables : Tables
+  pub reads : RelationReads tables conditions entries relations c
+  pub room : length relations / 2 ≤ length lent
+
+-- relation r, whose list starts at `start`
+pub record SomeRelation (conditions entries relations : List ℕ) (c r start : ℕ) : Type 0 where
+  pub tables : Tables
+  pub reads : RelationReads tables conditions entries relations c
+  pub inside : r < length relations / 2
+  pub starts : start ≡ relationStart relations r
+
+-- ---- comparisons
+
+-- x is comparison f, and `named` has what the lower ones name
+pub record ComparisonAt (T : Tables) (f : ℕ) (conditions : List ℕ) (c : ℕ) (named : List ℕ) (x : Comparison) : Type 0 where
+  pub reads : AtReads T conditions c
+  pub inside : f < comparisonCount T
+  pub form : x ≡ comparison (T .comparisons) f
+  pub below : NumbersAre f (names T c) named
+
+pub record SomeComparison (conditions : List ℕ) (c : ℕ) (named : List ℕ) (x : Comparison) : Type 0 where
+  pub tables : Tables
+  pub number : ℕ
+  pub at : ComparisonAt tables number conditions c named x
+
+-- ---- query forms
+
+-- the project forms' entries and table 4; `relationSets` has the sets of the relations
+pub record QueryReads (T : Tables) (conditions entries queries relationSets : List ℕ) (c : ℕ) : Type 0 where
+  pub reads : AtReads T conditions c
+  pub entriesAre : entries ≡ entriesOfProjects T
+  pub queriesAre : queries ≡ T .queries
+  pub related : NumbersAre (relationCount T) (presentSet T c) relationSets
+
+pub record QueryReadable (conditions entries queries relationSets : List ℕ) (c q : ℕ) (lent : List ℕ) : Type 0 where
+  pub tables : Tables
+  pub reads : QueryReads tables conditions entries queries relationSets c
+  pub inside : q ≤ queryCount tables
+  pub room : q ≤ length lent
+
+-- the sets of the forms below q stand over `lent`, and the list of form q starts at `start`
+pub record SetsFilled (T : Tables) (c q : ℕ) (lent sets : List ℕ) (start : ℕ) : Type 0 where
+  pub stored : sets ≡ written (table q (setOf T c)) lent
+  pub starts : start ≡ projectedBefore (T .queries) q
+
+-- x is query form q, `sets` has the sets of lower forms and `relationSets` those of the relations
+pub record QueryAt (T : Tables) (q : ℕ) (conditions entries relationSets : List ℕ) (c : ℕ) (sets : List ℕ) (start : ℕ) (x : Query) : Type 0 where
+  pub at : FormAt T q conditions entries c start x
+  pub below : NumbersAre q (setOf T c) sets
+  pub related : NumbersAre (relationCount T) (presentSet T c) relationSets
+
+pub record SomeQuery (conditions entries relationSets : List ℕ) (c : ℕ) (sets : List ℕ) (start : ℕ) (x : Query) : Type 0 where
+  pub tables : Tables
+  pub number : ℕ
+  pub at : QueryAt tables number conditions entries relationSets c sets start x
+
+-- x is query form q, `sets` has the sets of lower forms and `named` what the comparisons name; and table 2
+pub record FormReads (T : Tables) (q : ℕ) (conditions entries relations : List ℕ) (c : ℕ) (named sets : List ℕ) (start : ℕ) (x : Query) : Type 0 where
+  pub at : FormAt T q conditions entries c start x
+  pub below : NumbersAre q (setOf T c) sets
+  pub relationsAre : relations ≡ T .relations
+  pub compared : NumbersAre (comparisonCount T) (names T c) named
+
+pub record FormReadable (conditions entries relations : List ℕ) (c : ℕ) (named sets : List ℕ) (start : ℕ) (x : Query) : Type 0 where
+  pub tables : Tables
+  pub number : ℕ
+  pub reads : FormReads tables number conditions entries relations c named sets start x

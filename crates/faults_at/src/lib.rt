@@ -1,0 +1,328 @@
+// What is worked out at one configuration c: the attributes that comparisons name, the sets of relations and query forms, the items at fault in
+// one form. Sets lie one after another, one word a form. Forms go bottom up, each from the sets of lower ones.
+use at_configuration::entry_holds;
+use at_configuration::is_present;
+use at_configuration::taken_at;
+use decoders::comparison_at;
+use decoders::entry_attribute;
+use decoders::project_length;
+use decoders::query_at;
+use decoders::relation_length;
+use report::Comparison;
+use report::Query;
+use sets::AttributeSet;
+ghost use mathlib.Core.Path.{_≡_};
+ghost use mathlib.Core.Bool.{cond};
+ghost use Prim.Native.Nat.{ℕ, _+_, _^_, _<_};
+ghost use lib.Bits.{bitAnd, bitOr, bitXor};
+ghost use lib.ListN.{length, getD};
+ghost use Rattle.sets.specs.Lists.{table};
+ghost use Rattle.report.specs.Tables.{Tables, relationCount, comparisonCount};
+ghost use Rattle.report.specs.Typing.{listed, present, namesOf, names, setRule, setOf, faultsOf, faults};
+ghost use Rattle.report.specs.Configuring.{written};
+ghost use Rattle.at_configuration.specs.AtConfiguration.{ListReads, ListReadable, PresentReads, PresentReadable, RelationReads};
+ghost use Rattle.at_configuration.specs.AtConfiguration.{ComparisonReads, ComparisonNumberable};
+ghost use Rattle.faults_at.specs.FaultsAt.{FaultsReads, FaultsReadable};
+ghost use Rattle.faults_at.specs.SetsAt.{presentSet, RelationReadable, SomeRelation, ComparisonAt, SomeComparison};
+ghost use Rattle.faults_at.specs.SetsAt.{QueryReads, QueryReadable, SetsFilled, QueryAt, SomeQuery, FormReads, FormReadable};
+
+// The attributes of those entries that hold at c, of the `count` entries from `start` on.
+fn listed_at(
+    entries: &[u16],
+    conditions: &[u64],
+    c: usize,
+    start: usize,
+    count: usize,
+) -> AttributeSet
+    requires { ⌜ ListReadable (now conditions) (now entries) c start count ⌝ }
+    ensures { λ s.
+        ⌜ ((T : Tables) (offset : ℕ) → ListReads T offset (now (conditions .entry)) (now (entries .entry)) c start count
+        → s .bits ≡ listed T c (offset + start) count) ⌝ }
+{
+    let mut listed = AttributeSet::empty();
+    let mut i = 0;
+    while i < count {
+        let a = entry_attribute(entries, start + i);
+        let holds = entry_holds(entries, conditions, c, start, i);
+        listed = listed.with_if(a, holds);
+        i += 1;
+    }
+    listed
+}
+
+// The set of relation r, whose list starts at `start`: none where it is absent.
+fn relation_set(
+    entries: &[u16],
+    relations: &[u16],
+    conditions: &[u64],
+    c: usize,
+    r: usize,
+    start: usize,
+) -> AttributeSet
+    requires { ⌜ SomeRelation (now conditions) (now entries) (now relations) c r start ⌝ }
+    ensures { λ s.
+        ⌜ ((T : Tables) → RelationReads T (now (conditions .entry)) (now (entries .entry)) (now (relations .entry)) c
+        → s .bits ≡ presentSet T c r) ⌝ }
+{
+    if is_present(relations, conditions, c, r) {
+        let count = relation_length(relations, r);
+        return listed_at(entries, conditions, c, start, count);
+    }
+    AttributeSet::empty()
+}
+
+// Fills `relation_sets` with the sets of all relations.
+fn fill_relation_sets(
+    entries: &[u16],
+    relations: &[u16],
+    conditions: &[u64],
+    c: usize,
+    relation_sets: &mut [u64],
+)
+    requires { ⌜ RelationReadable (now conditions) (now entries) (now relations) c (now «relation_sets») ⌝ }
+    ensures { λ _.
+        ⌜ ((T : Tables) → RelationReads T (now (conditions .entry)) (now (entries .entry)) (now (relations .entry)) c
+        → now («relation_sets» .exit) ≡ written (table (relationCount T) (presentSet T c)) (now («relation_sets» .entry))) ⌝ }
+{
+    let count = relations.len() / 2;
+    let mut start = 0;
+    let mut r = 0;
+    while r < count {
+        let s = relation_set(entries, relations, conditions, c, r, start);
+        relation_sets[r] = s.bits;
+        start += relation_length(relations, r);
+        r += 1;
+    }
+}
+
+// Set k of the sets.
+fn set_in(sets: &[u64], k: usize) -> AttributeSet
+    requires { ⌜ k < length (now sets) ⌝ }
+    ensures { λ s. ⌜ s .bits ≡ getD (now (sets .entry)) k 0 ⌝ }
+{
+    AttributeSet { bits: sets[k] }
+}
+
+// The union of sets a and b.
+fn union_in(sets: &[u64], a: usize, b: usize) -> AttributeSet
+    requires { ⌜ (a < length (now sets)) × (b < length (now sets)) ⌝ }
+    ensures { λ s. ⌜ s .bits ≡ bitOr (getD (now (sets .entry)) a 0) (getD (now (sets .entry)) b 0) ⌝ }
+{
+    AttributeSet {
+        bits: sets[a] | sets[b],
+    }
+}
+
+// The attributes that both sets a and b have.
+fn common_in(sets: &[u64], a: usize, b: usize) -> AttributeSet
+    requires { ⌜ (a < length (now sets)) × (b < length (now sets)) ⌝ }
+    ensures { λ s. ⌜ s .bits ≡ bitAnd (getD (now (sets .entry)) a 0) (getD (now (sets .entry)) b 0) ⌝ }
+{
+    AttributeSet {
+        bits: sets[a] & sets[b],
+    }
+}
+
+// The attributes that set a or set b has, and not both.
+fn unequal_in(sets: &[u64], a: usize, b: usize) -> AttributeSet
+    requires { ⌜ (a < length (now sets)) × (b < length (now sets)) ⌝ }
+    ensures { λ s. ⌜ s .bits ≡ bitXor (getD (now (sets .entry)) a 0) (getD (now (sets .entry)) b 0) ⌝ }
+{
+    AttributeSet {
+        bits: sets[a] ^ sets[b],
+    }
+}
+
+// The attributes that a comparison names at c, from those that lower ones name.
+fn named_at(x: Comparison, conditions: &[u64], c: usize, named: &[u64]) -> AttributeSet
+    requires { ⌜ SomeComparison (now conditions) c (now named) x ⌝ }
+    ensures { λ s.
+        ⌜ ((T : Tables) (f : ℕ) → ComparisonAt T f (now (conditions .entry)) c (now (named .entry)) x
+        → s .bits ≡ namesOf T c (names T c) x) ⌝ }
+{
+    match x {
+        Comparison::Malformed => AttributeSet::empty(),
+        Comparison::Never => AttributeSet::empty(),
+        Comparison::Always => AttributeSet::empty(),
+        Comparison::Constant(_, a, _) => AttributeSet::single(a),
+        Comparison::Attribute(_, a, b) => AttributeSet::single(a).with(b),
+        Comparison::Not(a) => set_in(named, a),
+        Comparison::And(a, b) => union_in(named, a, b),
+        Comparison::Or(a, b) => union_in(named, a, b),
+        Comparison::Choice(e, a, b) => set_in(named, taken_at(conditions, c, e, a, b)),
+    }
+}
+
+// Fills `named` with the attributes that each comparison names at c.
+fn fill_named(comparisons: &[u16], conditions: &[u64], c: usize, named: &mut [u64])
+    requires { ⌜ ComparisonNumberable (now conditions) (now comparisons) c (now named) ⌝ }
+    ensures { λ _.
+        ⌜ ((T : Tables) → ComparisonReads T (now (conditions .entry)) (now (comparisons .entry)) c
+        → now (named .exit) ≡ written (table (comparisonCount T) (names T c)) (now (named .entry))) ⌝ }
+{
+    let count = comparisons.len() / 5;
+    let mut f = 0;
+    while f < count {
+        let x = comparison_at(comparisons, f);
+        let s = named_at(x, conditions, c, &*named);
+        named[f] = s.bits;
+        f += 1;
+    }
+}
+
+// The set of a query form at c, a project's list starting at `start`; `sets` has those of lower forms.
+fn set_at(
+    x: Query,
+    entries: &[u16],
+    conditions: &[u64],
+    c: usize,
+    relation_sets: &[u64],
+    sets: &[u64],
+    start: usize,
+) -> AttributeSet
+    requires { ⌜ SomeQuery (now conditions) (now entries) (now «relation_sets») c (now sets) start x ⌝ }
+    ensures { λ s.
+        ⌜ ((T : Tables) (q : ℕ) → QueryAt T q (now (conditions .entry)) (now (entries .entry)) (now («relation_sets» .entry)) c (now (sets .entry))
+        start x
+        → s .bits ≡ setRule T c (setOf T c) q x) ⌝ }
+{
+    match x {
+        Query::Malformed => AttributeSet::empty(),
+        Query::Empty => AttributeSet::empty(),
+        Query::Relation(r) => set_in(relation_sets, r),
+        Query::Select(_, a) => set_in(sets, a),
+        Query::Project(count, a) => {
+            let listed = listed_at(entries, conditions, c, start, count);
+            listed.intersect(set_in(sets, a))
+        }
+        Query::Choice(e, a, b) => set_in(sets, taken_at(conditions, c, e, a, b)),
+        Query::Product(a, b) => union_in(sets, a, b),
+        Query::Union(a, _) => set_in(sets, a),
+        Query::Intersection(a, _) => set_in(sets, a),
+    }
+}
+
+// Fills `sets` with the sets of the query forms below q, and answers where the list of form q starts.
+fn fill_sets(
+    entries: &[u16],
+    queries: &[u16],
+    conditions: &[u64],
+    relation_sets: &[u64],
+    c: usize,
+    q: usize,
+    sets: &mut [u64],
+) -> usize
+    requires { ⌜ QueryReadable (now conditions) (now entries) (now queries) (now «relation_sets») c q (now sets) ⌝ }
+    ensures { λ start.
+        ⌜ ((T : Tables) → QueryReads T (now (conditions .entry)) (now (entries .entry)) (now (queries .entry)) (now («relation_sets» .entry)) c
+        → SetsFilled T c q (now (sets .entry)) (now (sets .exit)) start) ⌝ }
+{
+    let mut start = 0;
+    let mut p = 0;
+    while p < q {
+        let x = query_at(queries, p);
+        let s = set_at(x, entries, conditions, c, relation_sets, &*sets, start);
+        sets[p] = s.bits;
+        start += project_length(x);
+        p += 1;
+    }
+    start
+}
+
+// Relation r if it is absent at c, as a set of items.
+fn absent_item(relations: &[u16], conditions: &[u64], c: usize, r: usize) -> AttributeSet
+    requires { ⌜ PresentReadable (now conditions) (now relations) c (r + 1) ⌝ }
+    ensures { λ s.
+        ⌜ ((T : Tables) → PresentReads T (now (conditions .entry)) (now (relations .entry)) c → s .bits ≡ cond (present T c r) 0 (2 ^ r)) ⌝ }
+{
+    if is_present(relations, conditions, c, r) {
+        return AttributeSet::empty();
+    }
+    AttributeSet::single(r)
+}
+
+// The items at fault in a query form at c, a project's list starting at `start`; `named` has what each comparison names, `sets` the sets of
+// lower forms.
+fn faults_of(
+    x: Query,
+    entries: &[u16],
+    relations: &[u16],
+    conditions: &[u64],
+    c: usize,
+    named: &[u64],
+    sets: &[u64],
+    start: usize,
+) -> AttributeSet
+    requires { ⌜ FormReadable (now conditions) (now entries) (now relations) c (now named) (now sets) start x ⌝ }
+    ensures { λ s.
+        ⌜ ((T : Tables) (q : ℕ)
+        → FormReads T q (now (conditions .entry)) (now (entries .entry)) (now (relations .entry)) c (now (named .entry)) (now (sets .entry)) start x
+        → s .bits ≡ faultsOf T c q x) ⌝ }
+{
+    match x {
+        Query::Malformed => AttributeSet::empty(),
+        Query::Empty => AttributeSet::empty(),
+        Query::Relation(r) => absent_item(relations, conditions, c, r),
+        Query::Select(f, a) => set_in(named, f).minus(set_in(sets, a)),
+        Query::Project(count, a) => {
+            let listed = listed_at(entries, conditions, c, start, count);
+            listed.minus(set_in(sets, a))
+        }
+        Query::Choice(_, _, _) => AttributeSet::empty(),
+        Query::Product(a, b) => common_in(sets, a, b),
+        Query::Union(a, b) => unequal_in(sets, a, b),
+        Query::Intersection(a, b) => unequal_in(sets, a, b),
+    }
+}
+
+// The items at fault in form q at configuration c, of tables whose expression rows `conditions` starts with.
+pub fn faults_at(
+    relation_entries: &[u16],
+    project_entries: &[u16],
+    relations: &[u16],
+    comparisons: &[u16],
+    queries: &[u16],
+    conditions: &[u64],
+    q: usize,
+    c: usize,
+) -> AttributeSet
+    requires { ⌜ FaultsReadable (now conditions) (now «relation_entries») (now «project_entries») (now relations) (now comparisons) (now queries)
+        q c ⌝ }
+    ensures { λ s.
+        ⌜ ((T : Tables)
+        → FaultsReads T (now (conditions .entry)) (now («relation_entries» .entry)) (now («project_entries» .entry)) (now (relations .entry))
+        (now (comparisons .entry)) (now (queries .entry)) q c
+        → s .bits ≡ faults T c q) ⌝ }
+{
+    let mut named = [0; AttributeSet::MOST_COMPARISONS];
+    let mut relation_sets = [0; AttributeSet::MOST_RELATIONS];
+    let mut sets = [0; AttributeSet::MOST_QUERIES];
+    fill_named(comparisons, conditions, c, &mut named);
+    fill_relation_sets(
+        relation_entries,
+        relations,
+        conditions,
+        c,
+        &mut relation_sets,
+    );
+    let start = fill_sets(
+        project_entries,
+        queries,
+        conditions,
+        &relation_sets,
+        c,
+        q,
+        &mut sets,
+    );
+    let x = query_at(queries, q);
+    faults_of(
+        x,
+        project_entries,
+        relations,
+        conditions,
+        c,
+        &named,
+        &sets,
+        start,
+    )
+}

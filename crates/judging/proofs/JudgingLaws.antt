@@ -1,0 +1,231 @@
+-- How the parts of judging make its answer, what each part leaves for the next, and what a caller has of tables that pass.
+use Prim.Native.Nat.{ℕ, _+_, _-_, _*_, _/_, _≤_, max}
+use mathlib.Core.Path.{_≡_, refl, sym, ap, ap₂, _∙_}
+use mathlib.Core.Bool.{true}
+use mathlib.Core.List.{List}
+use native.Mathlib.Nat.{le-refl, le-max-left, le-max-right, max-le}
+use native.Mathlib.Omega.{arith}
+use lib.ListN.{length, take, drop, replicate}
+use Rattle.sets.specs.Rows.{rowOf, rowIn, rowIsEmpty, within, RowsAre}
+use Rattle.report.specs.Tables.{Tables, expressionCount, relationCount, queryCount, relationsEnd}
+use Rattle.report.specs.Expressions.{permitted}
+use Rattle.report.specs.Typing.{reached}
+use Rattle.report.specs.ColumnRows.{columnRows}
+use Rattle.report.specs.Configuring.{written}
+use Rattle.report.specs.Verdicts.{refusal, refuseIf, orElse, firstOf, after}
+use Rattle.report.specs.FormChecks.{formCheck}
+use Rattle.report.specs.Checks.{modelCheck, schemaCheck, typingCheck, modelAndSchemaCheck}
+use Rattle.report.specs.Calls.{Call, answer}
+use Rattle.report.specs.Formed.{Formed}
+use Rattle.report.specs.declared.Refusal.{Refusal}
+use Rattle.report.specs.declared.Verdict.{Verdict}
+use Rattle.report.proofs.Formed.{formed}
+use Rattle.report.proofs.FormedFacts.{counts}
+use Rattle.report.proofs.EntryParts.{words-from}
+use Rattle.report.proofs.VerdictLaws.{or-else-assoc, both-accepted, then-next, then-refused}
+use Rattle.report.proofs.FirstFault.{answer-run}
+use Rattle.conditions.specs.Conditions.{expressionRows, Conditioned, SchemaReads}
+use Rattle.conditions.proofs.FillLaws.{filled}
+use Rattle.conditions.proofs.PermittedLaws.{model-check, model-row}
+use Rattle.reach.specs.Reach.{reachRows, ReachReads}
+use Rattle.reach.proofs.ReachRows.{reach-rows}
+use Rattle.forms.proofs.Chain.{stops, goes-on}
+use Rattle.fault_rows.specs.FaultRows.{Items}
+use Rattle.typing.specs.Typed.{TypingReads, Checked}
+use Rattle.judging.specs.Judging.{meaningCheck, reportCheck, earlyCheck, JudgeReads, JudgeReadable, Judged, RowsLent, TablesJudged, Typed}
+
+-- ---- the answer of any call
+
+-- its parts, in the order in which they run
+pub answer-parts : (T : Tables) (call : Call)
+    → answer T call ≡ orElse (formCheck T) (orElse (firstOf (call .beforeModel T)) (orElse (meaningCheck T) (firstOf (call .afterTyping T))))
+answer-parts T call = answer-run T call ∙ simp or-else-assoc
+
+-- ---- 12 to 14
+
+module _ {T : Tables} {conditions permits relationEntries relations : List ℕ} (R : SchemaReads T conditions permits relationEntries relations)
+    {v : Verdict} (model : v ≡ refuseIf (rowIsEmpty 16 permits) (refusal 12 0 0 0)) where
+  own : v ≡ modelCheck T
+  own = model ∙ model-check (R .formed) (R .permitting)
+
+  pub model-refuses : {r : Refusal} → v ≡ Verdict.Refused r → v ≡ modelAndSchemaCheck T
+  model-refuses f = stops (schemaCheck T) own f
+
+  pub schema-answers : v ≡ Verdict.Accepted → {w : Verdict} → w ≡ schemaCheck T → w ≡ modelAndSchemaCheck T
+  schema-answers f e = goes-on own f e
+
+-- ---- what the parts read
+
+-- no item is over the larger of the two numbers
+enough : {T : Tables} → Formed T → {m relations items : ℕ} → m ≡ T .attributes → relations ≡ relationCount T → items ≡ max m relations → Items T items
+enough {T} F e f g =
+    rw (g, e, f)
+    record {
+      attributes = le-max-left (T .attributes) (relationCount T);
+      relations = le-max-right (T .attributes) (relationCount T);
+      most = max-le (F .narrow) (let s = F .sized2 .fits in omega arith);
+    }
+
+module _ {T : Tables} {n m model : ℕ} {conditions relationEntries projectEntries relations comparisons queries : List ℕ}
+    (R : JudgeReads T n m model conditions relationEntries projectEntries relations comparisons queries) where
+  -- the expression rows have that of the model
+  pub model-room : model * 16 + 16 ≤ length conditions
+  model-room = let m = R .filled .room in let i = R .formed .modelIn in let e = R .number in omega arith
+
+  pub few-features : n ≤ 10
+  few-features = let f = R .formed .few in let e = R .features in omega arith
+
+  module _ {permits : List ℕ} (load : permits ≡ rowIn 16 conditions model) where
+    permitting : permits ≡ rowOf 16 (permitted T)
+    permitting = load ∙ ap (rowIn 16 conditions) (R .number) ∙ model-row (R .formed) (R .filled)
+
+    pub schema-reads : SchemaReads T conditions permits relationEntries relations
+    schema-reads = record {
+      formed = R .formed;
+      filled = R .filled;
+      permitting = permitting;
+      entriesAre = R .relationEntriesAre;
+      relationsAre = R .relationsAre;
+    }
+
+    pub reach-reads : ReachReads T queries conditions permits
+    reach-reads = record { formed = R .formed; filled = R .filled; queriesAre = R .queriesAre; permitting = permitting }
+
+    pub typing-reads : {words : ℕ} {reach full : List ℕ} {items : ℕ} → queryCount T * 16 ≤ words → reach ≡ reachRows T words
+        → full ≡ rowOf 16 (within n (λ c. true)) → items ≡ max m (length relations / 2)
+        → TypingReads T conditions full permits reach relationEntries projectEntries relations comparisons queries items
+    typing-reads room reaching whole most = record {
+      reads = record {
+        reads = record {
+          formed = R .formed;
+          filled = R .filled;
+          whole = whole ∙ ap (λ (k : ℕ). rowOf 16 (within k (λ c. true))) (R .features);
+          relationEntriesAre = R .relationEntriesAre;
+          projectEntriesAre = R .projectEntriesAre;
+          relationsAre = R .relationsAre;
+          comparisonsAre = R .comparisonsAre;
+          queriesAre = R .queriesAre;
+        };
+        permitting = permitting;
+        reaching = reach-rows T room reaching;
+      };
+      enough = enough (R .formed) (R .attributes) (ap (λ (t : List ℕ). length t / 2) (R .relationsAre)) most;
+    }
+
+-- there is room for the reach rows of all such tables
+pub reach-room : {T : Tables} {n m model : ℕ} {conditions relationEntries projectEntries relations comparisons queries reach columns : List ℕ}
+    → JudgeReadable n m model conditions relationEntries projectEntries relations comparisons queries reach columns
+    → JudgeReads T n m model conditions relationEntries projectEntries relations comparisons queries → queryCount T * 16 ≤ length reach
+reach-room A R = let l = A .forms in let e = ap length (sym (A .reads .queriesAre) ∙ R .queriesAre) in omega arith
+
+-- ---- 12 to 19
+
+module _ {T : Tables} {v : Verdict} (early : v ≡ modelAndSchemaCheck T) (lentReach lentColumns : List ℕ) where
+  -- 12 to 14 refuse
+  pub early-refuses : {r : Refusal} → v ≡ Verdict.Refused r → Judged T v lentReach lentColumns lentReach lentColumns
+  early-refuses f = record {
+    answers = stops (typingCheck T) early f;
+    reaching = ap (λ (x : Verdict). after x (reachRows T (length lentReach)) lentReach) (sym f ∙ early);
+    shows = ap (λ (x : Verdict). after x (columnRows T) lentColumns) (sym f ∙ early);
+  }
+
+  -- 15 to 19 answer
+  pub typing-answers : v ≡ Verdict.Accepted → {w : Verdict} {reach columns : List ℕ} → reach ≡ reachRows T (length lentReach) → Checked T w columns
+      → Judged T w lentReach lentColumns reach columns
+  typing-answers f reaching C = record {
+    answers = goes-on early f (C .answers);
+    reaching = reaching ∙ ap (λ (x : Verdict). after x (reachRows T (length lentReach)) lentReach) (sym f ∙ early);
+    shows = C .shows ∙ ap (λ (x : Verdict). after x (columnRows T) lentColumns) (sym f ∙ early);
+  }
+
+-- ---- whole tables
+
+module _ {T : Tables} (F : Formed T) where
+  pub fill-room : (conditions : List ℕ) → 4096 ≤ length conditions → expressionCount T * 16 ≤ length conditions
+  fill-room conditions h = let s = counts F .most0 in omega arith
+
+  module _ {split : ℕ} (is : split ≡ relationsEnd T) where
+    -- the tables, with the expression rows and table 1 in its parts
+    pub tables-read : {conditions : List ℕ} → Conditioned T conditions
+        → JudgeReads T (T .features) (T .attributes) (T .model) conditions (take (split * 2) (T .entries))
+        (take (length (T .entries) - split * 2) (drop (split * 2) (T .entries))) (T .relations) (T .comparisons) (T .queries)
+    tables-read C = record {
+      formed = F;
+      features = refl;
+      attributes = refl;
+      number = refl;
+      filled = C;
+      relationEntriesAre = ap (λ (k : ℕ). take (k * 2) (T .entries)) is;
+      projectEntriesAre = words-from (T .entries) (split * 2) ∙ ap (λ (k : ℕ). drop (k * 2) (T .entries)) is;
+      relationsAre = refl;
+      comparisonsAre = refl;
+      queriesAre = refl;
+    }
+
+module _ {T : Tables} {v : Verdict} (forms : v ≡ formCheck T) {lentConditions lentReach lentColumns : List ℕ} where
+  -- a form check refuses
+  pub forms-refuse : {r : Refusal} → v ≡ Verdict.Refused r → Typed T v lentConditions lentReach lentColumns lentConditions lentReach lentColumns
+  forms-refuse {r} f = record {
+    answers = stops (meaningCheck T) forms f;
+    fills = ap (λ (x : Verdict). after x (written (expressionRows (T .features) (T .expressions)) lentConditions) lentConditions) refused;
+    reaching = ap (λ (x : Verdict). after x (reachRows T (length lentReach)) lentReach) early;
+    shows = ap (λ (x : Verdict). after x (columnRows T) lentColumns) early;
+  }
+    where
+      refused : Verdict.Refused r ≡ formCheck T
+      refused = sym f ∙ forms
+
+      early : Verdict.Refused r ≡ earlyCheck T
+      early = sym (then-refused (modelAndSchemaCheck T) (sym refused))
+
+  -- the rest is judged
+  pub judging-answers : v ≡ Verdict.Accepted → {w : Verdict} {conditions reach columns : List ℕ}
+      → TablesJudged T w lentConditions lentReach lentColumns conditions reach columns
+      → Typed T w lentConditions lentReach lentColumns conditions reach columns
+  judging-answers f J = record {
+    answers = goes-on forms f (J .judged .answers);
+    fills = J .fills ∙ ap (λ (x : Verdict). after x (written (expressionRows (T .features) (T .expressions)) lentConditions) lentConditions) passed;
+    reaching = J .judged .reaching ∙ ap (λ (x : Verdict). after x (reachRows T (length lentReach)) lentReach) early;
+    shows = J .judged .shows ∙ ap (λ (x : Verdict). after x (columnRows T) lentColumns) early;
+  }
+    where
+      passed : Verdict.Accepted ≡ formCheck T
+      passed = sym f ∙ forms
+
+      early : modelAndSchemaCheck T ≡ earlyCheck T
+      early = sym (then-next (sym passed))
+
+-- ---- for the callers
+
+-- what a caller has of tables that pass: their rows
+pub record Rows (T : Tables) (conditions reach columns : List ℕ) : Type 0 where
+  pub formed : Formed T
+  pub filled : Conditioned T conditions
+  pub reaching : RowsAre 16 (queryCount T) (λ q. rowOf 16 (λ c. reached T c q)) reach
+  pub shows : columns ≡ columnRows T
+
+typed-rows : {T : Tables} {v : Verdict} {lentConditions lentReach lentColumns conditions reach columns : List ℕ}
+    → RowsLent lentConditions lentReach lentColumns → Typed T v lentConditions lentReach lentColumns conditions reach columns
+    → v ≡ Verdict.Accepted → Rows T conditions reach columns
+typed-rows {T} {v} {lentConditions} {lentReach} {lentColumns} L J e = record {
+  formed = F;
+  filled = filled (T .features) (T .expressions) lentConditions (let s = counts F .most0 in let l = L .expressions in omega arith)
+      (J .fills ∙ ap (λ (x : Verdict). after x (written (expressionRows (T .features) (T .expressions)) lentConditions) lentConditions) (passed .0));
+  reaching = reach-rows T (let s = counts F .most4 in let l = L .forms in omega arith)
+      (J .reaching ∙ ap (λ (x : Verdict). after x (reachRows T (length lentReach)) lentReach) early);
+  shows = J .shows ∙ ap (λ (x : Verdict). after x (columnRows T) lentColumns) early;
+}
+  where
+    passed : (formCheck T ≡ Verdict.Accepted) × (meaningCheck T ≡ Verdict.Accepted)
+    passed = both-accepted (formCheck T) (meaningCheck T) (sym (J .answers) ∙ e)
+
+    F : Formed T
+    F = formed T (passed .0)
+
+    early : earlyCheck T ≡ Verdict.Accepted
+    early = then-next (passed .0) ∙ both-accepted (modelAndSchemaCheck T) (typingCheck T) (passed .1) .0
+
+-- with rows of the call's own, which are all 0 and have room for every table
+pub own-rows : {T : Tables} {v : Verdict} {conditions reach columns : List ℕ}
+    → Typed T v (replicate 4096 0) (replicate 4096 0) (replicate 1024 0) conditions reach columns → v ≡ Verdict.Accepted → Rows T conditions reach columns
+own-rows = typed-rows (record { expressions = le-refl 4096; forms = le-refl 4096; attributes = refl })

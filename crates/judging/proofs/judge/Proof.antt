@@ -1,0 +1,78 @@
+use borrow.Author.Needs.{needs}
+use Prim.Native.Nat.{ℕ}
+use mathlib.Core.Path.{ap, _∙_}
+use lib.ListN.{replicate}
+use Rattle.judging.proofs.JudgingLaws.{model-room, few-features, schema-reads, reach-reads, typing-reads, reach-room, early-refuses, typing-answers}
+use Rattle.judging.proofs.judge.Statement.{statement}
+use Rattle.judging.proofs.judge.Tie as tie
+
+-- places of the code that the needs look back to
+abbrev start : tie.After-load → tie.Start
+start l = l .before .before .before .before .before .before .before .before .before
+
+abbrev told : tie.After-fill-reach → tie.After-enum-told2
+told f = f .before .before
+
+abbrev fill-reach : tie.After-full → tie.After-fill-reach
+fill-reach u = u .before .before .before .before .before .before .before
+
+check-model-requires : tie.Need-check-model-requires
+check-model-requires c κs = let p = start c .pre in record { tables = p .tables; reads = schema-reads (p .reads) (c .load .ensures) }
+
+returns : tie.Need-returns
+returns c =
+    let m = c .before .before in
+    λ T R. early-refuses (m .check-model .ensures T (schema-reads R (m .before .load .ensures))) _ _ (c .enum-told .given .1)
+
+fill-reach-requires : tie.Need-fill-reach-requires
+fill-reach-requires c κs =
+    let l = c .before .before .before .before in
+    let p = start l .pre in
+    record { tables = p .tables; reads = reach-reads (p .reads) (l .load .ensures); room = p .forms }
+
+check-typing-requires : tie.Need-check-typing-requires
+check-typing-requires c κs =
+    let g = c .before .before in
+    let u = g .before in
+    let f = fill-reach u in
+    let l = told f .before .before .before in
+    let p = start l .pre in
+    record {
+      tables = p .tables;
+      reads = typing-reads (p .reads) (l .load .ensures) (p .forms) (f .fill-reach .ensures (p .tables) (reach-reads (p .reads) (l .load .ensures)))
+          (u .full .ensures) (g .larger .ensures);
+      clear = u .before .before .before .clear-words .ensures ∙ ap (λ (k : ℕ). replicate k 0) (p .attributes);
+    }
+
+returns-2 : tie.Need-returns-2
+returns-2 c =
+    let y = c .before .before in
+    let g = y .before .before .before in
+    let u = g .before in
+    let f = fill-reach u in
+    let t = told f in
+    let m = t .before .before in
+    let l = m .before in
+    λ T R.
+    let filled = f .fill-reach .ensures T (reach-reads R (l .load .ensures)) in
+    typing-answers (m .check-model .ensures T (schema-reads R (l .load .ensures))) _ _ (t .enum-told2 .given .1) filled
+    (y .check-typing .ensures T
+    (typing-reads R (l .load .ensures) (reach-room (start l .pre) R) filled (u .full .ensures) (g .larger .ensures)))
+
+pub judge-spec : {M : Type 1} → statement M
+judge-spec =
+    tie.close
+    (tie.spec
+    (λ c κs. model-room (c .before .before .before .before .before .before .before .before .pre .reads))
+    check-model-requires
+    (λ c. search needs)
+    returns
+    (λ c. search needs)
+    fill-reach-requires
+    (λ c κs. search needs)
+    (λ c κs. few-features (start (told (c .before .before .before .before .before .before) .before .before .before) .pre .reads))
+    (λ c κs. search needs)
+    check-typing-requires
+    (λ c. search needs)
+    (λ c. search needs)
+    returns-2)

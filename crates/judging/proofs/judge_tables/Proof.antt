@@ -1,0 +1,82 @@
+use borrow.Author.Needs.{needs}
+use Prim.Native.Nat.{_*_, _≤_}
+use native.Mathlib.Omega.{arith}
+use mathlib.Core.Path.{sym}
+use lib.ListN.{length}
+use lib.Seq.{length-take-le}
+use Rattle.report.specs.Tables.{Tables, tablesOf}
+use Rattle.report.proofs.FormedFacts.{counts}
+use Rattle.report.proofs.EntryParts.{split-in}
+use Rattle.conditions.specs.Conditions.{Conditioned}
+use Rattle.conditions.proofs.FillLaws.{fillable, filled}
+use Rattle.judging.proofs.JudgingLaws.{fill-room, tables-read}
+use Rattle.judging.proofs.judge_tables.Statement.{statement}
+use Rattle.judging.proofs.judge_tables.Tie as tie
+
+-- places of the code that the needs look back to
+abbrev start : tie.After-fill-rows → tie.Start
+start f = f .before .before .before .before .before .before .before .before .before .before
+
+abbrev fill-rows : tie.After-relations-end → tie.After-fill-rows
+fill-rows e = e .before .before .before
+
+abbrev tables : tie.Start → Tables
+tables s =
+    let a = s .args in
+    tablesOf (a .n) (a .m) (a .model) (a .expressions .now) (a .entries .now) (a .relations .now) (a .comparisons .now) (a .queries .now)
+
+fill-rows-requires : tie.Need-fill-rows-requires
+fill-rows-requires c κs =
+    let s = c .before .before .before .before .before .before .before .before .before in
+    let lent = s .args .conditions .now in
+    fillable (s .pre .formed) lent (fill-room (s .pre .formed) lent (s .pre .rows .expressions))
+
+split : (e : tie.After-relations-end) → e .relations-end .result * 2 ≤ length (start (fill-rows e) .args .entries .now)
+split e = split-in (start (fill-rows e) .pre .formed) (e .relations-end .ensures)
+
+conditioned : (f : tie.After-fill-rows) → Conditioned (tables (start f)) (f .fill-rows .last .1 .1 .0)
+conditioned f =
+    let s = start f in
+    let lent = s .args .conditions .now in
+    filled (s .args .n) (s .args .expressions .now) lent (fill-room (s .pre .formed) lent (s .pre .rows .expressions)) (f .fill-rows .ensures)
+
+judge-requires : tie.Need-judge-requires
+judge-requires c κs =
+    let e = c .before .before .before .before .before in
+    let f = fill-rows e in
+    let s = start f in
+    record {
+      tables = tables s;
+      reads = tables-read (s .pre .formed) (e .relations-end .ensures) (conditioned f);
+      forms = let n = counts (s .pre .formed) .most4 in let l = s .pre .rows .forms in omega arith;
+      attributes = s .pre .rows .attributes;
+    }
+
+returns : tie.Need-returns
+returns c =
+    let j = c .before .before .before .before in
+    let e = j .before .before .before .before .before .before in
+    let f = fill-rows e in
+    let s = start f in
+    record {
+      fills = f .fill-rows .ensures;
+      judged = j .judge .ensures (tables s) (tables-read (s .pre .formed) (e .relations-end .ensures) (conditioned f));
+    }
+
+pub judge-tables-spec : {M : Type 1} → statement M
+judge-tables-spec =
+    tie.close
+    (tie.spec
+    fill-rows-requires
+    (λ c κs. let m = counts (start (c .before .before) .pre .formed) .most2 in omega arith)
+    (λ c. let l = split c in omega arith)
+    (λ c. let e = c .before .before in sym (length-take-le (e .relations-end .result * 2) _ (split e)))
+    (λ c. let l = split (c .before .before) in omega arith)
+    (λ c. split (c .before .before))
+    (λ c. split (c .before .before))
+    (λ c. search needs)
+    judge-requires
+    (λ c. search needs)
+    (λ c. search needs)
+    (λ c. search needs)
+    returns)

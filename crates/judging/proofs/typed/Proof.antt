@@ -1,0 +1,32 @@
+use borrow.Author.Needs.{needs}
+use mathlib.Core.Path.{sym, _∙_}
+use Rattle.report.proofs.Formed.{formed}
+use Rattle.judging.proofs.JudgingLaws.{forms-refuse, judging-answers}
+use Rattle.judging.proofs.typed.Statement.{statement}
+use Rattle.judging.proofs.typed.Tie as tie
+
+judge-tables-requires : tie.Need-judge-tables-requires
+judge-tables-requires c κs =
+    let t = c .before .before .before in
+    let f = t .before .before in
+    record { formed = formed _ (sym (f .check-forms .ensures) ∙ t .enum-told2 .given .1); rows = f .before .before .before .before .before .before .before .before .before .pre }
+
+returns-2 : tie.Need-returns-2
+returns-2 c =
+    let j = c .before .before .before .before .before .before in
+    let t = j .before .before .before .before in
+    judging-answers (t .before .before .check-forms .ensures) (t .enum-told2 .given .1) (j .judge-tables .ensures)
+
+pub typed-spec : {M : Type 1} → statement M
+typed-spec =
+    tie.close
+    (tie.spec
+    (λ c κs. search needs)
+    (λ c. search needs)
+    (λ c. forms-refuse (c .before .before .check-forms .ensures) (c .enum-told .given .1))
+    (λ c. search needs)
+    judge-tables-requires
+    (λ c. search needs)
+    (λ c. search needs)
+    (λ c. search needs)
+    returns-2)

@@ -1,0 +1,83 @@
+-- What every call runs before its own checks: the answers, and what the rows lent to it hold afterwards.
+use Prim.Native.Nat.{ℕ, _*_, _≤_}
+use mathlib.Core.Path.{_≡_}
+use mathlib.Core.List.{List}
+use lib.ListN.{length}
+use Rattle.report.specs.Tables.{Tables, queryCount, entriesOfRelations, entriesOfProjects}
+use Rattle.report.specs.ColumnRows.{columnRows}
+use Rattle.report.specs.Configuring.{written}
+use Rattle.report.specs.Verdicts.{orElse, after}
+use Rattle.report.specs.FormChecks.{formCheck}
+use Rattle.report.specs.Checks.{modelAndSchemaCheck, typingCheck}
+use Rattle.report.specs.Formed.{Formed}
+use Rattle.report.specs.declared.Verdict.{Verdict}
+use Rattle.conditions.specs.Conditions.{expressionRows, Conditioned}
+use Rattle.reach.specs.Reach.{reachRows}
+
+module _ (T : Tables) where
+  -- 12 to 19
+  abbrev pub meaningCheck : Verdict
+  meaningCheck = orElse (modelAndSchemaCheck T) (typingCheck T)
+
+  -- 1 to 10 and 12 to 19: what configuring runs before its own checks
+  abbrev pub reportCheck : Verdict
+  reportCheck = orElse (formCheck T) meaningCheck
+
+  -- 1 to 10 and 12 to 14: what it runs before typing
+  abbrev pub earlyCheck : Verdict
+  earlyCheck = orElse (formCheck T) (modelAndSchemaCheck T)
+
+-- ---- 12 to 19
+
+-- the head, the expression rows, both parts of table 1 and tables 2 to 4 of tables that have passed the form checks
+pub record JudgeReads (T : Tables) (n m model : ℕ) (conditions relationEntries projectEntries relations comparisons queries : List ℕ) : Type 0 where
+  pub formed : Formed T
+  pub features : n ≡ T .features
+  pub attributes : m ≡ T .attributes
+  pub number : model ≡ T .model
+  pub filled : Conditioned T conditions
+  pub relationEntriesAre : relationEntries ≡ entriesOfRelations T
+  pub projectEntriesAre : projectEntries ≡ entriesOfProjects T
+  pub relationsAre : relations ≡ T .relations
+  pub comparisonsAre : comparisons ≡ T .comparisons
+  pub queriesAre : queries ≡ T .queries
+
+-- there are such tables, and room for the reach rows and the column rows
+pub record JudgeReadable (n m model : ℕ) (conditions relationEntries projectEntries relations comparisons queries reach columns : List ℕ)
+    : Type 0 where
+  pub tables : Tables
+  pub reads : JudgeReads tables n m model conditions relationEntries projectEntries relations comparisons queries
+  pub forms : queryCount tables * 16 ≤ length reach
+  pub attributes : length columns ≡ 1024
+
+-- the answer, and what the rows lent hold afterwards: the reach rows and the column rows, whatever typing answers, and what they held where 12 to
+-- 14 refuse
+pub record Judged (T : Tables) (answer : Verdict) (lentReach lentColumns reach columns : List ℕ) : Type 0 where
+  pub answers : answer ≡ meaningCheck T
+  pub reaching : reach ≡ after (modelAndSchemaCheck T) (reachRows T (length lentReach)) lentReach
+  pub shows : columns ≡ after (modelAndSchemaCheck T) (columnRows T) lentColumns
+
+-- ---- whole tables
+
+-- rows enough for all tables that pass the form checks
+pub record RowsLent (conditions reach columns : List ℕ) : Type 0 where
+  pub expressions : 4096 ≤ length conditions
+  pub forms : 4096 ≤ length reach
+  pub attributes : length columns ≡ 1024
+
+-- tables that have passed the form checks, and such rows
+pub record TablesJudgeable (T : Tables) (conditions reach columns : List ℕ) : Type 0 where
+  pub formed : Formed T
+  pub rows : RowsLent conditions reach columns
+
+-- the same, with the expression rows
+pub record TablesJudged (T : Tables) (answer : Verdict) (lentConditions lentReach lentColumns conditions reach columns : List ℕ) : Type 0 where
+  pub fills : conditions ≡ written (expressionRows (T .features) (T .expressions)) lentConditions
+  pub judged : Judged T answer lentReach lentColumns reach columns
+
+-- the same of any tables: where the form checks refuse, or 12 to 14, the rows that are not filled are as they were
+pub record Typed (T : Tables) (answer : Verdict) (lentConditions lentReach lentColumns conditions reach columns : List ℕ) : Type 0 where
+  pub answers : answer ≡ reportCheck T
+  pub fills : conditions ≡ after (formCheck T) (written (expressionRows (T .features) (T .expressions)) lentConditions) lentConditions
+  pub reaching : reach ≡ after (earlyCheck T) (reachRows T (length lentReach)) lentReach
+  pub shows : columns ≡ after (earlyCheck T) (columnRows T) lentColumns

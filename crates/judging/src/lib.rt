@@ -1,0 +1,187 @@
+// What every call runs before its own: 1 to 10, the expression rows, 12 to 19, the reach rows and the column rows, into rows that the caller lends.
+use conditions::check_permitted;
+use conditions::check_schema;
+use conditions::fill_rows;
+use forms::check_forms;
+use forms::relations_end;
+use reach::clear_words;
+use reach::fill_reach;
+use report::Verdict;
+use sets::AttributeSet;
+use sets::Row;
+use typing::check_typing;
+ghost use mathlib.Core.Path.{_≡_};
+ghost use Prim.Native.Nat.{max};
+ghost use Rattle.report.specs.Tables.{Tables, tablesOf};
+ghost use Rattle.report.specs.Checks.{modelAndSchemaCheck};
+ghost use Rattle.conditions.specs.Conditions.{SchemaReads, SchemaReadable};
+ghost use Rattle.judging.specs.Judging.{JudgeReads, JudgeReadable, Judged, RowsLent, TablesJudgeable, TablesJudged, Typed};
+
+// The words of the expression rows, of the reach rows and of the column rows, at most.
+pub const EXPRESSION_WORDS: usize = AttributeSet::MOST_EXPRESSIONS * Row::WORDS;
+
+pub const REACH_WORDS: usize = AttributeSet::MOST_QUERIES * Row::WORDS;
+
+pub const COLUMN_WORDS: usize = AttributeSet::MOST_ATTRIBUTES * Row::WORDS;
+
+// The larger of two numbers.
+fn larger(x: usize, y: usize) -> usize
+    ensures { λ r. ⌜ r ≡ max x y ⌝ }
+{
+    if x < y {
+        return y;
+    }
+    x
+}
+
+// Checks 12 to 14, where these configurations are permitted.
+fn check_model(
+    permitted: Row,
+    conditions: &[u64],
+    relation_entries: &[u16],
+    relations: &[u16],
+) -> Verdict
+    requires { ⌜ SchemaReadable (now conditions) (permitted .words) (now «relation_entries») (now relations) ⌝ }
+    ensures { λ v.
+        ⌜ ((T : Tables) → SchemaReads T (now (conditions .entry)) (permitted .words) (now («relation_entries» .entry)) (now (relations .entry))
+        → v ≡ modelAndSchemaCheck T) ⌝ }
+{
+    let model_verdict = check_permitted(permitted);
+    if let Verdict::Refused(_) = model_verdict {
+        return model_verdict;
+    }
+    check_schema(conditions, permitted, relation_entries, relations)
+}
+
+// Checks 12 to 19 of tables that have passed 1 to 10, whose expression rows `conditions` starts with. Fills `reach` with the reach rows and
+// `columns` with the column rows, unless 12 to 14 refuse.
+pub fn judge(
+    n: usize,
+    m: usize,
+    model: usize,
+    conditions: &[u64],
+    relation_entries: &[u16],
+    project_entries: &[u16],
+    relations: &[u16],
+    comparisons: &[u16],
+    queries: &[u16],
+    reach: &mut [u64],
+    columns: &mut [u64],
+) -> Verdict
+    requires { ⌜ JudgeReadable n m model (now conditions) (now «relation_entries») (now «project_entries») (now relations) (now comparisons)
+        (now queries) (now reach) (now columns) ⌝ }
+    ensures { λ v.
+        ⌜ ((T : Tables)
+        → JudgeReads T n m model (now (conditions .entry)) (now («relation_entries» .entry)) (now («project_entries» .entry))
+        (now (relations .entry)) (now (comparisons .entry)) (now (queries .entry))
+        → Judged T v (now (reach .entry)) (now (columns .entry)) (now (reach .exit)) (now (columns .exit))) ⌝ }
+{
+    let permitted = Row::load(conditions, model);
+    let schema = check_model(permitted, conditions, relation_entries, relations);
+    if let Verdict::Refused(_) = schema {
+        return schema;
+    }
+    fill_reach(queries, conditions, permitted, &mut *reach);
+    clear_words(&mut *columns);
+    check_typing(
+        relation_entries,
+        project_entries,
+        relations,
+        comparisons,
+        queries,
+        conditions,
+        Row::full(n),
+        permitted,
+        larger(m, relations.len() / 2),
+        &*reach,
+        columns,
+    )
+}
+
+// The same of whole tables: fills `conditions` with the expression rows, splits table 1 where the lists of the relations end, and judges.
+pub fn judge_tables(
+    n: usize,
+    m: usize,
+    model: usize,
+    expressions: &[u16],
+    entries: &[u16],
+    relations: &[u16],
+    comparisons: &[u16],
+    queries: &[u16],
+    conditions: &mut [u64],
+    reach: &mut [u64],
+    columns: &mut [u64],
+) -> Verdict
+    requires { ⌜ TablesJudgeable (tablesOf n m model (now expressions) (now entries) (now relations) (now comparisons) (now queries))
+        (now conditions) (now reach) (now columns) ⌝ }
+    ensures { λ v.
+        ⌜ TablesJudged
+        (tablesOf n m model (now (expressions .entry)) (now (entries .entry)) (now (relations .entry)) (now (comparisons .entry))
+        (now (queries .entry)))
+        v (now (conditions .entry)) (now (reach .entry)) (now (columns .entry)) (now (conditions .exit)) (now (reach .exit)) (now (columns .exit)) ⌝ }
+{
+    fill_rows(n, expressions, &mut *conditions);
+    let split = relations_end(relations) * 2;
+    judge(
+        n,
+        m,
+        model,
+        &*conditions,
+        &entries[..split],
+        &entries[split..],
+        relations,
+        comparisons,
+        queries,
+        reach,
+        columns,
+    )
+}
+
+// Checks 1 to 10 and 12 to 19, with the rows that they fill.
+pub fn typed(
+    n: usize,
+    m: usize,
+    model: usize,
+    expressions: &[u16],
+    entries: &[u16],
+    relations: &[u16],
+    comparisons: &[u16],
+    queries: &[u16],
+    conditions: &mut [u64],
+    reach: &mut [u64],
+    columns: &mut [u64],
+) -> Verdict
+    requires { ⌜ RowsLent (now conditions) (now reach) (now columns) ⌝ }
+    ensures { λ v.
+        ⌜ Typed
+        (tablesOf n m model (now (expressions .entry)) (now (entries .entry)) (now (relations .entry)) (now (comparisons .entry))
+        (now (queries .entry)))
+        v (now (conditions .entry)) (now (reach .entry)) (now (columns .entry)) (now (conditions .exit)) (now (reach .exit)) (now (columns .exit)) ⌝ }
+{
+    let form = check_forms(
+        n,
+        m,
+        model,
+        expressions,
+        entries,
+        relations,
+        comparisons,
+        queries,
+    );
+    if let Verdict::Refused(_) = form {
+        return form;
+    }
+    judge_tables(
+        n,
+        m,
+        model,
+        expressions,
+        entries,
+        relations,
+        comparisons,
+        queries,
+        conditions,
+        reach,
+        columns,
+    )
+}
