@@ -7,8 +7,8 @@ use std::thread;
 use gelvomas::{check, comparison, configure, expression, query, Counts, Lent, Refusal, Tables};
 use gelvomas::{MAX_ATTRIBUTES, MAX_COMPARISONS, MAX_EXPRESSIONS, MAX_FEATURES, MAX_QUERIES, ROWS};
 
-/// What is stated, in bytes. Measured by the bytes changed below the call, a check
-/// takes 361 KiB of it and configuring 418 KiB; the thread needs some KiB itself.
+/// What is stated, in bytes. The least that was enough: 366 KiB for a check, 368
+/// KiB for configuring, of which the thread needs some itself.
 const STACK_OF_CHECK: usize = 400 << 10;
 const STACK_OF_CONFIGURE: usize = 450 << 10;
 

@@ -1,3 +1,4 @@
 pub mod FillLaws
 pub mod PermittedLaws
 pub mod CheckLaws
+pub mod PreparedLaws

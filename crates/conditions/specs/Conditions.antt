@@ -5,7 +5,7 @@ use mathlib.Core.List.{List}
 use lib.ListN.{length}
 use Rattle.sets.specs.Lists.{concat}
 use Rattle.sets.specs.Rows.{rowOf, rowIn, within}
-use Rattle.report.specs.Tables.{Tables, entriesOfRelations}
+use Rattle.report.specs.Tables.{Tables, entriesOfRelations, entriesOfProjects}
 use Rattle.report.specs.Expressions.{holds, permitted}
 use Rattle.report.specs.FormChecks.{expressionsCheck}
 use Rattle.report.specs.Formed.{Formed}
@@ -33,6 +33,16 @@ pub record ExpressionsFilled (n : ℕ) (expressions rows : List ℕ) : Type 0 wh
 -- those of tables T
 abbrev pub Conditioned : Tables → List ℕ → Type 0
 Conditioned T = ExpressionsFilled (T .features) (T .expressions)
+
+-- tables that have passed the form checks, as all later steps read them: the expression rows in place of table 0, table 1 in its parts
+pub record Prepared (T : Tables) (conditions relationEntries projectEntries relations comparisons queries : List ℕ) : Type 0 where
+  pub formed : Formed T
+  pub filled : Conditioned T conditions
+  pub relationEntriesAre : relationEntries ≡ entriesOfRelations T
+  pub projectEntriesAre : projectEntries ≡ entriesOfProjects T
+  pub relationsAre : relations ≡ T .relations
+  pub comparisonsAre : comparisons ≡ T .comparisons
+  pub queriesAre : queries ≡ T .queries
 
 -- the expression rows, the permitted configurations, the relations' entries and table 2 of tables that have passed the form checks
 pub record SchemaReads (T : Tables) (rows permits entries relations : List ℕ) : Type 0 where

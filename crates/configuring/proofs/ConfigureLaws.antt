@@ -11,9 +11,9 @@ use lib.Dec.{ltb}
 use lib.Pow.{pow-mono}
 use lib.ListN.{length, take, drop}
 use lib.Seq.{take-at}
-use Rattle.sets.specs.Rows.{rowBit, rowOf, RowsAre}
+use Rattle.sets.specs.Rows.{rowBit, rowOf}
 use Rattle.sets.proofs.RowLaws.{rowBit-rowOf, within-out}
-use Rattle.report.specs.Tables.{Tables, tablesOf, queryCount}
+use Rattle.report.specs.Tables.{Tables, tablesOf}
 use Rattle.report.specs.Expressions.{holds, permitted}
 use Rattle.report.specs.Configuring.{configured, written}
 use Rattle.report.specs.Verdicts.{refusal, refuseIf, orElse, firstOf}

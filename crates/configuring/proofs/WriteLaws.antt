@@ -1,6 +1,6 @@
 -- The writing of configured tables: what each writer reads, that there is room, and that together they write the tables of `configured`.
 use Prim.Native.Nat.{ℕ, _+_, _-_, _*_, _/_, _≤_}
-use mathlib.Core.Path.{_≡_, refl, sym, ap, ap₂, _∙_}
+use mathlib.Core.Path.{_≡_, refl, sym, ap, _∙_}
 use mathlib.Core.Bool.{true}
 use mathlib.Core.List.{List, _++_}
 use native.Mathlib.Omega.{arith}
@@ -16,11 +16,13 @@ use Rattle.report.specs.Configuring.{newComparison, newQuery, configured, writt
 use Rattle.report.specs.Formed.{Formed}
 use Rattle.report.specs.declared.Verdict.{Verdict}
 use Rattle.report.proofs.FormedFacts.{counts}
-use Rattle.report.proofs.EntryParts.{words-from, split-in}
+use Rattle.report.proofs.EntryParts.{split-in}
 use Rattle.report.proofs.TypingLaws.{permitted-within}
 use Rattle.report.proofs.WrittenQueries.{entries-room, relations-room, comparisons-room, queries-room}
 use Rattle.conditions.proofs.PermittedLaws.{model-row}
+use Rattle.conditions.proofs.PreparedLaws.{prepare}
 use Rattle.at_configuration.specs.AtConfiguration.{RelationReads, ComparisonReads, ComparisonNumberable}
+use Rattle.at_configuration.proofs.PreparedLaws.{at-reads, relation-reads, comparison-reads}
 use Rattle.kept_lists.specs.Keeping.{relationLists, projectLists, relationForms, KeptRelationWritable, ProjectReads}
 use Rattle.kept_forms.specs.Numbering.{comparisonForms, queryForms, ComparisonFormReads, ComparisonFormWritable}
 use Rattle.kept_forms.specs.Numbering.{QueryReads, QueryNumberable, QueryFormReads, QueryFormWritable}
@@ -69,12 +71,12 @@ pub same-rooms : {T U : Tables} {conditions reach relationEntries projectEntries
 same-rooms {T} {U} S R H = record {
   entries =
       let t = parts-length T in let u = parts-length U in let h = H .entries in
-      let a = ap length (sym (S .relationEntriesAre) ∙ R .relationEntriesAre) in
-      let b = ap length (sym (S .projectEntriesAre) ∙ R .projectEntriesAre) in
+      let a = ap length (sym (S .prepared .relationEntriesAre) ∙ R .prepared .relationEntriesAre) in
+      let b = ap length (sym (S .prepared .projectEntriesAre) ∙ R .prepared .projectEntriesAre) in
       omega arith;
-  relations = let h = H .relations in rw (← R .relationsAre, S .relationsAre) h;
-  comparisons = let h = H .comparisons in rw (← R .comparisonsAre, S .comparisonsAre) h;
-  queries = let h = H .queries in rw (← R .queriesAre, S .queriesAre) h;
+  relations = let h = H .relations in rw (← R .prepared .relationsAre, S .prepared .relationsAre) h;
+  comparisons = let h = H .comparisons in rw (← R .prepared .comparisonsAre, S .prepared .comparisonsAre) h;
+  queries = let h = H .queries in rw (← R .prepared .queriesAre, S .prepared .queriesAre) h;
 }
 
 module _ {T : Tables} (F : Formed T) (c : ℕ) {newEntries newRelations newComparisons newQueries : List ℕ}
@@ -115,20 +117,22 @@ module _ {T : Tables} (F : Formed T) (c : ℕ) {newEntries newRelations newCompa
 
 module _ {T : Tables} {conditions reach relationEntries projectEntries relations comparisons queries : List ℕ} {c : ℕ}
     (R : KeptReads T conditions reach relationEntries projectEntries relations comparisons queries c) where
-  pub relation-reads : RelationReads T conditions relationEntries relations c
-  relation-reads = record { reads = R .reads; entriesAre = R .relationEntriesAre; relationsAre = R .relationsAre }
+  pub lists-read : RelationReads T conditions relationEntries relations c
+  lists-read = relation-reads (R .prepared) (R .inside)
 
   project-reads : ProjectReads T conditions reach projectEntries queries c
-  project-reads = record { reads = R .reads; reaching = R .reaching; entriesAre = R .projectEntriesAre; queriesAre = R .queriesAre }
+  project-reads =
+      let P = R .prepared in
+      record { reads = at-reads P (R .inside); reaching = R .reaching; entriesAre = P .projectEntriesAre; queriesAre = P .queriesAre }
 
   pub entries-reads : EntriesReads T conditions reach relationEntries projectEntries relations queries c
-  entries-reads = record { lists = relation-reads; projects = project-reads }
+  entries-reads = record { lists = lists-read; projects = project-reads }
 
-  pub comparison-reads : ComparisonReads T conditions comparisons c
-  comparison-reads = record { reads = R .reads; comparisonsAre = R .comparisonsAre }
+  pub comparisons-read : ComparisonReads T conditions comparisons c
+  comparisons-read = comparison-reads (R .prepared) (R .inside)
 
   pub query-reads : QueryReads T conditions reach queries c
-  query-reads = record { reads = R .reads; reaching = R .reaching; queriesAre = R .queriesAre }
+  query-reads = record { reads = at-reads (R .prepared) (R .inside); reaching = R .reaching; queriesAre = R .prepared .queriesAre }
 
   module _ {comparisonNumbers : List ℕ}
       (first-numbers : comparisonNumbers ≡ written (table (comparisonCount T) (newComparison T c)) (replicate 256 0)) where
@@ -136,14 +140,14 @@ module _ {T : Tables} {conditions reach relationEntries projectEntries relations
     compared = numbers-are (comparisonCount T) (newComparison T c) _ first-numbers
 
     pub comparison-form-reads : ComparisonFormReads T c comparisons comparisonNumbers
-    comparison-form-reads = record { formed = R .reads .formed; comparisonsAre = R .comparisonsAre; numbered = compared }
+    comparison-form-reads = record { formed = R .prepared .formed; comparisonsAre = R .prepared .comparisonsAre; numbered = compared }
 
     pub form-reads : {queryNumbers : List ℕ} → queryNumbers ≡ written (table (queryCount T) (newQuery T c)) (replicate 256 0)
         → QueryFormReads T conditions reach projectEntries relations queries c comparisonNumbers queryNumbers
     form-reads e = record {
       reads = query-reads;
-      entriesAre = R .projectEntriesAre;
-      relationsAre = R .relationsAre;
+      entriesAre = R .prepared .projectEntriesAre;
+      relationsAre = R .prepared .relationsAre;
       comparisonsNumbered = compared;
       queriesNumbered = numbers-are (queryCount T) (newQuery T c) _ e;
     }
@@ -155,26 +159,26 @@ module _ {conditions reach relationEntries projectEntries relations comparisons 
     (W : KeptWritable conditions reach relationEntries projectEntries relations comparisons queries c newEntries newRelations newComparisons newQueries)
   where
     formed : Formed (W .tables)
-    formed = W .reads .reads .formed
+    formed = W .reads .prepared .formed
 
     pub entries-writable : EntriesWritable conditions reach relationEntries projectEntries relations queries c newEntries
     entries-writable = record { tables = W .tables; reads = entries-reads (W .reads); room = entries-fit formed c (W .rooms) }
 
     pub relations-writable : KeptRelationWritable relationForms conditions relationEntries relations c newRelations 0
-    relations-writable = record { tables = W .tables; reads = relation-reads (W .reads); room = relations-fit formed c (W .rooms) }
+    relations-writable = record { tables = W .tables; reads = lists-read (W .reads); room = relations-fit formed c (W .rooms) }
 
     pub comparisons-numberable : {numbers : List ℕ} → 256 ≤ length numbers → ComparisonNumberable conditions comparisons c numbers
     comparisons-numberable h = record {
       tables = W .tables;
-      reads = comparison-reads (W .reads);
-      room = let m = counts formed .most3 in omega (arith, ap length (W .reads .comparisonsAre));
+      reads = comparisons-read (W .reads);
+      room = let m = counts formed .most3 in omega (arith, ap length (W .reads .prepared .comparisonsAre));
     }
 
     pub queries-numberable : {numbers : List ℕ} → 256 ≤ length numbers → QueryNumberable conditions reach queries c numbers
     queries-numberable h = record {
       tables = W .tables;
       reads = query-reads (W .reads);
-      room = let m = counts formed .most4 in omega (arith, ap length (W .reads .queriesAre));
+      room = let m = counts formed .most4 in omega (arith, ap length (W .reads .prepared .queriesAre));
     }
 
     module _ {comparisonNumbers : List ℕ}
@@ -225,11 +229,8 @@ module _ {T : Tables} {model : ℕ} {conditions reach entries relations comparis
         → KeptReads T conditions reach (take (split * 2) entries) (take (length entries - split * 2) (drop (split * 2) entries)) relations comparisons
         queries c
     kept-reads {c} p = record {
-      reads = record { formed = R .formed; filled = R .filled; inside = permitted-within T c p };
+      prepared = prepare (R .formed) (R .filled) split-is (R .source .entriesAre) (R .source .relationsAre) (R .source .comparisonsAre)
+          (R .source .queriesAre);
+      inside = permitted-within T c p;
       reaching = R .reaching;
-      relationEntriesAre = ap₂ (λ (k : ℕ) (l : List ℕ). take (k * 2) l) split-is (R .source .entriesAre);
-      projectEntriesAre = words-from entries (split * 2) ∙ ap₂ (λ (k : ℕ) (l : List ℕ). drop (k * 2) l) split-is (R .source .entriesAre);
-      relationsAre = R .source .relationsAre;
-      comparisonsAre = R .source .comparisonsAre;
-      queriesAre = R .source .queriesAre;
     }

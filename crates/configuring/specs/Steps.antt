@@ -1,19 +1,19 @@
 -- The parts of the call after typing.
-use Prim.Native.Nat.{ℕ, _≤_}
+use Prim.Native.Nat.{ℕ, _<_, _≤_}
 use mathlib.Core.Path.{_≡_}
 use mathlib.Core.List.{List, _++_}
 use lib.ListN.{length}
 use Rattle.sets.specs.Rows.{rowOf, RowsAre}
 use Rattle.sets.specs.Writing.{Room}
-use Rattle.report.specs.Tables.{Tables, queryCount, entriesOfRelations, entriesOfProjects}
-use Rattle.report.specs.Expressions.{permitted}
+use Rattle.report.specs.Tables.{Tables, queryCount}
+use Rattle.report.specs.Expressions.{configurations, permitted}
 use Rattle.report.specs.Typing.{reached}
 use Rattle.report.specs.Verdicts.{firstOf}
 use Rattle.report.specs.Calls.{permittedCondition, roomConditions}
 use Rattle.report.specs.Formed.{Formed}
 use Rattle.report.specs.declared.Verdict.{Verdict}
-use Rattle.conditions.specs.Conditions.{Conditioned}
-use Rattle.at_configuration.specs.AtConfiguration.{AtReads, RelationReads}
+use Rattle.conditions.specs.Conditions.{Conditioned, Prepared}
+use Rattle.at_configuration.specs.AtConfiguration.{RelationReads}
 use Rattle.kept_lists.specs.Keeping.{relationLists, projectLists, ProjectReads}
 use Rattle.configuring.specs.Promises.{Rooms}
 
@@ -57,15 +57,11 @@ pub record EntriesWritable (conditions reach relationEntries projectEntries rela
   pub reads : EntriesReads tables conditions reach relationEntries projectEntries relations queries c
   pub room : Room (relationLists tables c ++ projectLists tables c) out 0
 
--- the same at a configuration, table 1 in its parts
+-- the prepared tables, a configuration of their features, and the reach rows
 pub record KeptReads (T : Tables) (conditions reach relationEntries projectEntries relations comparisons queries : List ℕ) (c : ℕ) : Type 0 where
-  pub reads : AtReads T conditions c
+  pub prepared : Prepared T conditions relationEntries projectEntries relations comparisons queries
+  pub inside : c < configurations T
   pub reaching : RowsAre 16 (queryCount T) (λ q. rowOf 16 (λ d. reached T d q)) reach
-  pub relationEntriesAre : relationEntries ≡ entriesOfRelations T
-  pub projectEntriesAre : projectEntries ≡ entriesOfProjects T
-  pub relationsAre : relations ≡ T .relations
-  pub comparisonsAre : comparisons ≡ T .comparisons
-  pub queriesAre : queries ≡ T .queries
 
 pub record KeptWritable (conditions reach relationEntries projectEntries relations comparisons queries : List ℕ) (c : ℕ)
     (newEntries newRelations newComparisons newQueries : List ℕ) : Type 0 where

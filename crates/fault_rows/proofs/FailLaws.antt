@@ -23,7 +23,7 @@ use Rattle.report.proofs.FormedFacts.{counts, report-in}
 use Rattle.attribute_rows.specs.AttributeRows.{relationRow, namedRow, RelationRowReads, RelationRowReadable, NamedReads, NamedReadable}
 use Rattle.attribute_rows.proofs.AttributeLaws.{relations-are, named-are}
 use Rattle.attribute_rows.proofs.FillLaws.{RowsFilling, filling-none, filling-more, filling-all}
-use Rattle.fault_rows.specs.FaultRows.{faultyRow, columnRow, FaultReads, FailReads, FailReadable, FailsFilled}
+use Rattle.fault_rows.specs.FaultRows.{faultyRow, columnRow, FailReads, FailReadable, FailsFilled}
 use Rattle.fault_rows.specs.FaultRules.{FormReads, FormReadable, FormsFilled, storedColumn, ColumnRead}
 use Rattle.fault_rows.proofs.TypeLaws.{faulty-wide}
 
@@ -46,13 +46,17 @@ pub arrays-kept : {named relationRows sets after later last : List ℕ} → Arra
     → length later ≡ length relationRows → length last ≡ length sets → Arrays after later last
 arrays-kept S p q r = record { compared = p ∙ S .compared; related = q ∙ S .related; shaped = r ∙ S .shaped }
 
-module _ {T : Tables} {conditions full relationEntries projectEntries relations comparisons queries : List ℕ}
-    (R : FaultReads T conditions full relationEntries projectEntries relations comparisons queries) where
+module _ {T : Tables} {conditions full permits reach relationEntries projectEntries relations comparisons queries : List ℕ}
+    (R : FailReads T conditions full permits reach relationEntries projectEntries relations comparisons queries) where
   reads-named : NamedReads T conditions comparisons full
-  reads-named = record { formed = R .formed; filled = R .filled; comparisonsAre = R .comparisonsAre; whole = R .whole }
+  reads-named =
+      let P = R .prepared in
+      record { formed = P .formed; filled = P .filled; comparisonsAre = P .comparisonsAre; whole = R .whole }
 
   reads-relations : RelationRowReads T conditions relationEntries relations
-  reads-relations = record { formed = R .formed; filled = R .filled; entriesAre = R .relationEntriesAre; relationsAre = R .relationsAre }
+  reads-relations =
+      let P = R .prepared in
+      record { formed = P .formed; filled = P .filled; entriesAre = P .relationEntriesAre; relationsAre = P .relationsAre }
 
   module _ {named relationRows sets : List ℕ} (S : Arrays named relationRows sets) where
     pub arrays-named : NamedReadable conditions comparisons full named
@@ -60,7 +64,7 @@ module _ {T : Tables} {conditions full relationEntries projectEntries relations 
       tables = T;
       reads = reads-named;
       room =
-          let n = counts (R .formed) in let e = ap (λ (t : List ℕ). length t / 5) (R .comparisonsAre) in let s = S .compared in
+          let n = counts (R .prepared .formed) in let e = ap (λ (t : List ℕ). length t / 5) (R .prepared .comparisonsAre) in let s = S .compared in
           omega arith;
     }
 
@@ -69,12 +73,14 @@ module _ {T : Tables} {conditions full relationEntries projectEntries relations 
       tables = T;
       reads = reads-relations;
       room =
-          let n = counts (R .formed) in let e = ap (λ (t : List ℕ). length t / 2) (R .relationsAre) in let s = S .related in
+          let n = counts (R .prepared .formed) in let e = ap (λ (t : List ℕ). length t / 2) (R .prepared .relationsAre) in let s = S .related in
           omega arith;
     }
 
     arrays-sets : length queries / 4 * 16 ≤ length sets
-    arrays-sets = let n = counts (R .formed) in let e = ap (λ (t : List ℕ). length t / 4) (R .queriesAre) in let s = S .shaped in omega arith
+    arrays-sets =
+        let n = counts (R .prepared .formed) in let e = ap (λ (t : List ℕ). length t / 4) (R .prepared .queriesAre) in let s = S .shaped in
+        omega arith
 
 -- ---- one column
 
@@ -142,7 +148,7 @@ module _ {conditions full permits reach relationEntries projectEntries relations
         (rw (A .clear)
         (none-faulty T (A .words)
         (let m = A .room in
-        let e = ap (λ (t : List ℕ). length t / 4) (sym (R .reads .queriesAre) ∙ A .reads .reads .queriesAre) in
+        let e = ap (λ (t : List ℕ). length t / 4) (sym (R .prepared .queriesAre) ∙ A .reads .prepared .queriesAre) in
         omega arith)))
         ∙ ap (λ (k : ℕ). concat (queryCount T) (faultyRow T 0) ++ drop k lent) (sym (faulty-length T 0));
     shown = filling-none;
@@ -159,19 +165,19 @@ module _ {conditions full permits reach relationEntries projectEntries relations
       failing-reads : {T : Tables} → FailReads T conditions full permits reach relationEntries projectEntries relations comparisons queries
           → FormReads T conditions projectEntries relations queries reach named relationRows a faults
       failing-reads {T} R = record {
-        formed = R .reads .formed;
-        filled = R .reads .filled;
-        entriesAre = R .reads .projectEntriesAre;
-        relationsAre = R .reads .relationsAre;
-        queriesAre = R .reads .queriesAre;
+        formed = R .prepared .formed;
+        filled = R .prepared .filled;
+        entriesAre = R .prepared .projectEntriesAre;
+        relationsAre = R .prepared .relationsAre;
+        queriesAre = R .prepared .queriesAre;
         reaching = R .reaching;
-        compared = named-are T a oldNamed (names T (reads-named (R .reads)));
-        related = relations-are T a oldRelated (relates T (reads-relations (R .reads)));
+        compared = named-are T a oldNamed (names T (reads-named R));
+        related = relations-are T a oldRelated (relates T (reads-relations R));
         faulty = faulty-rows T a lent (S .faulty T R);
       }
 
       pub failing-forms : FormReadable conditions projectEntries relations queries reach named relationRows a oldSets faults
-      failing-forms = record { tables = A .tables; reads = failing-reads (A .reads); room = arrays-sets (A .reads .reads) arrays }
+      failing-forms = record { tables = A .tables; reads = failing-reads (A .reads); room = arrays-sets (A .reads) arrays }
 
       -- and of the forms
       module _ {sets after : List ℕ}
@@ -180,10 +186,10 @@ module _ {conditions full permits reach relationEntries projectEntries relations
           (h : a < items) where
         pub failing-column : ColumnRead queries sets a columns
         failing-column =
-            let R = A .reads .reads in
-            let e = ap (λ (t : List ℕ). length t / 4) (R .queriesAre) in
+            let P = A .reads .prepared in
+            let e = ap (λ (t : List ℕ). length t / 4) (P .queriesAre) in
             record {
-              some = let n = counts (R .formed) .someQuery in omega arith;
+              some = let n = counts (P .formed) .someQuery in omega arith;
               formed = let m = forms (A .tables) (failing-reads (A .reads)) .shaped .room in omega arith;
               room = let m = A .column in let s = S .shown .size in omega arith;
             }
@@ -192,8 +198,8 @@ module _ {conditions full permits reach relationEntries projectEntries relations
             → storedColumn permits queries sets ≡ columnRow T a
         failing-row {T} R =
             ap₂ (rowIntersect 16)
-            (ap (λ (t : List ℕ). rowIn 16 sets (length t / 4 - 1)) (R .reads .queriesAre)
-            ∙ forms T (failing-reads R) .shaped .each (report T) (report-in (R .reads .formed)))
+            (ap (λ (t : List ℕ). rowIn 16 sets (length t / 4 - 1)) (R .prepared .queriesAre)
+            ∙ forms T (failing-reads R) .shaped .each (report T) (report-in (R .prepared .formed)))
             (R .permitting)
             ∙ column-row T a
 

@@ -8,13 +8,12 @@ use Rattle.sets.specs.Search.{someBelow}
 use Rattle.sets.specs.Lists.{concat}
 use Rattle.sets.specs.Bits.{bit}
 use Rattle.sets.specs.Rows.{rowOf, within, RowsAre}
-use Rattle.report.specs.Tables.{Tables, relationCount, queryCount, entriesOfRelations, entriesOfProjects}
+use Rattle.report.specs.Tables.{Tables, relationCount, queryCount}
 use Rattle.report.specs.Expressions.{permitted}
 use Rattle.report.specs.Typing.{reached, faults}
 use Rattle.report.specs.ColumnRows.{hasColumn}
 use Rattle.report.specs.Configuring.{written}
-use Rattle.report.specs.Formed.{Formed}
-use Rattle.conditions.specs.Conditions.{Conditioned}
+use Rattle.conditions.specs.Conditions.{Prepared}
 
 module _ (T : Tables) where
   -- the configurations that reach form q, and at which item a is at fault in it
@@ -29,21 +28,11 @@ module _ (T : Tables) where
   abbrev pub columnRow : ℕ → List ℕ
   columnRow a = rowOf 16 (hasColumn T a)
 
--- what fault rows are worked out from: tables that have passed the form checks, their expression rows and all configurations
-pub record FaultReads (T : Tables) (conditions full relationEntries projectEntries relations comparisons queries : List ℕ) : Type 0 where
-  pub formed : Formed T
-  pub filled : Conditioned T conditions
-  pub whole : full ≡ rowOf 16 (within (T .features) (λ c. true))
-  pub relationEntriesAre : relationEntries ≡ entriesOfRelations T
-  pub projectEntriesAre : projectEntries ≡ entriesOfProjects T
-  pub relationsAre : relations ≡ T .relations
-  pub comparisonsAre : comparisons ≡ T .comparisons
-  pub queriesAre : queries ≡ T .queries
-
--- besides, the permitted configurations and those that reach each form
+-- what fault rows are worked out from: the prepared tables, all configurations, the permitted ones and those that reach each form
 pub record FailReads (T : Tables) (conditions full permits reach relationEntries projectEntries relations comparisons queries : List ℕ)
     : Type 0 where
-  pub reads : FaultReads T conditions full relationEntries projectEntries relations comparisons queries
+  pub prepared : Prepared T conditions relationEntries projectEntries relations comparisons queries
+  pub whole : full ≡ rowOf 16 (within (T .features) (λ c. true))
   pub permitting : permits ≡ rowOf 16 (permitted T)
   pub reaching : RowsAre 16 (queryCount T) (λ q. rowOf 16 (λ c. reached T c q)) reach
 

@@ -12,8 +12,9 @@ use Rattle.report.specs.Configuring.{written}
 use Rattle.report.specs.declared.Query.{Query}
 use Rattle.report.proofs.FormedFacts.{counts}
 use Rattle.faults_at.specs.FaultsAt.{FaultsReads}
-use Rattle.at_configuration.specs.AtConfiguration.{AtReads, PresentReads, PresentReadable, RelationReads, ComparisonReads, ComparisonNumberable}
+use Rattle.at_configuration.specs.AtConfiguration.{PresentReads, PresentReadable, RelationReads, ComparisonReads, ComparisonNumberable}
 use Rattle.at_configuration.proofs.ListLaws.{form-lower}
+use Rattle.at_configuration.proofs.PreparedLaws.{at-reads, relation-reads, comparison-reads}
 use Rattle.faults_at.specs.SetsAt.{presentSet, RelationReadable, QueryReads, QueryReadable, SetsFilled, FormReads}
 
 -- a relation that a form names is in table 2
@@ -27,37 +28,34 @@ module _ {T : Tables} {q : ℕ} {conditions entries relations : List ℕ} {c : �
 
 module _ {T : Tables} {conditions relationEntries projectEntries relations comparisons queries : List ℕ} {q c : ℕ}
     (R : FaultsReads T conditions relationEntries projectEntries relations comparisons queries q c) where
-  at-reads : AtReads T conditions c
-  at-reads = record { formed = R .formed; filled = R .filled; inside = R .configuration }
-
   -- what the comparisons name, the sets of the relations, the sets of the forms below q: each is read, and has room in a list as long as can be
   reads-comparisons : ComparisonReads T conditions comparisons c
-  reads-comparisons = record { reads = at-reads; comparisonsAre = R .comparisonsAre }
+  reads-comparisons = comparison-reads (R .prepared) (R .configuration)
 
   pub reads-relations : RelationReads T conditions relationEntries relations c
-  reads-relations = record { reads = at-reads; entriesAre = R .relationEntriesAre; relationsAre = R .relationsAre }
+  reads-relations = relation-reads (R .prepared) (R .configuration)
 
   module _ {lent : List ℕ} where
     pub readable-comparisons : 256 ≤ length lent → ComparisonNumberable conditions comparisons c lent
     readable-comparisons h = record {
       tables = T;
       reads = reads-comparisons;
-      room = rw (R .comparisonsAre) (let m = counts (R .formed) .most3 in omega arith);
+      room = rw (R .prepared .comparisonsAre) (let m = counts (R .prepared .formed) .most3 in omega arith);
     }
 
     pub readable-relations : 32 ≤ length lent → RelationReadable conditions relationEntries relations c lent
     readable-relations h = record {
       tables = T;
       reads = reads-relations;
-      room = rw (R .relationsAre) (let m = counts (R .formed) .most2 in omega arith);
+      room = rw (R .prepared .relationsAre) (let m = counts (R .prepared .formed) .most2 in omega arith);
     }
 
   module _ (lent : List ℕ) {relationSets : List ℕ} (related : relationSets ≡ written (table (relationCount T) (presentSet T c)) lent) where
     reads-queries : QueryReads T conditions projectEntries queries relationSets c
     reads-queries = record {
-      reads = at-reads;
-      entriesAre = R .projectEntriesAre;
-      queriesAre = R .queriesAre;
+      reads = at-reads (R .prepared) (R .configuration);
+      entriesAre = R .prepared .projectEntriesAre;
+      queriesAre = R .prepared .queriesAre;
       related = numbers-are (relationCount T) (presentSet T c) _ related;
     }
 
@@ -66,16 +64,16 @@ module _ {T : Tables} {conditions relationEntries projectEntries relations compa
       tables = T;
       reads = reads-queries;
       inside = let i = R .inside in omega arith;
-      room = let i = R .inside in let m = counts (R .formed) .most4 in omega arith;
+      room = let i = R .inside in let m = counts (R .prepared .formed) .most4 in omega arith;
     }
 
   pub form-in : q < length queries / 4
-  form-in = rw (R .queriesAre) (R .inside)
+  form-in = rw (R .prepared .queriesAre) (R .inside)
 
   -- form q is x
   module _ {x : Query} (e : x ≡ query queries q) where
     form-is : x ≡ query (T .queries) q
-    form-is = e ∙ ap (λ (t : List ℕ). query t q) (R .queriesAre)
+    form-is = e ∙ ap (λ (t : List ℕ). query t q) (R .prepared .queriesAre)
 
     -- what was worked out before, over these lists as they were
     pub reads-form : (lent₃ lent₂ : List ℕ) {named relationSets lent₄ sets : List ℕ} {start : ℕ}
@@ -88,14 +86,14 @@ module _ {T : Tables} {conditions relationEntries projectEntries relations compa
         let S = formed T (reads-queries lent₂ (related T reads-relations)) in
         record {
           at = record {
-            reads = at-reads;
-            entriesAre = R .projectEntriesAre;
+            reads = at-reads (R .prepared) (R .configuration);
+            entriesAre = R .prepared .projectEntriesAre;
             inside = R .inside;
             form = form-is;
             starts = S .starts;
           };
           below = numbers-are q _ _ (S .stored);
-          relationsAre = R .relationsAre;
+          relationsAre = R .prepared .relationsAre;
           compared = numbers-are (comparisonCount T) (names T c) _ (compared T reads-comparisons);
         }
 

@@ -1,21 +1,13 @@
 -- What is worked out at one configuration c: the attributes that comparisons name, the sets of relations and query forms, the items at fault.
 use Prim.Native.Nat.{ℕ, _<_}
-use mathlib.Core.Path.{_≡_}
 use mathlib.Core.List.{List}
-use Rattle.report.specs.Tables.{Tables, queryCount, entriesOfRelations, entriesOfProjects}
+use Rattle.report.specs.Tables.{Tables, queryCount}
 use Rattle.report.specs.Expressions.{configurations}
-use Rattle.report.specs.Formed.{Formed}
-use Rattle.conditions.specs.Conditions.{Conditioned}
+use Rattle.conditions.specs.Conditions.{Prepared}
 
--- form q of tables that have passed the form checks, their expression rows, and a configuration of their features
+-- form q of the prepared tables, and a configuration of their features
 pub record FaultsReads (T : Tables) (conditions relationEntries projectEntries relations comparisons queries : List ℕ) (q c : ℕ) : Type 0 where
-  pub formed : Formed T
-  pub filled : Conditioned T conditions
-  pub relationEntriesAre : relationEntries ≡ entriesOfRelations T
-  pub projectEntriesAre : projectEntries ≡ entriesOfProjects T
-  pub relationsAre : relations ≡ T .relations
-  pub comparisonsAre : comparisons ≡ T .comparisons
-  pub queriesAre : queries ≡ T .queries
+  pub prepared : Prepared T conditions relationEntries projectEntries relations comparisons queries
   pub inside : q < queryCount T
   pub configuration : c < configurations T
 

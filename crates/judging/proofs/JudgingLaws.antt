@@ -1,6 +1,6 @@
 -- How the parts of judging make its answer, what each part leaves for the next, and what a caller has of tables that pass.
 use Prim.Native.Nat.{ℕ, _+_, _-_, _*_, _/_, _≤_, max}
-use mathlib.Core.Path.{_≡_, refl, sym, ap, ap₂, _∙_}
+use mathlib.Core.Path.{_≡_, refl, sym, ap, _∙_}
 use mathlib.Core.Bool.{true}
 use mathlib.Core.List.{List}
 use native.Mathlib.Nat.{le-refl, le-max-left, le-max-right, max-le}
@@ -21,18 +21,18 @@ use Rattle.report.specs.declared.Refusal.{Refusal}
 use Rattle.report.specs.declared.Verdict.{Verdict}
 use Rattle.report.proofs.Formed.{formed}
 use Rattle.report.proofs.FormedFacts.{counts}
-use Rattle.report.proofs.EntryParts.{words-from}
 use Rattle.report.proofs.VerdictLaws.{or-else-assoc, both-accepted, then-next, then-refused}
 use Rattle.report.proofs.FirstFault.{answer-run}
 use Rattle.conditions.specs.Conditions.{expressionRows, Conditioned, SchemaReads}
 use Rattle.conditions.proofs.FillLaws.{filled}
 use Rattle.conditions.proofs.PermittedLaws.{model-check, model-row}
+use Rattle.conditions.proofs.PreparedLaws.{prepare}
 use Rattle.reach.specs.Reach.{reachRows, ReachReads}
 use Rattle.reach.proofs.ReachRows.{reach-rows}
 use Rattle.forms.proofs.Chain.{stops, goes-on}
 use Rattle.fault_rows.specs.FaultRows.{Items}
 use Rattle.typing.specs.Typed.{TypingReads, Checked}
-use Rattle.judging.specs.Judging.{meaningCheck, reportCheck, earlyCheck, JudgeReads, JudgeReadable, Judged, RowsLent, TablesJudged, Typed}
+use Rattle.judging.specs.Judging.{meaningCheck, earlyCheck, JudgeReads, JudgeReadable, Judged, RowsLent, TablesJudged, Typed}
 
 -- ---- the answer of any call
 
@@ -70,53 +70,45 @@ module _ {T : Tables} {n m model : ℕ} {conditions relationEntries projectEntri
     (R : JudgeReads T n m model conditions relationEntries projectEntries relations comparisons queries) where
   -- the expression rows have that of the model
   pub model-room : model * 16 + 16 ≤ length conditions
-  model-room = let m = R .filled .room in let i = R .formed .modelIn in let e = R .number in omega arith
+  model-room = let m = R .prepared .filled .room in let i = R .prepared .formed .modelIn in let e = R .number in omega arith
 
   pub few-features : n ≤ 10
-  few-features = let f = R .formed .few in let e = R .features in omega arith
+  few-features = let f = R .prepared .formed .few in let e = R .features in omega arith
 
   module _ {permits : List ℕ} (load : permits ≡ rowIn 16 conditions model) where
     permitting : permits ≡ rowOf 16 (permitted T)
-    permitting = load ∙ ap (rowIn 16 conditions) (R .number) ∙ model-row (R .formed) (R .filled)
+    permitting = load ∙ ap (rowIn 16 conditions) (R .number) ∙ model-row (R .prepared .formed) (R .prepared .filled)
 
     pub schema-reads : SchemaReads T conditions permits relationEntries relations
     schema-reads = record {
-      formed = R .formed;
-      filled = R .filled;
+      formed = R .prepared .formed;
+      filled = R .prepared .filled;
       permitting = permitting;
-      entriesAre = R .relationEntriesAre;
-      relationsAre = R .relationsAre;
+      entriesAre = R .prepared .relationEntriesAre;
+      relationsAre = R .prepared .relationsAre;
     }
 
     pub reach-reads : ReachReads T queries conditions permits
-    reach-reads = record { formed = R .formed; filled = R .filled; queriesAre = R .queriesAre; permitting = permitting }
+    reach-reads = record { formed = R .prepared .formed; filled = R .prepared .filled; queriesAre = R .prepared .queriesAre; permitting = permitting }
 
     pub typing-reads : {words : ℕ} {reach full : List ℕ} {items : ℕ} → queryCount T * 16 ≤ words → reach ≡ reachRows T words
         → full ≡ rowOf 16 (within n (λ c. true)) → items ≡ max m (length relations / 2)
         → TypingReads T conditions full permits reach relationEntries projectEntries relations comparisons queries items
     typing-reads room reaching whole most = record {
       reads = record {
-        reads = record {
-          formed = R .formed;
-          filled = R .filled;
-          whole = whole ∙ ap (λ (k : ℕ). rowOf 16 (within k (λ c. true))) (R .features);
-          relationEntriesAre = R .relationEntriesAre;
-          projectEntriesAre = R .projectEntriesAre;
-          relationsAre = R .relationsAre;
-          comparisonsAre = R .comparisonsAre;
-          queriesAre = R .queriesAre;
-        };
+        prepared = R .prepared;
+        whole = whole ∙ ap (λ (k : ℕ). rowOf 16 (within k (λ c. true))) (R .features);
         permitting = permitting;
         reaching = reach-rows T room reaching;
       };
-      enough = enough (R .formed) (R .attributes) (ap (λ (t : List ℕ). length t / 2) (R .relationsAre)) most;
+      enough = enough (R .prepared .formed) (R .attributes) (ap (λ (t : List ℕ). length t / 2) (R .prepared .relationsAre)) most;
     }
 
 -- there is room for the reach rows of all such tables
 pub reach-room : {T : Tables} {n m model : ℕ} {conditions relationEntries projectEntries relations comparisons queries reach columns : List ℕ}
     → JudgeReadable n m model conditions relationEntries projectEntries relations comparisons queries reach columns
     → JudgeReads T n m model conditions relationEntries projectEntries relations comparisons queries → queryCount T * 16 ≤ length reach
-reach-room A R = let l = A .forms in let e = ap length (sym (A .reads .queriesAre) ∙ R .queriesAre) in omega arith
+reach-room A R = let l = A .forms in let e = ap length (sym (A .reads .prepared .queriesAre) ∙ R .prepared .queriesAre) in omega arith
 
 -- ---- 12 to 19
 
@@ -149,18 +141,7 @@ module _ {T : Tables} (F : Formed T) where
     pub tables-read : {conditions : List ℕ} → Conditioned T conditions
         → JudgeReads T (T .features) (T .attributes) (T .model) conditions (take (split * 2) (T .entries))
         (take (length (T .entries) - split * 2) (drop (split * 2) (T .entries))) (T .relations) (T .comparisons) (T .queries)
-    tables-read C = record {
-      formed = F;
-      features = refl;
-      attributes = refl;
-      number = refl;
-      filled = C;
-      relationEntriesAre = ap (λ (k : ℕ). take (k * 2) (T .entries)) is;
-      projectEntriesAre = words-from (T .entries) (split * 2) ∙ ap (λ (k : ℕ). drop (k * 2) (T .entries)) is;
-      relationsAre = refl;
-      comparisonsAre = refl;
-      queriesAre = refl;
-    }
+    tables-read C = record { prepared = prepare F C is refl refl refl refl; features = refl; attributes = refl; number = refl }
 
 module _ {T : Tables} {v : Verdict} (forms : v ≡ formCheck T) {lentConditions lentReach lentColumns : List ℕ} where
   -- a form check refuses

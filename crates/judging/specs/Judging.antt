@@ -3,7 +3,7 @@ use Prim.Native.Nat.{ℕ, _*_, _≤_}
 use mathlib.Core.Path.{_≡_}
 use mathlib.Core.List.{List}
 use lib.ListN.{length}
-use Rattle.report.specs.Tables.{Tables, queryCount, entriesOfRelations, entriesOfProjects}
+use Rattle.report.specs.Tables.{Tables, queryCount}
 use Rattle.report.specs.ColumnRows.{columnRows}
 use Rattle.report.specs.Configuring.{written}
 use Rattle.report.specs.Verdicts.{orElse, after}
@@ -11,7 +11,7 @@ use Rattle.report.specs.FormChecks.{formCheck}
 use Rattle.report.specs.Checks.{modelAndSchemaCheck, typingCheck}
 use Rattle.report.specs.Formed.{Formed}
 use Rattle.report.specs.declared.Verdict.{Verdict}
-use Rattle.conditions.specs.Conditions.{expressionRows, Conditioned}
+use Rattle.conditions.specs.Conditions.{expressionRows, Prepared}
 use Rattle.reach.specs.Reach.{reachRows}
 
 module _ (T : Tables) where
@@ -29,18 +29,12 @@ module _ (T : Tables) where
 
 -- ---- 12 to 19
 
--- the head, the expression rows, both parts of table 1 and tables 2 to 4 of tables that have passed the form checks
+-- the prepared tables and their head
 pub record JudgeReads (T : Tables) (n m model : ℕ) (conditions relationEntries projectEntries relations comparisons queries : List ℕ) : Type 0 where
-  pub formed : Formed T
+  pub prepared : Prepared T conditions relationEntries projectEntries relations comparisons queries
   pub features : n ≡ T .features
   pub attributes : m ≡ T .attributes
   pub number : model ≡ T .model
-  pub filled : Conditioned T conditions
-  pub relationEntriesAre : relationEntries ≡ entriesOfRelations T
-  pub projectEntriesAre : projectEntries ≡ entriesOfProjects T
-  pub relationsAre : relations ≡ T .relations
-  pub comparisonsAre : comparisons ≡ T .comparisons
-  pub queriesAre : queries ≡ T .queries
 
 -- there are such tables, and room for the reach rows and the column rows
 pub record JudgeReadable (n m model : ℕ) (conditions relationEntries projectEntries relations comparisons queries reach columns : List ℕ)

@@ -103,10 +103,6 @@ module _ (out reach : List ℕ) (form : ℕ) (room : form * 16 + 16 ≤ length o
 
 -- ---- one join after another
 
-pub joined-length : (out reach : List ℕ) (p : ℕ → ℕ → Bool) → length (joined out reach p) ≡ length out
-unfolding joined
-joined-length out reach p = table-length (length out) (wordOf (λ i. rowBit out i || (rowBit reach (i % 1024) && p (i % 1024) (i / 1024))))
-
 pub join-same : (out reach : List ℕ) (p q : ℕ → ℕ → Bool) → ((c x : ℕ) → c < 1024 → p c x ≡ q c x) → joined out reach p ≡ joined out reach q
 unfolding joined
 join-same out reach p q h =

@@ -9,7 +9,7 @@ use lib.Seq.{length-take-le, take-all, getD-take, getD-drop}
 use Rattle.report.specs.Tables.{Tables, entryAttribute, entryExpression, relationLength, query, entryCount, relationCount, queryCount}
 use Rattle.report.specs.Tables.{relationStart, relationsEnd, entriesOfRelations, entriesOfProjects, projectLength, projectedBefore}
 use Rattle.report.specs.Formed.{Formed, EntriesFrom}
-use Rattle.report.proofs.FormedFacts.{relation-starts, projected-grows, relation-within, project-inside}
+use Rattle.report.proofs.FormedFacts.{relation-starts, relation-within, project-inside}
 
 -- ---- a table 1 cut after its first n entries
 

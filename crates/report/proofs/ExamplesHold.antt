@@ -4,10 +4,9 @@ use native.Mathlib.Nat.{zero-div}
 use lib.Dec.{eqb}
 use mathlib.Core.Path.{_≡_, refl, sym, ap, _∙_, fun-ext}
 use mathlib.Core.Bool.{Bool, true, false, cond, _&&_}
-use mathlib.Core.List.{List, [], _∷_, _++_, map}
+use mathlib.Core.List.{List, [], _∷_, map}
 use Rattle.sets.specs.Lists.{table, concat}
 use Rattle.sets.specs.Bits.{bit, bitsOf, digit}
-use Rattle.sets.specs.Rows.{rowOf, wordOf}
 use Rattle.report.specs.Tables.{Tables, report}
 use Rattle.report.specs.Expressions.{holds, permitted}
 use Rattle.report.specs.Typing.{names, setOf, leads, reached, listed, faults}
@@ -20,7 +19,7 @@ use Rattle.report.specs.Calls.{answer}
 use Rattle.report.specs.Text.{decimal, numbersIn}
 use Rattle.report.specs.HarbourFile.{linesOf, fileLines, fileOf}
 use Rattle.report.specs.Print.{print}
-use Rattle.report.specs.Examples.{Case, Outcome, outcomeOr, outcomeBy, outcome, Example, examples}
+use Rattle.report.specs.Examples.{Case, Outcome, outcomeBy, outcome, Example, examples}
 
 -- to unfold this is to unfold all that an outcome is computed with
 unfoldable pub computed : Unit {0}

@@ -1,7 +1,7 @@
 -- What calls refuse: soundness in form and schema, acceptance, and demand 3's second half: a call that gets as far as typing refuses for a
 -- typing fault exactly where, at some permitted configuration, the configured report breaks a plain rule.
-use Prim.Native.Nat.{ℕ, zero, suc, _-_, _<_, _≤_}
-use mathlib.Core.Path.{_≡_, refl, sym, ap, ap₂, _∙_}
+use Prim.Native.Nat.{ℕ, zero, suc, _-_, _<_}
+use mathlib.Core.Path.{_≡_, refl, sym, ap, _∙_}
 use mathlib.Core.Bool.{Bool, true, false, _||_, not, and-eq-true-iff, false≢true}
 use mathlib.Core.Logic.{_↔_, ⊎-elim}
 use native.Mathlib.Nat.{eq-or-lt-of-le}
@@ -11,12 +11,11 @@ use borrow.Author.Tests.{eqb-true, eq-eqb, not-true, not-false}
 use lib.ListN.{length, getD}
 use lib.Dec.{leb, ltb, eqb}
 use Rattle.sets.specs.declared.Found.{Found}
-use Rattle.sets.specs.Search.{seek, lowest, First}
-use Rattle.sets.specs.Bits.{bit}
+use Rattle.sets.specs.Search.{seek, lowest}
 use Rattle.report.specs.Tables.{Tables, shapes, shapeOf, words, entryAttribute, relationLength, relationStart}
 use Rattle.report.specs.Tables.{expressionCount, entryCount, relationCount, comparisonCount, queryCount}
 use Rattle.report.specs.Expressions.{configurations, permitted}
-use Rattle.report.specs.Typing.{reached, faults, fails}
+use Rattle.report.specs.Typing.{reached, fails}
 use Rattle.report.specs.PlainAlgebra.{passes}
 use Rattle.report.specs.ConfiguredReport.{plainQueryAt, configuredReport, configuredSchema}
 use Rattle.report.specs.Verdicts.{refusal, refuseIf, refuseAt, orElse, firstFrom, Condition, _gives_, firstOf}

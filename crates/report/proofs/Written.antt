@@ -1,6 +1,6 @@
 -- The tables that configuring writes are, as a tree, the configured report with its relations renumbered, under the configured schema renumbered
 -- (docs/FORMAT.md, "Configuring"). Nothing here asks that the report passes, only that every relation that c reaches is present.
-use Prim.Native.Nat.{ℕ, _<_, _≤_}
+use Prim.Native.Nat.{ℕ, _<_}
 use mathlib.Core.Path.{_≡_, refl, sym, ap, ap₂, _∙_}
 use mathlib.Core.Bool.{Bool, true, false, _&&_, _||_, false≢true}
 use native.Mathlib.Omega.{arith}
@@ -9,9 +9,9 @@ use lib.Bits.{bitAnd, bitOr}
 use Rattle.sets.specs.Search.{countBelow}
 use Rattle.sets.specs.Bits.{subset}
 use Rattle.sets.proofs.SearchLaws.{count-lt}
-use Rattle.report.specs.Tables.{Tables, relationCount, queryCount, projectStart, report}
+use Rattle.report.specs.Tables.{Tables, queryCount, projectStart, report}
 use Rattle.report.specs.Expressions.{permitted}
-use Rattle.report.specs.Typing.{at, taken, present, reached}
+use Rattle.report.specs.Typing.{taken, present, reached}
 use Rattle.report.specs.Formed.{Formed, QueryLower}
 use Rattle.report.specs.Operands.{queryOperands, isChoice}
 use Rattle.report.specs.FormChecks.{isOperand}

@@ -3,15 +3,12 @@ use Prim.Native.Nat.{ℕ, zero, suc, _<_, _≤_}
 use mathlib.Core.Path.{_≡_, refl, sym, ap, ap₂, _∙_}
 use mathlib.Core.Logic.{_≢_}
 use mathlib.Core.Bool.{Bool, true, false, _&&_, not, false≢true}
-use mathlib.Core.List.{[], _∷_}
 use native.Mathlib.Omega.{arith}
-use borrow.Author.Tests.{le-ltb}
-use lib.ListN.{length, getD}
-use lib.Dec.{ltb}
+use lib.ListN.{length}
 use Rattle.sets.specs.Bits.{bit}
 use Rattle.sets.proofs.SearchLaws.{at-some, nothing-seek}
 use Rattle.sets.proofs.RowLaws.{within-out}
-use Rattle.report.specs.Tables.{Tables, words, relationExpression, relationLength, relationStart, entryAttribute, entryExpression}
+use Rattle.report.specs.Tables.{Tables, relationExpression, relationLength, relationStart, entryAttribute, entryExpression}
 use Rattle.report.specs.Tables.{relationCount, report}
 use Rattle.report.specs.Expressions.{holds, configurations, permitted}
 use Rattle.report.specs.Typing.{at, setOf}

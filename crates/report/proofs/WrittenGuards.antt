@@ -1,6 +1,5 @@
 -- The statements of Written and WrittenAccepted are about something: an accepted report to which they apply, and a report that is sound and not
 -- accepted, for which the tables written are not well formed.
-use Prim.Native.Nat.{ℕ}
 use mathlib.Core.Path.{_≡_, refl}
 use mathlib.Core.Bool.{true, false}
 use mathlib.Core.List.{[], _∷_}

@@ -1,5 +1,5 @@
 -- docs/FORMAT.md, "Column rows".
-use Prim.Native.Nat.{ℕ, _+_, _*_, _/_, _%_}
+use Prim.Native.Nat.{ℕ}
 use mathlib.Core.Bool.{Bool, _&&_}
 use mathlib.Core.List.{List}
 use Rattle.sets.specs.Lists.{concat}

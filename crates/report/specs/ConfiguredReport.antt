@@ -1,9 +1,9 @@
 -- docs/FORMAT.md, "Configuring": the configured report as a tree, and the configured schema, of any tables, accepted or refused.
 -- Relations keep their old numbers.
 use Prim.Native.Nat.{ℕ, _+_}
-use mathlib.Core.Bool.{Bool, true, false, cond}
+use mathlib.Core.Bool.{cond}
 use mathlib.Core.List.{List, [], _∷_}
-use mathlib.Core.Option.{Option, none, some}
+use mathlib.Core.Option.{none, some}
 use Rattle.sets.specs.Lists.{kept}
 use Rattle.report.specs.Values.{value}
 use Rattle.report.specs.Tables.{Tables, entryAttribute, comparison, query, projectStart, report}

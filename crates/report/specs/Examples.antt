@@ -1,7 +1,7 @@
 -- docs/FORMAT.md, "Worked examples": H1 to H10 and three cases more, as one list. Their theorem is proofs/ExamplesHold.
-use Prim.Native.Nat.{ℕ, zero, suc, _+_, _-_, _^_}
+use Prim.Native.Nat.{ℕ, _+_, _-_, _^_}
 use mathlib.Core.List.{List, [], _∷_, _++_}
-use lib.ListN.{replicate, length}
+use lib.ListN.{replicate}
 use Rattle.report.specs.Tables.{Tables, tablesOf, entryCount, relationCount, comparisonCount, queryCount}
 use Rattle.report.specs.ColumnRows.{columnRows}
 use Rattle.report.specs.Configuring.{configured}

@@ -1,6 +1,5 @@
 -- docs/FORMAT.md, "Print": what the program prints.
-use Prim.Native.Nat.{ℕ, zero, suc, _+_}
-use mathlib.Core.Bool.{Bool, true, false, cond}
+use Prim.Native.Nat.{ℕ, _+_}
 use mathlib.Core.List.{List, [], _∷_, _++_}
 use Rattle.sets.specs.Lists.{kept}
 use Rattle.sets.specs.Bits.{bit}

@@ -1,8 +1,8 @@
 -- docs/FORMAT.md, "Harbour file" and "Print": bytes, numbers and lines. A text is a list of bytes.
 use Prim.Native.Nat.{ℕ, zero, suc, _+_, _-_, _*_, _/_, _%_}
 use Prim.Native.String.{String}
-use Prim.Native.Char.{Char, code}
-use mathlib.Core.Bool.{Bool, true, false, cond, _&&_}
+use Prim.Native.Char.{code}
+use mathlib.Core.Bool.{Bool, true, false, _&&_}
 use mathlib.Core.List.{List, [], _∷_, _++_}
 use lib.Dec.{leb, ltb, eqb}
 

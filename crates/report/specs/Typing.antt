@@ -1,6 +1,6 @@
 -- docs/FORMAT.md, "Typing rules", at one configuration c: what reaches each query form, its set of attributes, and what breaks its rule.
 use Prim.Native.Nat.{ℕ, zero, suc, _+_, _^_}
-use mathlib.Core.Bool.{Bool, true, false, cond, _&&_, _||_, not}
+use mathlib.Core.Bool.{Bool, false, cond, _&&_, _||_, not}
 use lib.Dec.{ltb, eqb}
 use lib.Bits.{bitAnd, bitOr, bitXor}
 use Rattle.sets.specs.Bits.{difference}

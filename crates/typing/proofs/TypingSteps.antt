@@ -29,14 +29,14 @@ use Rattle.typing.proofs.RowsVerdict.{rows-accepted, form-in, row-some,
 module _ {T : Tables} {conditions relationEntries projectEntries relations comparisons queries : List ℕ} {q c : ℕ}
     (R : FaultsReads T conditions relationEntries projectEntries relations comparisons queries q c) where
   pub told-in : q < length queries / 4
-  told-in = rw (R .queriesAre) (R .inside)
+  told-in = rw (R .prepared .queriesAre) (R .inside)
 
   -- form q is x, and these items are at fault in it
   pub told-is : {bits number item : ℕ} {x : Query}
       → ((T : Tables) → FaultsReads T conditions relationEntries projectEntries relations comparisons queries q c → bits ≡ faults T c q)
       → x ≡ query queries q → number ≡ ruleNumber x → item ≡ lowestMember bits → refusal number q item c ≡ told T q c
   told-is found form numbered least =
-      ap₂ (λ (n i : ℕ). refusal n q i c) (numbered ∙ ap ruleNumber (form ∙ ap (λ (t : List ℕ). query t q) (R .queriesAre)))
+      ap₂ (λ (n i : ℕ). refusal n q i c) (numbered ∙ ap ruleNumber (form ∙ ap (λ (t : List ℕ). query t q) (R .prepared .queriesAre)))
       (least ∙ ap lowestMember (found T R))
 
 -- ---- the answer from the rows
@@ -45,7 +45,7 @@ module _ {T : Tables} {conditions relationEntries projectEntries relations compa
     (R : RowsReads T conditions relationEntries projectEntries relations comparisons queries rows)
   where
     count-is : length queries / 4 ≡ queryCount T
-    count-is = ap (λ (t : List ℕ). length t / 4) (R .queriesAre)
+    count-is = ap (λ (t : List ℕ). length t / 4) (R .prepared .queriesAre)
 
     pub rows-room : length queries / 4 * 16 ≤ length rows
     rows-room = let e = count-is in let m = R .failing .room in omega arith
@@ -55,14 +55,14 @@ module _ {T : Tables} {conditions relationEntries projectEntries relations compa
       found-form = f ∙ ap (lowest (rowed rows)) count-is
 
       pub no-form : form ≡ Found.Nothing → Verdict.Accepted ≡ typingCheck T
-      no-form e = sym (rows-accepted (R .formed) (R .failing) (sym found-form ∙ e))
+      no-form e = sym (rows-accepted (R .prepared .formed) (R .failing) (sym found-form ∙ e))
 
       module _ {q : ℕ} (e : form ≡ Found.At q) where
         at-form : lowest (rowed rows) (queryCount T) ≡ Found.At q
         at-form = sym found-form ∙ e
 
         pub form-room : q * 16 + 16 ≤ length rows
-        form-room = let i = form-in (R .formed) (R .failing) at-form in let m = R .failing .room in omega arith
+        form-room = let i = form-in (R .prepared .formed) (R .failing) at-form in let m = R .failing .room in omega arith
 
         -- its row was read as `row`
         module _ {row : List ℕ} {configuration : Found} (read : row ≡ rowIn 16 rows q) (l : configuration ≡ rowLowest 16 row) where
@@ -70,21 +70,15 @@ module _ {T : Tables} {conditions relationEntries projectEntries relations compa
           found-row = l ∙ ap (rowLowest 16) read
 
           pub no-configuration : {A : Type 0} → configuration ≡ Found.Nothing → A
-          no-configuration d = absurd (row-some (R .formed) (R .failing) at-form (sym found-row ∙ d))
+          no-configuration d = absurd (row-some (R .prepared .formed) (R .failing) at-form (sym found-row ∙ d))
 
           module _ {c : ℕ} (d : configuration ≡ Found.At c) where
             pub form-told : FaultsReads T conditions relationEntries projectEntries relations comparisons queries q c
             form-told = record {
-              formed = R .formed;
-              filled = R .filled;
-              relationEntriesAre = R .relationEntriesAre;
-              projectEntriesAre = R .projectEntriesAre;
-              relationsAre = R .relationsAre;
-              comparisonsAre = R .comparisonsAre;
-              queriesAre = R .queriesAre;
-              inside = form-in (R .formed) (R .failing) at-form;
+              prepared = R .prepared;
+              inside = form-in (R .prepared .formed) (R .failing) at-form;
               configuration = permitted-within T c
-                  (fails-permitted T c q (configuration-fails (R .formed) (R .failing) at-form (sym found-row ∙ d)));
+                  (fails-permitted T c q (configuration-fails (R .prepared .formed) (R .failing) at-form (sym found-row ∙ d)));
             }
 
             pub form-refused : {r : Refusal}
@@ -92,7 +86,7 @@ module _ {T : Tables} {conditions relationEntries projectEntries relations compa
                 → Verdict.Refused r ≡ typingCheck T
             form-refused tell =
                 ap Verdict.Refused (tell T form-told)
-                ∙ sym (rows-refused (R .formed) (R .failing) at-form (sym found-row ∙ d))
+                ∙ sym (rows-refused (R .prepared .formed) (R .failing) at-form (sym found-row ∙ d))
 
 -- ---- the rows, from the tables
 
@@ -105,7 +99,7 @@ fails-readable A = record {
   reads = A .reads .reads;
   words = 4096;
   clear = refl;
-  room = let m = counts (A .reads .reads .reads .formed) .most4 in omega arith;
+  room = let m = counts (A .reads .reads .prepared .formed) .most4 in omega arith;
   column = let l = ap length (A .clear) in let m = A .reads .enough .most in omega (arith, length-replicate {A = ℕ} 1024 0);
 }
 
@@ -117,17 +111,11 @@ module _ {T : Tables} {conditions full permits reach relationEntries projectEntr
   where
     pub rows-read : RowsReads T conditions relationEntries projectEntries relations comparisons queries rows
     rows-read =
-        let r = R .reads .reads in
+        let P = R .reads .prepared in
         let f = fails-rows (L T (R .reads)) in
         record {
-          formed = r .formed;
-          filled = r .filled;
-          relationEntriesAre = r .relationEntriesAre;
-          projectEntriesAre = r .projectEntriesAre;
-          relationsAre = r .relationsAre;
-          comparisonsAre = r .comparisonsAre;
-          queriesAre = r .queriesAre;
-          failing = record { room = f .room; each = λ q h. f .each q h ∙ faulty-fails (r .formed) (R .enough) q h };
+          prepared = P;
+          failing = record { room = f .room; each = λ q h. f .each q h ∙ faulty-fails (P .formed) (R .enough) q h };
         }
 
     pub typing-checked : {v : Verdict} → before ≡ replicate 1024 0
@@ -135,5 +123,5 @@ module _ {T : Tables} {conditions full permits reach relationEntries projectEntr
         → Checked T v columns
     typing-checked clear told = record {
       answers = told T rows-read;
-      shows = columns-shown (R .reads .reads .formed) (R .enough) (rw (← clear) (L T (R .reads) .shown));
+      shows = columns-shown (R .reads .prepared .formed) (R .enough) (rw (← clear) (L T (R .reads) .shown));
     }

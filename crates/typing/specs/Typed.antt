@@ -6,15 +6,14 @@ use mathlib.Core.List.{List}
 use lib.ListN.{replicate}
 use Rattle.sets.specs.Bits.{lowestMember}
 use Rattle.sets.specs.Rows.{rowOf, rowIn, rowIsEmpty, RowsAre}
-use Rattle.report.specs.Tables.{Tables, query, queryCount, entriesOfRelations, entriesOfProjects}
+use Rattle.report.specs.Tables.{Tables, query, queryCount}
 use Rattle.report.specs.Typing.{faults, fails}
 use Rattle.report.specs.ColumnRows.{columnRows}
 use Rattle.report.specs.Verdicts.{refusal}
 use Rattle.report.specs.Checks.{ruleNumber, typingCheck}
-use Rattle.report.specs.Formed.{Formed}
 use Rattle.report.specs.declared.Refusal.{Refusal}
 use Rattle.report.specs.declared.Verdict.{Verdict}
-use Rattle.conditions.specs.Conditions.{Conditioned}
+use Rattle.conditions.specs.Conditions.{Prepared}
 use Rattle.fault_rows.specs.FaultRows.{FailReads, Items}
 
 -- row q is not empty
@@ -34,13 +33,7 @@ module _ (T : Tables) where
 
 -- a row for each form, of the configurations at which it fails, and what its items at fault are worked out from
 pub record RowsReads (T : Tables) (conditions relationEntries projectEntries relations comparisons queries rows : List ℕ) : Type 0 where
-  pub formed : Formed T
-  pub filled : Conditioned T conditions
-  pub relationEntriesAre : relationEntries ≡ entriesOfRelations T
-  pub projectEntriesAre : projectEntries ≡ entriesOfProjects T
-  pub relationsAre : relations ≡ T .relations
-  pub comparisonsAre : comparisons ≡ T .comparisons
-  pub queriesAre : queries ≡ T .queries
+  pub prepared : Prepared T conditions relationEntries projectEntries relations comparisons queries
   pub failing : RowsAre 16 (queryCount T) (failsRow T) rows
 
 pub record RowsReadable (conditions relationEntries projectEntries relations comparisons queries rows : List ℕ) : Type 0 where

@@ -1,5 +1,4 @@
 use borrow.Author.Needs.{needs}
-use mathlib.Core.Path.{_∙_}
 use Rattle.sets.proofs.WritingLaws.{and-then, room-first, room-next}
 use Rattle.configuring.proofs.write_entries.Statement.{statement}
 use Rattle.configuring.proofs.write_entries.Tie as tie

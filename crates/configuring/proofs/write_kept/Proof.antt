@@ -1,6 +1,6 @@
 use borrow.Author.Needs.{needs}
 use native.Mathlib.Nat.{le-refl}
-use Rattle.configuring.proofs.WriteLaws.{relation-reads, entries-reads, comparison-reads, query-reads, comparison-form-reads, form-reads}
+use Rattle.configuring.proofs.WriteLaws.{lists-read, entries-reads, comparisons-read, query-reads, comparison-form-reads, form-reads}
 use Rattle.configuring.proofs.WriteLaws.{entries-writable, relations-writable, comparisons-numberable, comparisons-writable}
 use Rattle.configuring.proofs.WriteLaws.{queries-numberable, queries-writable, same-rooms, tables-left}
 use Rattle.configuring.proofs.write_kept.Statement.{statement}
@@ -35,7 +35,7 @@ write-comparisons-requires : tie.Need-write-comparisons-requires
 write-comparisons-requires c κs =
     let n = c .before .before .before in
     let W = start (entries (forms n)) .pre in
-    comparisons-writable W (n .number-comparisons .ensures (W .tables) (comparison-reads (W .reads)))
+    comparisons-writable W (n .number-comparisons .ensures (W .tables) (comparisons-read (W .reads)))
 
 number-queries-requires : tie.Need-number-queries-requires
 number-queries-requires c κs = queries-numberable (start (entries (forms (numbers (c .before .before .before)))) .pre) (le-refl 256)
@@ -45,7 +45,7 @@ write-queries-requires c κs =
     let q = c .before .before .before .before in
     let n = numbers (compared q) in
     let W = start (entries (forms n)) .pre in
-    queries-writable W (n .number-comparisons .ensures (W .tables) (comparison-reads (W .reads)))
+    queries-writable W (n .number-comparisons .ensures (W .tables) (comparisons-read (W .reads)))
     (q .number-queries .ensures (W .tables) (query-reads (W .reads)))
 
 returns : tie.Need-returns
@@ -57,9 +57,9 @@ returns c T R =
     let r = forms n in
     let l = entries r in
     let W = start l .pre in
-    let first-numbers = n .number-comparisons .ensures T (comparison-reads R) in
-    tables-left (R .reads .formed) (start l .args .c) (same-rooms (W .reads) R (W .rooms)) (l .write-entries .ensures T (entries-reads R))
-    (r .write-relation-forms .ensures T (relation-reads R))
+    let first-numbers = n .number-comparisons .ensures T (comparisons-read R) in
+    tables-left (R .prepared .formed) (start l .args .c) (same-rooms (W .reads) R (W .rooms)) (l .write-entries .ensures T (entries-reads R))
+    (r .write-relation-forms .ensures T (lists-read R))
     (k .write-comparisons .ensures T (start l .args .c) (comparison-form-reads R first-numbers))
     (w .write-queries .ensures T (form-reads R first-numbers (q .number-queries .ensures T (query-reads R))))
 

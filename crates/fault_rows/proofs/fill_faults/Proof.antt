@@ -34,12 +34,12 @@ type-forms p = p .before .before .before .before .before
 fill-named-rows-requires : tie.Need-fill-named-rows-requires Inv-loop μ-loop
 fill-named-rows-requires c κs =
     let l = c .before .before in
-    arrays-named (start (l .before) .pre .reads .reads) (l .loop .inv .0)
+    arrays-named (start (l .before) .pre .reads) (l .loop .inv .0)
 
 fill-relation-rows-requires : tie.Need-fill-relation-rows-requires Inv-loop μ-loop
 fill-relation-rows-requires c κs =
     let l = c .before .before .before .before .before in
-    arrays-relations (start (l .before) .pre .reads .reads) (l .loop .inv .0)
+    arrays-relations (start (l .before) .pre .reads) (l .loop .inv .0)
 
 type-forms-requires : tie.Need-type-forms-requires Inv-loop μ-loop
 type-forms-requires c κs =

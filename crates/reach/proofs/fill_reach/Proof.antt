@@ -1,4 +1,3 @@
-use native.Mathlib.Omega.{arith}
 use borrow.Author.Needs.{needs}
 use Rattle.report.proofs.FormedFacts.{counts}
 use Rattle.reach.proofs.ReachRows.{ready-report, walk-reached}
