@@ -9,13 +9,14 @@ use borrow.Author.Tests.{lt-ltb}
 use lib.ListN.{length, getD}
 use lib.Pow.{pow-mono}
 use Rattle.sets.specs.Bits.{bit}
-use Rattle.sets.specs.Rows.{rowBit, rowOf, rowIn, RowsAre}
+use Rattle.sets.specs.Rows.{rowBit, rowIn}
 use Rattle.sets.proofs.ListLaws.{table-at}
 use Rattle.sets.proofs.RowLaws.{rowBit-rowOf, bit-within}
 use Rattle.report.specs.Tables.{Tables, relationExpression, expressionCount, relationCount, queryCount}
 use Rattle.report.specs.Typing.{at, taken, present, reached}
 use Rattle.report.proofs.FormedFacts.{relation-expression}
 use Rattle.report.proofs.StepLaws.{taken-below}
+use Rattle.conditions.specs.Conditions.{ReachFilled}
 use Rattle.at_configuration.specs.AtConfiguration.{AtReads, PresentReads, PresentReadable}
 
 -- one bit of row x
@@ -43,7 +44,7 @@ module _ {T : Tables} {conditions : List ℕ} {c : ℕ} (R : AtReads T condition
       taken-in = rw taken-is (taken-below (at T c e) l)
 
   -- a query form has a reach row, and the row has c where c reaches the form
-  module _ {reach : List ℕ} (W : RowsAre 16 (queryCount T) (λ q. rowOf 16 (λ d. reached T d q)) reach) {q : ℕ} (h : q < queryCount T) where
+  module _ {reach : List ℕ} (W : ReachFilled T reach) {q : ℕ} (h : q < queryCount T) where
     pub reach-row : (q * 16 + 16 ≤ length reach) × (c < 1024)
     reach-row = (let m = W .room in omega arith, narrow)
 

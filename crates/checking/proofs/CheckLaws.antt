@@ -78,7 +78,10 @@ module _ {T : Tables} {v : Verdict} {lentConditions lentReach lentColumns condit
   meaning-refused f = record { answers = J .judged .answers; shows = ap (λ (x : Verdict). after x (columnRows T) lent) (sym f) }
 
   pub meaning-accepted : v ≡ Verdict.Accepted → {rows : List ℕ} → rows ≡ columns → Meant T Verdict.Accepted lent rows
-  meaning-accepted f e = record { answers = sym f ∙ J .judged .answers; shows = e ∙ J .judged .shows ∙ ap (λ (x : Verdict). after x (columnRows T) lentColumns) early }
+  meaning-accepted f e = record {
+    answers = sym f ∙ J .judged .answers;
+    shows = e ∙ J .judged .shows ∙ ap (λ (x : Verdict). after x (columnRows T) lentColumns) early;
+  }
     where
       early : modelAndSchemaCheck T ≡ Verdict.Accepted
       early = both-accepted (modelAndSchemaCheck T) (typingCheck T) (sym (J .judged .answers) ∙ f) .0

@@ -4,9 +4,10 @@ use mathlib.Core.Path.{_≡_}
 use mathlib.Core.List.{List}
 use lib.ListN.{length}
 use Rattle.sets.specs.Lists.{concat}
-use Rattle.sets.specs.Rows.{rowOf, rowIn, within}
-use Rattle.report.specs.Tables.{Tables, entriesOfRelations, entriesOfProjects}
+use Rattle.sets.specs.Rows.{rowOf, rowIn, within, RowsAre}
+use Rattle.report.specs.Tables.{Tables, queryCount, entriesOfRelations, entriesOfProjects}
 use Rattle.report.specs.Expressions.{holds, permitted}
+use Rattle.report.specs.Typing.{reached}
 use Rattle.report.specs.FormChecks.{expressionsCheck}
 use Rattle.report.specs.Formed.{Formed}
 use Rattle.report.specs.declared.Verdict.{Verdict}
@@ -43,6 +44,13 @@ pub record Prepared (T : Tables) (conditions relationEntries projectEntries rela
   pub relationsAre : relations ≡ T .relations
   pub comparisonsAre : comparisons ≡ T .comparisons
   pub queriesAre : queries ≡ T .queries
+
+-- the row of the configurations that reach query form q, and that `reach` starts with those of all query forms
+abbrev pub reachRow : Tables → ℕ → List ℕ
+reachRow T q = rowOf 16 (λ c. reached T c q)
+
+abbrev pub ReachFilled : Tables → List ℕ → Type 0
+ReachFilled T = RowsAre 16 (queryCount T) (reachRow T)
 
 -- the expression rows, the permitted configurations, the relations' entries and table 2 of tables that have passed the form checks
 pub record SchemaReads (T : Tables) (rows permits entries relations : List ℕ) : Type 0 where

@@ -3,16 +3,15 @@ use Prim.Native.Nat.{ℕ, _<_, _≤_}
 use mathlib.Core.Path.{_≡_}
 use mathlib.Core.List.{List, _++_}
 use lib.ListN.{length}
-use Rattle.sets.specs.Rows.{rowOf, RowsAre}
+use Rattle.sets.specs.Rows.{rowOf}
 use Rattle.sets.specs.Writing.{Room}
-use Rattle.report.specs.Tables.{Tables, queryCount}
+use Rattle.report.specs.Tables.{Tables}
 use Rattle.report.specs.Expressions.{configurations, permitted}
-use Rattle.report.specs.Typing.{reached}
 use Rattle.report.specs.Verdicts.{firstOf}
 use Rattle.report.specs.Calls.{permittedCondition, roomConditions}
 use Rattle.report.specs.Formed.{Formed}
 use Rattle.report.specs.declared.Verdict.{Verdict}
-use Rattle.conditions.specs.Conditions.{Conditioned, Prepared}
+use Rattle.conditions.specs.Conditions.{Conditioned, Prepared, ReachFilled}
 use Rattle.at_configuration.specs.AtConfiguration.{RelationReads}
 use Rattle.kept_lists.specs.Keeping.{relationLists, projectLists, ProjectReads}
 use Rattle.configuring.specs.Promises.{Rooms}
@@ -40,7 +39,7 @@ pub record ConfigureReads (T : Tables) (model : ℕ) (conditions reach entries r
   pub formed : Formed T
   pub number : model ≡ T .model
   pub filled : Conditioned T conditions
-  pub reaching : RowsAre 16 (queryCount T) (λ q. rowOf 16 (λ d. reached T d q)) reach
+  pub reaching : ReachFilled T reach
   pub source : SourceReads T entries relations comparisons queries
 
 pub record ConfigureReadable (model : ℕ) (conditions reach entries relations comparisons queries : List ℕ) : Type 0 where
@@ -61,7 +60,7 @@ pub record EntriesWritable (conditions reach relationEntries projectEntries rela
 pub record KeptReads (T : Tables) (conditions reach relationEntries projectEntries relations comparisons queries : List ℕ) (c : ℕ) : Type 0 where
   pub prepared : Prepared T conditions relationEntries projectEntries relations comparisons queries
   pub inside : c < configurations T
-  pub reaching : RowsAre 16 (queryCount T) (λ q. rowOf 16 (λ d. reached T d q)) reach
+  pub reaching : ReachFilled T reach
 
 pub record KeptWritable (conditions reach relationEntries projectEntries relations comparisons queries : List ℕ) (c : ℕ)
     (newEntries newRelations newComparisons newQueries : List ℕ) : Type 0 where

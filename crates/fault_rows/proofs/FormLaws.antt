@@ -17,7 +17,7 @@ use Rattle.report.specs.Typing.{at, leads, present, names, projectSet, setOf, r
 use Rattle.report.specs.Formed.{Formed, QueryLower}
 use Rattle.report.specs.declared.Query.{Query}
 use Rattle.report.proofs.FormedFacts.{query-at, relation-expression}
-use Rattle.conditions.specs.Conditions.{Conditioned}
+use Rattle.conditions.specs.Conditions.{Conditioned, reachRow}
 use Rattle.attribute_rows.specs.AttributeRows.{hasRow, listRow, namedRow, setRow}
 use Rattle.attribute_rows.proofs.AttributeLaws.{row-same, has-none, has-and}
 use Rattle.fault_rows.specs.FaultRows.{faultRow}
@@ -64,10 +64,6 @@ row-if p true = rowOf-same 16 p (λ c. p c && true) (λ c h. sym (and-true (p c)
 row-if p false = rowOf-same 16 (λ c. false) (λ c. p c && false) (λ c h. sym (and-false (p c)))
 
 -- ---- one form, cut by what reaches it: a configuration that reaches a form is one of the features' configurations
-
--- the configurations that reach form q
-abbrev reachRow : Tables → ℕ → List ℕ
-reachRow T q = rowOf 16 (λ c. reached T c q)
 
 -- a row of attribute a
 cut-row : (T : Tables) (q a : ℕ) (set : ℕ → ℕ) {row : List ℕ} → row ≡ hasRow T a set

@@ -7,13 +7,13 @@ use lib.ListN.{length, replicate}
 use Rattle.sets.specs.Search.{someBelow}
 use Rattle.sets.specs.Lists.{concat}
 use Rattle.sets.specs.Bits.{bit}
-use Rattle.sets.specs.Rows.{rowOf, within, RowsAre}
+use Rattle.sets.specs.Rows.{rowOf, within}
 use Rattle.report.specs.Tables.{Tables, relationCount, queryCount}
 use Rattle.report.specs.Expressions.{permitted}
 use Rattle.report.specs.Typing.{reached, faults}
 use Rattle.report.specs.ColumnRows.{hasColumn}
 use Rattle.report.specs.Configuring.{written}
-use Rattle.conditions.specs.Conditions.{Prepared}
+use Rattle.conditions.specs.Conditions.{Prepared, ReachFilled}
 
 module _ (T : Tables) where
   -- the configurations that reach form q, and at which item a is at fault in it
@@ -34,7 +34,7 @@ pub record FailReads (T : Tables) (conditions full permits reach relationEntries
   pub prepared : Prepared T conditions relationEntries projectEntries relations comparisons queries
   pub whole : full ≡ rowOf 16 (within (T .features) (λ c. true))
   pub permitting : permits ≡ rowOf 16 (permitted T)
-  pub reaching : RowsAre 16 (queryCount T) (λ q. rowOf 16 (λ c. reached T c q)) reach
+  pub reaching : ReachFilled T reach
 
 -- there are such tables, `faults` has only zeros and room for a row a form, and `columns` room for a row an item
 pub record FailReadable (conditions full permits reach relationEntries projectEntries relations comparisons queries : List ℕ) (items : ℕ)

@@ -12,7 +12,7 @@ use Rattle.report.specs.Typing.{reached}
 use Rattle.report.specs.Configuring.{written}
 use Rattle.report.specs.Formed.{Formed, QueryLower}
 use Rattle.report.specs.declared.Query.{Query}
-use Rattle.conditions.specs.Conditions.{Conditioned}
+use Rattle.conditions.specs.Conditions.{Conditioned, ReachFilled}
 use Rattle.attribute_rows.specs.AttributeRows.{relationRow, namedRow, setRow}
 use Rattle.fault_rows.specs.FaultRows.{faultyRow}
 
@@ -59,7 +59,7 @@ pub record FormReads (T : Tables) (conditions projectEntries relations queries r
   pub entriesAre : projectEntries ≡ entriesOfProjects T
   pub relationsAre : relations ≡ T .relations
   pub queriesAre : queries ≡ T .queries
-  pub reaching : RowsAre 16 (queryCount T) (λ q. rowOf 16 (λ c. reached T c q)) reach
+  pub reaching : ReachFilled T reach
   pub compared : RowsAre 16 (comparisonCount T) (namedRow T a) named
   pub related : RowsAre 16 (relationCount T) (relationRow T a) relationRows
   pub faulty : RowsAre 16 (queryCount T) (faultyRow T a) faults

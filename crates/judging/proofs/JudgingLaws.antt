@@ -6,10 +6,9 @@ use mathlib.Core.List.{List}
 use native.Mathlib.Nat.{le-refl, le-max-left, le-max-right, max-le}
 use native.Mathlib.Omega.{arith}
 use lib.ListN.{length, take, drop, replicate}
-use Rattle.sets.specs.Rows.{rowOf, rowIn, rowIsEmpty, within, RowsAre}
+use Rattle.sets.specs.Rows.{rowOf, rowIn, rowIsEmpty, within}
 use Rattle.report.specs.Tables.{Tables, expressionCount, relationCount, queryCount, relationsEnd}
 use Rattle.report.specs.Expressions.{permitted}
-use Rattle.report.specs.Typing.{reached}
 use Rattle.report.specs.ColumnRows.{columnRows}
 use Rattle.report.specs.Configuring.{written}
 use Rattle.report.specs.Verdicts.{refusal, refuseIf, orElse, firstOf, after}
@@ -23,7 +22,7 @@ use Rattle.report.proofs.Formed.{formed}
 use Rattle.report.proofs.FormedFacts.{counts}
 use Rattle.report.proofs.VerdictLaws.{or-else-assoc, both-accepted, then-next, then-refused}
 use Rattle.report.proofs.FirstFault.{answer-run}
-use Rattle.conditions.specs.Conditions.{expressionRows, Conditioned, SchemaReads}
+use Rattle.conditions.specs.Conditions.{expressionRows, Conditioned, SchemaReads, ReachFilled}
 use Rattle.conditions.proofs.FillLaws.{filled}
 use Rattle.conditions.proofs.PermittedLaws.{model-check, model-row}
 use Rattle.conditions.proofs.PreparedLaws.{prepare}
@@ -182,7 +181,7 @@ module _ {T : Tables} {v : Verdict} (forms : v ≡ formCheck T) {lentConditions 
 pub record Rows (T : Tables) (conditions reach columns : List ℕ) : Type 0 where
   pub formed : Formed T
   pub filled : Conditioned T conditions
-  pub reaching : RowsAre 16 (queryCount T) (λ q. rowOf 16 (λ c. reached T c q)) reach
+  pub reaching : ReachFilled T reach
   pub shows : columns ≡ columnRows T
 
 typed-rows : {T : Tables} {v : Verdict} {lentConditions lentReach lentColumns conditions reach columns : List ℕ}

@@ -4,12 +4,11 @@ use mathlib.Core.Path.{_≡_}
 use mathlib.Core.List.{List}
 use lib.ListN.{length}
 use Rattle.sets.specs.Lists.{kept, NumbersAre}
-use Rattle.sets.specs.Rows.{rowOf, RowsAre}
 use Rattle.sets.specs.Writing.{Room}
 use Rattle.report.specs.Tables.{Tables, comparison, query, comparisonCount, queryCount, entriesOfProjects}
-use Rattle.report.specs.Typing.{reached}
 use Rattle.report.specs.Configuring.{comparisonKept, queryKept, newComparison, newQuery, comparisonFormOf, queryFormOf}
 use Rattle.report.specs.Formed.{Formed}
+use Rattle.conditions.specs.Conditions.{ReachFilled}
 use Rattle.at_configuration.specs.AtConfiguration.{AtReads}
 
 -- ---- what is written, of tables T at configuration c: parts of `configured`
@@ -38,7 +37,7 @@ pub record ComparisonFormWritable (comparisons numbers out : List ℕ) : Type 0 
 -- table 4, at a configuration, with the configurations that reach each form
 pub record QueryReads (T : Tables) (conditions reach queries : List ℕ) (c : ℕ) : Type 0 where
   pub reads : AtReads T conditions c
-  pub reaching : RowsAre 16 (queryCount T) (λ q. rowOf 16 (λ d. reached T d q)) reach
+  pub reaching : ReachFilled T reach
   pub queriesAre : queries ≡ T .queries
 
 pub record QueryNumberable (conditions reach queries : List ℕ) (c : ℕ) (numbers : List ℕ) : Type 0 where

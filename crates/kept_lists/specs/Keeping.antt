@@ -3,11 +3,11 @@ use Prim.Native.Nat.{ℕ, _+_}
 use mathlib.Core.Path.{_≡_}
 use mathlib.Core.List.{List}
 use Rattle.sets.specs.Lists.{kept}
-use Rattle.sets.specs.Rows.{rowOf, RowsAre}
 use Rattle.sets.specs.Writing.{Room}
 use Rattle.report.specs.Tables.{Tables, query, relationCount, queryCount, entriesOfProjects}
-use Rattle.report.specs.Typing.{present, reached}
+use Rattle.report.specs.Typing.{present}
 use Rattle.report.specs.Configuring.{queryKept, keptList, relationList, projectListOf, relationForm}
+use Rattle.conditions.specs.Conditions.{ReachFilled}
 use Rattle.at_configuration.specs.AtConfiguration.{AtReads, ListReads, RelationReads}
 
 -- ---- what is written, of tables T at configuration c: parts of `configured`
@@ -43,7 +43,7 @@ pub record KeptRelationWritable (f : Tables → ℕ → List ℕ) (conditions en
 -- the project forms' entries and table 4, with the configurations that reach each form
 pub record ProjectReads (T : Tables) (conditions reach entries queries : List ℕ) (c : ℕ) : Type 0 where
   pub reads : AtReads T conditions c
-  pub reaching : RowsAre 16 (queryCount T) (λ q. rowOf 16 (λ d. reached T d q)) reach
+  pub reaching : ReachFilled T reach
   pub entriesAre : entries ≡ entriesOfProjects T
   pub queriesAre : queries ≡ T .queries
 

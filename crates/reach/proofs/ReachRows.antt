@@ -5,13 +5,14 @@ use mathlib.Core.Bool.{Bool, _&&_, _||_}
 use mathlib.Core.List.{List}
 use native.Mathlib.Omega.{arith}
 use lib.ListN.{length, getD, replicate, length-replicate}
-use Rattle.sets.specs.Rows.{rowBit, rowOf, rowIn, RowsAre}
+use Rattle.sets.specs.Rows.{rowBit, rowOf, rowIn}
 use Rattle.sets.proofs.RowLaws.{rowBit-rowOf, rowBit-none, rowOf-same, rowOf-row}
 use Rattle.report.specs.Tables.{Tables, queryCount, report}
 use Rattle.report.specs.Expressions.{permitted}
 use Rattle.report.specs.Typing.{leads, reached}
 use Rattle.report.proofs.FormedFacts.{report-in}
 use Rattle.report.proofs.TypingLaws.{permitted-within}
+use Rattle.conditions.specs.Conditions.{ReachFilled}
 use Rattle.reach.specs.Reach.{joined, reachRows, ReachReads, ReachReadable, WalkReads, WalkReady, Walked}
 use Rattle.reach.proofs.JoinLaws.{row-of}
 
@@ -57,7 +58,7 @@ ready-report A size = record {
 
 -- row x of the reach rows has the configurations that reach form x
 pub reach-rows : (T : Tables) {words : ℕ} → queryCount T * 16 ≤ words → {rows : List ℕ} → rows ≡ reachRows T words
-    → RowsAre 16 (queryCount T) (λ q. rowOf 16 (λ c. reached T c q)) rows
+    → ReachFilled T rows
 unfolding reachRows
 reach-rows T {words} room e = record {
   room = let l = ap length e ∙ rowOf-row words (λ i. reached T (i % 1024) (i / 1024)) .size in omega arith;
