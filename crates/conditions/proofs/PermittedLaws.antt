@@ -12,13 +12,13 @@ use Rattle.sets.specs.Search.{someBelow}
 use Rattle.sets.specs.Rows.{rowOf, rowIn, rowIntersect, rowIsEmpty, within}
 use Rattle.sets.proofs.SearchLaws.{some-at, some-none, none-some, at-some}
 use Rattle.sets.proofs.RowLaws.{rowOf-same, within-out, intersect-rowOf, empty-rowOf}
-use Rattle.report.specs.Tables.{Tables, expressionCount, entriesOfRelations}
+use Rattle.report.specs.Tables.{Tables, expressionCount}
 use Rattle.report.specs.Expressions.{holds, permitted}
 use Rattle.report.specs.Typing.{at}
 use Rattle.report.specs.Verdicts.{refusal, refuseIf}
 use Rattle.report.specs.Checks.{somewhere, modelCheck}
 use Rattle.report.specs.Formed.{Formed}
-use Rattle.conditions.specs.Conditions.{Conditioned, SchemaReads}
+use Rattle.conditions.specs.Conditions.{Conditioned}
 
 -- a test that fails from m on
 some-narrow : (test : ℕ → Bool) (m n : ℕ) → m ≤ n → ((k : ℕ) → m ≤ k → test k ≡ false) → someBelow test n ≡ someBelow test m
@@ -82,12 +82,10 @@ module _ {T : Tables} (F : Formed T) {rows : List ℕ} (L : Conditioned T rows) 
   meet-row p is e h = ap₂ (rowIntersect 16) is (L .each e h) ∙ meet-within T p (λ c. at T c e)
 
   -- the row of the model is that of the permitted configurations
-  pub model-room : T .model * 16 + 16 ≤ length rows
-  model-room = let m = L .room in let i = F .modelIn in omega arith
+  module _ {model : ℕ} (number : model ≡ T .model) where
+    pub model-room : model * 16 + 16 ≤ length rows
+    model-room = let m = L .room in let i = F .modelIn in omega arith
 
-  pub model-row : rowIn 16 rows (T .model) ≡ rowOf 16 (permitted T)
-  unfolding permitted
-  model-row = L .each (T .model) (F .modelIn)
-
-  pub reads : {permits : List ℕ} → permits ≡ rowIn 16 rows (T .model) → SchemaReads T rows permits (entriesOfRelations T) (T .relations)
-  reads e = record { formed = F; filled = L; permitting = e ∙ model-row; entriesAre = refl; relationsAre = refl }
+    pub model-row : rowIn 16 rows model ≡ rowOf 16 (permitted T)
+    unfolding permitted
+    model-row = ap (rowIn 16 rows) number ∙ L .each (T .model) (F .modelIn)

@@ -202,14 +202,10 @@ module _ {conditions reach relationEntries projectEntries relations comparisons 
 
 module _ {T : Tables} {model : ℕ} {conditions reach entries relations comparisons queries : List ℕ}
     (R : ConfigureReads T model conditions reach entries relations comparisons queries) where
-  -- the expression rows have that of the model, which is that of the permitted configurations
-  pub model-room : model * 16 + 16 ≤ length conditions
-  model-room = let m = R .filled .room in let i = R .formed .modelIn in let e = R .number in omega arith
-
   pub late-reads : {permits : List ℕ} → permits ≡ rowIn 16 conditions model → LateReads T permits entries relations comparisons queries
   late-reads load = record {
     few = R .formed .few;
-    permitting = load ∙ ap (rowIn 16 conditions) (R .number) ∙ model-row (R .formed) (R .filled);
+    permitting = load ∙ model-row (R .formed) (R .filled) (R .number);
     source = R .source;
   }
 

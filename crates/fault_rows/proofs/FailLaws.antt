@@ -24,7 +24,7 @@ use Rattle.attribute_rows.specs.AttributeRows.{relationRow, namedRow, RelationR
 use Rattle.attribute_rows.proofs.AttributeLaws.{relations-are, named-are}
 use Rattle.attribute_rows.proofs.FillLaws.{RowsFilling, filling-none, filling-more, filling-all}
 use Rattle.fault_rows.specs.FaultRows.{faultyRow, columnRow, FailReads, FailReadable, FailsFilled}
-use Rattle.fault_rows.specs.FaultRules.{FormReads, FormReadable, FormsFilled, storedColumn, ColumnRead}
+use Rattle.fault_rows.specs.FaultRules.{FormRowsReads, FormRowsReadable, FormsFilled, storedColumn, ColumnRead}
 use Rattle.fault_rows.proofs.TypeLaws.{faulty-wide}
 
 -- ---- what the rows of one attribute are worked out from, and room for them
@@ -163,7 +163,7 @@ module _ {conditions full permits reach relationEntries projectEntries relations
         (relates : (T : Tables) → RelationRowReads T conditions relationEntries relations
         → relationRows ≡ written (concat (relationCount T) (relationRow T a)) oldRelated) where
       failing-reads : {T : Tables} → FailReads T conditions full permits reach relationEntries projectEntries relations comparisons queries
-          → FormReads T conditions projectEntries relations queries reach named relationRows a faults
+          → FormRowsReads T conditions projectEntries relations queries reach named relationRows a faults
       failing-reads {T} R = record {
         formed = R .prepared .formed;
         filled = R .prepared .filled;
@@ -176,12 +176,12 @@ module _ {conditions full permits reach relationEntries projectEntries relations
         faulty = faulty-rows T a lent (S .faulty T R);
       }
 
-      pub failing-forms : FormReadable conditions projectEntries relations queries reach named relationRows a oldSets faults
+      pub failing-forms : FormRowsReadable conditions projectEntries relations queries reach named relationRows a oldSets faults
       failing-forms = record { tables = A .tables; reads = failing-reads (A .reads); room = arrays-sets (A .reads) arrays }
 
       -- and of the forms
       module _ {sets after : List ℕ}
-          (forms : (T : Tables) → FormReads T conditions projectEntries relations queries reach named relationRows a faults
+          (forms : (T : Tables) → FormRowsReads T conditions projectEntries relations queries reach named relationRows a faults
           → FormsFilled T a sets faults after)
           (h : a < items) where
         pub failing-column : ColumnRead queries sets a columns

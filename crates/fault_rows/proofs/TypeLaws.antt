@@ -24,7 +24,7 @@ use Rattle.attribute_rows.proofs.AttributeLaws.{set-wide, sets-are}
 use Rattle.attribute_rows.proofs.FillLaws.{RowsFilling, filling-none, filling-more, filling-all}
 use Rattle.attribute_rows.proofs.SetLaws.{set-read, set-is}
 use Rattle.fault_rows.specs.FaultRows.{faultRow, faultyRow}
-use Rattle.fault_rows.specs.FaultRules.{faultStep, FaultRead, FormReads, FormReadable, FormsFilled}
+use Rattle.fault_rows.specs.FaultRules.{faultStep, FaultRead, FormRowsReads, FormRowsReadable, FormsFilled}
 use Rattle.fault_rows.proofs.FormLaws.{fault-read, fault-is}
 
 -- one item more
@@ -54,9 +54,9 @@ faulty-wide T items q = rowOf-row 16 (λ c. reached T c q && someBelow (bit (fau
 pub record FormsTyping (conditions projectEntries relations queries reach named relationRows : List ℕ) (a : ℕ) (before sets lent faults : List ℕ)
     (q start : ℕ)
     : Type 0 where
-  pub shaped : RowsFilling (λ T. FormReads T conditions projectEntries relations queries reach named relationRows a lent) setRow a
+  pub shaped : RowsFilling (λ T. FormRowsReads T conditions projectEntries relations queries reach named relationRows a lent) setRow a
       (length queries / 4) before sets q
-  pub joined : RowsFilling (λ T. FormReads T conditions projectEntries relations queries reach named relationRows a lent)
+  pub joined : RowsFilling (λ T. FormRowsReads T conditions projectEntries relations queries reach named relationRows a lent)
       (λ T x k. faultyRow T (x + 1) k) a (length queries / 4) lent faults q
   pub rest : (k : ℕ) → q ≤ k → rowIn 16 faults k ≡ rowIn 16 lent k
   pub starts : start ≡ projectedBefore queries q
@@ -68,7 +68,7 @@ typing-none = record { shaped = filling-none; joined = filling-none; rest = λ k
 module _ {conditions projectEntries relations queries reach named relationRows : List ℕ} {a : ℕ} {before sets lent faults : List ℕ} {q start : ℕ}
     (S : FormsTyping conditions projectEntries relations queries reach named relationRows a before sets lent faults q start) where
   module _ (h : q < length queries / 4) where
-    module _ {T : Tables} (R : FormReads T conditions projectEntries relations queries reach named relationRows a lent) where
+    module _ {T : Tables} (R : FormRowsReads T conditions projectEntries relations queries reach named relationRows a lent) where
       in-table : q < queryCount T
       in-table = rw (R .queriesAre) at h
 
@@ -76,7 +76,7 @@ module _ {conditions projectEntries relations queries reach named relationRows :
       lower = rows-are 16 q (setRow T a) (λ k l. set-wide T a k) _ (S .shaped .filled T R)
 
     -- form q has its rows
-    module _ (A : FormReadable conditions projectEntries relations queries reach named relationRows a before lent) where
+    module _ (A : FormRowsReadable conditions projectEntries relations queries reach named relationRows a before lent) where
       pub typing-reach : q * 16 + 16 ≤ length reach
       typing-reach = let m = A .reads .reaching .room in let i = in-table (A .reads) in omega arith
 
@@ -88,10 +88,10 @@ module _ {conditions projectEntries relations queries reach named relationRows :
 
     -- the code finds it to be x
     module _ {x : Query} (e : x ≡ query queries q) where
-      form : {T : Tables} → FormReads T conditions projectEntries relations queries reach named relationRows a lent → x ≡ query (T .queries) q
+      form : {T : Tables} → FormRowsReads T conditions projectEntries relations queries reach named relationRows a lent → x ≡ query (T .queries) q
       form R = e ∙ ap (λ (t : List ℕ). query t q) (R .queriesAre)
 
-      module _ (A : FormReadable conditions projectEntries relations queries reach named relationRows a before lent) where
+      module _ (A : FormRowsReadable conditions projectEntries relations queries reach named relationRows a before lent) where
         pub typing-fault : FaultRead conditions relations named sets x
         typing-fault =
             let R = A .reads in
@@ -102,7 +102,7 @@ module _ {conditions projectEntries relations queries reach named relationRows :
 
       -- with n entries
       module _ {n : ℕ} (p : n ≡ projectLength x) where
-        list-reads : {T : Tables} → FormReads T conditions projectEntries relations queries reach named relationRows a lent
+        list-reads : {T : Tables} → FormRowsReads T conditions projectEntries relations queries reach named relationRows a lent
             → ListRowReads T (relationsEnd T) conditions projectEntries start n
         list-reads R = record {
           formed = R .formed;
@@ -111,7 +111,7 @@ module _ {conditions projectEntries relations queries reach named relationRows :
           inside = rw (R .entriesAre, S .starts, R .queriesAre, p, form R) (project-in-part (R .formed) q (in-table R));
         }
 
-        pub typing-list : FormReadable conditions projectEntries relations queries reach named relationRows a before lent
+        pub typing-list : FormRowsReadable conditions projectEntries relations queries reach named relationRows a before lent
             → ListRowReadable conditions projectEntries start n
         typing-list A = record { tables = A .tables; offset = relationsEnd (A .tables); reads = list-reads (A .reads) }
 
@@ -119,7 +119,7 @@ module _ {conditions projectEntries relations queries reach named relationRows :
         module _ {listed : List ℕ}
             (list : (T : Tables) (offset : ℕ) → ListRowReads T offset conditions projectEntries start n
             → listed ≡ listRow T a (offset + start) n) where
-          module _ {T : Tables} (R : FormReads T conditions projectEntries relations queries reach named relationRows a lent) where
+          module _ {T : Tables} (R : FormRowsReads T conditions projectEntries relations queries reach named relationRows a lent) where
             own-list : listed ≡ listRow T a (projectStart T q) (projectLength x)
             own-list =
                 list T (relationsEnd T) (list-reads R)
@@ -137,7 +137,7 @@ module _ {conditions projectEntries relations queries reach named relationRows :
                 (load ∙ R .reaching .each q (in-table R)) step)
                 ∙ join-row T a q
 
-          pub typing-more : FormReadable conditions projectEntries relations queries reach named relationRows a before lent
+          pub typing-more : FormRowsReadable conditions projectEntries relations queries reach named relationRows a before lent
               → {among here row newFaults newSets : List ℕ} → among ≡ rowIn 16 reach q
               → here ≡ rowIntersect 16 (faultStep conditions relations named sets listed among a x) among
               → length newFaults ≡ length faults → newFaults ≡ withRow 16 faults q (rowJoin 16 (rowIn 16 faults q) here)
@@ -158,7 +158,7 @@ module _ {conditions projectEntries relations queries reach named relationRows :
                   ∙ withRow-other 16 faults q (rowJoin 16 (rowIn 16 faults q) here) (join-wide (rowIn 16 faults q) here) (typing-faults A) k i
 
   pub typing-all : length queries / 4 ≤ q → (T : Tables)
-      → FormReads T conditions projectEntries relations queries reach named relationRows a lent → FormsFilled T a sets lent faults
+      → FormRowsReads T conditions projectEntries relations queries reach named relationRows a lent → FormsFilled T a sets lent faults
   typing-all h T R =
       let e = ap (λ (t : List ℕ). length t / 4) (R .queriesAre) in
       record {

@@ -52,7 +52,7 @@ pub record FaultRead (conditions relations named sets : List ℕ) (x : Query) : 
   pub below : form * 16 ≤ length sets
 
 -- what all forms' rows of attribute a and faults of item a are worked out from; `faults` has the rows of the items below a
-pub record FormReads (T : Tables) (conditions projectEntries relations queries reach named relationRows : List ℕ) (a : ℕ) (faults : List ℕ)
+pub record FormRowsReads (T : Tables) (conditions projectEntries relations queries reach named relationRows : List ℕ) (a : ℕ) (faults : List ℕ)
     : Type 0 where
   pub formed : Formed T
   pub filled : Conditioned T conditions
@@ -65,9 +65,9 @@ pub record FormReads (T : Tables) (conditions projectEntries relations queries r
   pub faulty : RowsAre 16 (queryCount T) (faultyRow T a) faults
 
 -- there are such tables, and `sets` has room for a row a form
-pub record FormReadable (conditions projectEntries relations queries reach named relationRows : List ℕ) (a : ℕ) (sets faults : List ℕ) : Type 0 where
+pub record FormRowsReadable (conditions projectEntries relations queries reach named relationRows : List ℕ) (a : ℕ) (sets faults : List ℕ) : Type 0 where
   pub tables : Tables
-  pub reads : FormReads tables conditions projectEntries relations queries reach named relationRows a faults
+  pub reads : FormRowsReads tables conditions projectEntries relations queries reach named relationRows a faults
   pub room : length queries / 4 * 16 ≤ length sets
 
 -- what is filled in: the forms' rows of attribute a, and over the words that were lent the fault rows with item a besides

@@ -16,7 +16,7 @@ ghost use lib.ListN.{length};
 ghost use Rattle.sets.specs.Rows.{rowIn, rowJoin, rowIntersect, rowMinus, withRow};
 ghost use Rattle.report.specs.Tables.{Tables};
 ghost use Rattle.fault_rows.specs.FaultRows.{FailReads, FailReadable, FailsFilled};
-ghost use Rattle.fault_rows.specs.FaultRules.{unequalRow, absentRow, AbsentRead, faultStep, FaultRead, FormReads, FormReadable, FormsFilled};
+ghost use Rattle.fault_rows.specs.FaultRules.{unequalRow, absentRow, AbsentRead, faultStep, FaultRead, FormRowsReads, FormRowsReadable, FormsFilled};
 ghost use Rattle.fault_rows.specs.FaultRules.{storedColumn, ColumnRead};
 
 // The configurations at which row b or row d has it, and not both.
@@ -130,11 +130,11 @@ fn type_forms(
     sets: &mut [u64],
     faults: &mut [u64],
 )
-    requires { ⌜ FormReadable (now conditions) (now «project_entries») (now relations) (now queries) (now reach) (now named) (now «relation_rows») a
+    requires { ⌜ FormRowsReadable (now conditions) (now «project_entries») (now relations) (now queries) (now reach) (now named) (now «relation_rows») a
         (now sets) (now faults) ⌝ }
     ensures { λ _.
         ⌜ ((T : Tables)
-        → FormReads T (now (conditions .entry)) (now («project_entries» .entry)) (now (relations .entry)) (now (queries .entry))
+        → FormRowsReads T (now (conditions .entry)) (now («project_entries» .entry)) (now (relations .entry)) (now (queries .entry))
         (now (reach .entry)) (now (named .entry)) (now («relation_rows» .entry)) a (now (faults .entry))
         → FormsFilled T a (now (sets .exit)) (now (faults .entry)) (now (faults .exit))) ⌝ }
 {

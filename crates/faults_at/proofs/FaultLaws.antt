@@ -15,11 +15,11 @@ use Rattle.faults_at.specs.FaultsAt.{FaultsReads}
 use Rattle.at_configuration.specs.AtConfiguration.{PresentReads, PresentReadable, RelationReads, ComparisonReads, ComparisonNumberable}
 use Rattle.at_configuration.proofs.ListLaws.{form-lower}
 use Rattle.at_configuration.proofs.PreparedLaws.{at-reads, relation-reads, comparison-reads}
-use Rattle.faults_at.specs.SetsAt.{presentSet, RelationReadable, QueryReads, QueryReadable, SetsFilled, FormReads}
+use Rattle.faults_at.specs.SetsAt.{presentSet, RelationSetsReadable, SetsReads, SetsReadable, SetsFilled, FormFaultsReads}
 
 -- a relation that a form names is in table 2
 module _ {T : Tables} {q : ℕ} {conditions entries relations : List ℕ} {c : ℕ} {named sets : List ℕ} {start : ℕ} {x : Query}
-    (R : FormReads T q conditions entries relations c named sets start x) where
+    (R : FormFaultsReads T q conditions entries relations c named sets start x) where
   pub form-present : PresentReads T conditions relations c
   form-present = record { reads = R .at .reads; relationsAre = R .relationsAre }
 
@@ -43,7 +43,7 @@ module _ {T : Tables} {conditions relationEntries projectEntries relations compa
       room = rw (R .prepared .comparisonsAre) (let m = counts (R .prepared .formed) .most3 in omega arith);
     }
 
-    pub readable-relations : 32 ≤ length lent → RelationReadable conditions relationEntries relations c lent
+    pub readable-relations : 32 ≤ length lent → RelationSetsReadable conditions relationEntries relations c lent
     readable-relations h = record {
       tables = T;
       reads = reads-relations;
@@ -51,7 +51,7 @@ module _ {T : Tables} {conditions relationEntries projectEntries relations compa
     }
 
   module _ (lent : List ℕ) {relationSets : List ℕ} (related : relationSets ≡ written (table (relationCount T) (presentSet T c)) lent) where
-    reads-queries : QueryReads T conditions projectEntries queries relationSets c
+    reads-queries : SetsReads T conditions projectEntries queries relationSets c
     reads-queries = record {
       reads = at-reads (R .prepared) (R .configuration);
       entriesAre = R .prepared .projectEntriesAre;
@@ -59,7 +59,7 @@ module _ {T : Tables} {conditions relationEntries projectEntries relations compa
       related = numbers-are (relationCount T) (presentSet T c) _ related;
     }
 
-    pub readable-queries : {lent : List ℕ} → 256 ≤ length lent → QueryReadable conditions projectEntries queries relationSets c q lent
+    pub readable-queries : {lent : List ℕ} → 256 ≤ length lent → SetsReadable conditions projectEntries queries relationSets c q lent
     readable-queries h = record {
       tables = T;
       reads = reads-queries;
@@ -80,8 +80,8 @@ module _ {T : Tables} {conditions relationEntries projectEntries relations compa
         → ((T : Tables) → ComparisonReads T conditions comparisons c → named ≡ written (table (comparisonCount T) (names T c)) lent₃)
         → ((T : Tables) → RelationReads T conditions relationEntries relations c
         → relationSets ≡ written (table (relationCount T) (presentSet T c)) lent₂)
-        → ((T : Tables) → QueryReads T conditions projectEntries queries relationSets c → SetsFilled T c q lent₄ sets start)
-        → FormReads T q conditions projectEntries relations c named sets start x
+        → ((T : Tables) → SetsReads T conditions projectEntries queries relationSets c → SetsFilled T c q lent₄ sets start)
+        → FormFaultsReads T q conditions projectEntries relations c named sets start x
     reads-form lent₃ lent₂ compared related formed =
         let S = formed T (reads-queries lent₂ (related T reads-relations)) in
         record {

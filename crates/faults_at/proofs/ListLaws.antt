@@ -14,7 +14,7 @@ use Rattle.report.specs.Typing.{at, listed, present, relationSet}
 use Rattle.report.specs.Configuring.{written}
 use Rattle.at_configuration.specs.AtConfiguration.{ListReads, PresentReads, PresentReadable, RelationReads}
 use Rattle.at_configuration.proofs.ListLaws.{attribute-is, each-entry, reads-present, starts-at, is-long, relation-list}
-use Rattle.faults_at.specs.SetsAt.{presentSet, RelationReadable, SomeRelation}
+use Rattle.faults_at.specs.SetsAt.{presentSet, RelationSetsReadable, RelationSetReadable}
 
 -- ---- one entry more
 
@@ -35,20 +35,20 @@ module _ {T : Tables} {offset : ℕ} {conditions entries : List ℕ} {c start co
 -- ---- the loop over a list
 
 -- of the `count` entries from `start` on the first i are joined
-pub record EntriesJoining (conditions entries : List ℕ) (c start count bits i : ℕ) : Type 0 where
+pub record EntriesListing (conditions entries : List ℕ) (c start count bits i : ℕ) : Type 0 where
   pub most : i ≤ count
   pub joined : (T : Tables) (offset : ℕ) → ListReads T offset conditions entries c start count → bits ≡ listed T c (offset + start) i
 
 module _ {conditions entries : List ℕ} {c start count bits : ℕ} where
-  pub listing-none : bits ≡ 0 → EntriesJoining conditions entries c start count bits 0
+  pub listing-none : bits ≡ 0 → EntriesListing conditions entries c start count bits 0
   unfolding listed
   listing-none e = record { most = omega arith; joined = λ T offset R. e }
 
-  module _ {i : ℕ} (S : EntriesJoining conditions entries c start count bits i) where
+  module _ {i : ℕ} (S : EntriesListing conditions entries c start count bits i) where
     pub listing-more : i < count → {a after : ℕ} {t : Bool} → a ≡ entryAttribute entries (start + i)
         → ((T : Tables) (offset : ℕ) → ListReads T offset conditions entries c start (i + 1) → t ≡ at T c (entryExpression (T .entries) (offset + start + i)))
         → after ≡ cond t (bitOr bits (2 ^ a)) bits
-        → EntriesJoining conditions entries c start count after (i + 1)
+        → EntriesListing conditions entries c start count after (i + 1)
     listing-more h p d e = record {
       most = omega arith;
       joined = λ T offset R. entry-more R h p (d T offset (each-entry R h)) (S .joined T offset R) e;
@@ -68,7 +68,7 @@ pub if-present : {T : Tables} {conditions relations : List ℕ} {c : ℕ} → Pr
     → s ≡ cond (present T c r) x y
 if-present {T} R r p e x y q = q ∙ ap (λ (t : Bool). cond t x y) (sym e ∙ p T R)
 
-module _ {conditions entries relations : List ℕ} {c r start : ℕ} (A : SomeRelation conditions entries relations c r start) where
+module _ {conditions entries relations : List ℕ} {c r start : ℕ} (A : RelationSetReadable conditions entries relations c r start) where
   pub asked-present : PresentReadable conditions relations c (r + 1)
   asked-present = record {
     tables = A .tables;
@@ -86,28 +86,28 @@ module _ {conditions entries relations : List ℕ} {c r start : ℕ} (A : SomeRe
 -- ---- the loop over the relations
 
 -- the sets of those below r stand over `lent`, and the list of r starts at `start`
-pub record RelationsFilling (conditions entries relations : List ℕ) (c : ℕ) (lent relationSets : List ℕ) (r start : ℕ) : Type 0 where
+pub record RelationSetsFilling (conditions entries relations : List ℕ) (c : ℕ) (lent relationSets : List ℕ) (r start : ℕ) : Type 0 where
   pub sets : NumbersFilling (λ T. RelationReads T conditions entries relations c) (λ T. presentSet T c) (length relations / 2) lent relationSets r
   pub starts : start ≡ relationStart relations r
 
-pub related-none : {conditions entries relations : List ℕ} {c : ℕ} {lent : List ℕ} → RelationsFilling conditions entries relations c lent lent 0 0
+pub related-none : {conditions entries relations : List ℕ} {c : ℕ} {lent : List ℕ} → RelationSetsFilling conditions entries relations c lent lent 0 0
 related-none = record { sets = filling-none; starts = refl }
 
 module _ {conditions entries relations : List ℕ} {c : ℕ} {lent relationSets : List ℕ} {r start : ℕ}
-    (S : RelationsFilling conditions entries relations c lent relationSets r start) where
+    (S : RelationSetsFilling conditions entries relations c lent relationSets r start) where
   module _ (h : r < length relations / 2) where
-    pub related-some : RelationReadable conditions entries relations c lent → SomeRelation conditions entries relations c r start
+    pub related-some : RelationSetsReadable conditions entries relations c lent → RelationSetReadable conditions entries relations c r start
     related-some A = record { tables = A .tables; reads = A .reads; inside = h; starts = S .starts }
 
-    pub related-place : RelationReadable conditions entries relations c lent → r < length relationSets
+    pub related-place : RelationSetsReadable conditions entries relations c lent → r < length relationSets
     related-place A = filling-place (S .sets) (A .room) h
 
-    module _ {n : ℕ} (e : n ≡ relationLength relations r) (A : RelationReadable conditions entries relations c lent) where
+    module _ {n : ℕ} (e : n ≡ relationLength relations r) (A : RelationSetsReadable conditions entries relations c lent) where
       pub related-inside : start + n ≤ length entries / 2
       related-inside = relation-list (A .reads) (S .starts) h e .lies
 
       pub related-more : {s : ℕ} → ((T : Tables) → RelationReads T conditions entries relations c → s ≡ presentSet T c r)
-          → RelationsFilling conditions entries relations c lent (set relationSets r s) (r + 1) (start + n)
+          → RelationSetsFilling conditions entries relations c lent (set relationSets r s) (r + 1) (start + n)
       related-more s = record {
         sets = filling-more (S .sets) (A .room) h s;
         starts = ap₂ _+_ (S .starts) e ∙ ap (relationStart relations) (sym (add-one r));

@@ -14,7 +14,7 @@ use Rattle.report.specs.declared.Query.{Query}
 use Rattle.report.proofs.StepLaws.{set-in}
 use Rattle.at_configuration.specs.AtConfiguration.{ListReads, FormAt}
 use Rattle.at_configuration.proofs.ListLaws.{form-list}
-use Rattle.faults_at.specs.SetsAt.{QueryReads, QueryReadable, SetsFilled, QueryAt, SomeQuery}
+use Rattle.faults_at.specs.SetsAt.{SetsReads, SetsReadable, SetsFilled, QueryAt, SomeQuery}
 
 -- the operands of a form are lower
 pub pair-lower : {queries : List ℕ} {q a b : ℕ} → FreePair queries q a b → (a < q) × (b < q)
@@ -33,7 +33,7 @@ module _ {T : Tables} {q : ℕ} {conditions entries : List ℕ} {c start : ℕ} 
 
 -- the sets of the forms below p stand over `lent`, and the list of the next project starts at `start`
 pub record QueriesFilling (conditions entries queries relationSets : List ℕ) (c q : ℕ) (lent sets : List ℕ) (p start : ℕ) : Type 0 where
-  pub formed : NumbersFilling (λ T. QueryReads T conditions entries queries relationSets c) (λ T. setOf T c) q lent sets p
+  pub formed : NumbersFilling (λ T. SetsReads T conditions entries queries relationSets c) (λ T. setOf T c) q lent sets p
   pub starts : start ≡ projectedBefore queries p
 
 pub setting-none : {conditions entries queries relationSets : List ℕ} {c q : ℕ} {lent : List ℕ}
@@ -42,7 +42,7 @@ setting-none = record { formed = filling-none; starts = refl }
 
 module _ {conditions entries queries relationSets : List ℕ} {c q : ℕ} {lent sets : List ℕ} {p start : ℕ}
     (S : QueriesFilling conditions entries queries relationSets c q lent sets p start) where
-  module _ (A : QueryReadable conditions entries queries relationSets c q lent) (h : p < q) where
+  module _ (A : SetsReadable conditions entries queries relationSets c q lent) (h : p < q) where
     pub setting-in : p < length queries / 4
     setting-in = rw (A .reads .queriesAre) (lt-of-lt-of-le h (A .inside))
 
@@ -50,7 +50,7 @@ module _ {conditions entries queries relationSets : List ℕ} {c q : ℕ} {lent 
     setting-place = filling-place (S .formed) (A .room) h
 
     module _ {x : Query} (e : x ≡ query queries p) where
-      setting-here : {T : Tables} → QueryReads T conditions entries queries relationSets c
+      setting-here : {T : Tables} → SetsReads T conditions entries queries relationSets c
           → QueryAt T p conditions entries relationSets c sets start x
       setting-here R = record {
         at = record {
@@ -82,7 +82,7 @@ module _ {conditions entries queries relationSets : List ℕ} {c q : ℕ} {lent 
           starts = ap₂ _+_ (S .starts) (l ∙ ap projectLength e) ∙ ap (projectedBefore queries) (sym (add-one p));
         }
 
-  pub setting-all : q ≤ p → (T : Tables) → QueryReads T conditions entries queries relationSets c → SetsFilled T c q lent sets start
+  pub setting-all : q ≤ p → (T : Tables) → SetsReads T conditions entries queries relationSets c → SetsFilled T c q lent sets start
   setting-all h T R =
       let m : p ≡ q = (let l = S .formed .most in omega arith) in
       record {

@@ -20,13 +20,13 @@ presentSet T c r = cond (present T c r) (relationSet T c r) 0
 -- ---- relations
 
 -- room for the sets of all
-pub record RelationReadable (conditions entries relations : List ℕ) (c : ℕ) (lent : List ℕ) : Type 0 where
+pub record RelationSetsReadable (conditions entries relations : List ℕ) (c : ℕ) (lent : List ℕ) : Type 0 where
   pub tables : Tables
   pub reads : RelationReads tables conditions entries relations c
   pub room : length relations / 2 ≤ length lent
 
 -- relation r, whose list starts at `start`
-pub record SomeRelation (conditions entries relations : List ℕ) (c r start : ℕ) : Type 0 where
+pub record RelationSetReadable (conditions entries relations : List ℕ) (c r start : ℕ) : Type 0 where
   pub tables : Tables
   pub reads : RelationReads tables conditions entries relations c
   pub inside : r < length relations / 2
@@ -49,15 +49,15 @@ pub record SomeComparison (conditions : List ℕ) (c : ℕ) (named : List ℕ) (
 -- ---- query forms
 
 -- the project forms' entries and table 4; `relationSets` has the sets of the relations
-pub record QueryReads (T : Tables) (conditions entries queries relationSets : List ℕ) (c : ℕ) : Type 0 where
+pub record SetsReads (T : Tables) (conditions entries queries relationSets : List ℕ) (c : ℕ) : Type 0 where
   pub reads : AtReads T conditions c
   pub entriesAre : entries ≡ entriesOfProjects T
   pub queriesAre : queries ≡ T .queries
   pub related : NumbersAre (relationCount T) (presentSet T c) relationSets
 
-pub record QueryReadable (conditions entries queries relationSets : List ℕ) (c q : ℕ) (lent : List ℕ) : Type 0 where
+pub record SetsReadable (conditions entries queries relationSets : List ℕ) (c q : ℕ) (lent : List ℕ) : Type 0 where
   pub tables : Tables
-  pub reads : QueryReads tables conditions entries queries relationSets c
+  pub reads : SetsReads tables conditions entries queries relationSets c
   pub inside : q ≤ queryCount tables
   pub room : q ≤ length lent
 
@@ -78,13 +78,13 @@ pub record SomeQuery (conditions entries relationSets : List ℕ) (c : ℕ) (set
   pub at : QueryAt tables number conditions entries relationSets c sets start x
 
 -- x is query form q, `sets` has the sets of lower forms and `named` what the comparisons name; and table 2
-pub record FormReads (T : Tables) (q : ℕ) (conditions entries relations : List ℕ) (c : ℕ) (named sets : List ℕ) (start : ℕ) (x : Query) : Type 0 where
+pub record FormFaultsReads (T : Tables) (q : ℕ) (conditions entries relations : List ℕ) (c : ℕ) (named sets : List ℕ) (start : ℕ) (x : Query) : Type 0 where
   pub at : FormAt T q conditions entries c start x
   pub below : NumbersAre q (setOf T c) sets
   pub relationsAre : relations ≡ T .relations
   pub compared : NumbersAre (comparisonCount T) (names T c) named
 
-pub record FormReadable (conditions entries relations : List ℕ) (c : ℕ) (named sets : List ℕ) (start : ℕ) (x : Query) : Type 0 where
+pub record FormFaultsReadable (conditions entries relations : List ℕ) (c : ℕ) (named sets : List ℕ) (start : ℕ) (x : Query) : Type 0 where
   pub tables : Tables
   pub number : ℕ
-  pub reads : FormReads tables number conditions entries relations c named sets start x
+  pub reads : FormFaultsReads tables number conditions entries relations c named sets start x

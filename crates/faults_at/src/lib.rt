@@ -23,8 +23,8 @@ ghost use Rattle.report.specs.Configuring.{written};
 ghost use Rattle.at_configuration.specs.AtConfiguration.{ListReads, ListReadable, PresentReads, PresentReadable, RelationReads};
 ghost use Rattle.at_configuration.specs.AtConfiguration.{ComparisonReads, ComparisonNumberable};
 ghost use Rattle.faults_at.specs.FaultsAt.{FaultsReads, FaultsReadable};
-ghost use Rattle.faults_at.specs.SetsAt.{presentSet, RelationReadable, SomeRelation, ComparisonAt, SomeComparison};
-ghost use Rattle.faults_at.specs.SetsAt.{QueryReads, QueryReadable, SetsFilled, QueryAt, SomeQuery, FormReads, FormReadable};
+ghost use Rattle.faults_at.specs.SetsAt.{presentSet, RelationSetsReadable, RelationSetReadable, ComparisonAt, SomeComparison};
+ghost use Rattle.faults_at.specs.SetsAt.{SetsReads, SetsReadable, SetsFilled, QueryAt, SomeQuery, FormFaultsReads, FormFaultsReadable};
 
 // The attributes of those entries that hold at c, of the `count` entries from `start` on.
 fn listed_at(
@@ -59,7 +59,7 @@ fn relation_set(
     r: usize,
     start: usize,
 ) -> AttributeSet
-    requires { ⌜ SomeRelation (now conditions) (now entries) (now relations) c r start ⌝ }
+    requires { ⌜ RelationSetReadable (now conditions) (now entries) (now relations) c r start ⌝ }
     ensures { λ s.
         ⌜ ((T : Tables) → RelationReads T (now (conditions .entry)) (now (entries .entry)) (now (relations .entry)) c
         → s .bits ≡ presentSet T c r) ⌝ }
@@ -79,7 +79,7 @@ fn fill_relation_sets(
     c: usize,
     relation_sets: &mut [u64],
 )
-    requires { ⌜ RelationReadable (now conditions) (now entries) (now relations) c (now «relation_sets») ⌝ }
+    requires { ⌜ RelationSetsReadable (now conditions) (now entries) (now relations) c (now «relation_sets») ⌝ }
     ensures { λ _.
         ⌜ ((T : Tables) → RelationReads T (now (conditions .entry)) (now (entries .entry)) (now (relations .entry)) c
         → now («relation_sets» .exit) ≡ written (table (relationCount T) (presentSet T c)) (now («relation_sets» .entry))) ⌝ }
@@ -100,7 +100,7 @@ fn set_in(sets: &[u64], k: usize) -> AttributeSet
     requires { ⌜ k < length (now sets) ⌝ }
     ensures { λ s. ⌜ s .bits ≡ getD (now (sets .entry)) k 0 ⌝ }
 {
-    AttributeSet { bits: sets[k] }
+    AttributeSet::of_bits(sets[k])
 }
 
 // The union of sets a and b.
@@ -108,9 +108,7 @@ fn union_in(sets: &[u64], a: usize, b: usize) -> AttributeSet
     requires { ⌜ (a < length (now sets)) × (b < length (now sets)) ⌝ }
     ensures { λ s. ⌜ s .bits ≡ bitOr (getD (now (sets .entry)) a 0) (getD (now (sets .entry)) b 0) ⌝ }
 {
-    AttributeSet {
-        bits: sets[a] | sets[b],
-    }
+    set_in(sets, a).union(set_in(sets, b))
 }
 
 // The attributes that both sets a and b have.
@@ -118,9 +116,7 @@ fn common_in(sets: &[u64], a: usize, b: usize) -> AttributeSet
     requires { ⌜ (a < length (now sets)) × (b < length (now sets)) ⌝ }
     ensures { λ s. ⌜ s .bits ≡ bitAnd (getD (now (sets .entry)) a 0) (getD (now (sets .entry)) b 0) ⌝ }
 {
-    AttributeSet {
-        bits: sets[a] & sets[b],
-    }
+    set_in(sets, a).intersect(set_in(sets, b))
 }
 
 // The attributes that set a or set b has, and not both.
@@ -128,9 +124,7 @@ fn unequal_in(sets: &[u64], a: usize, b: usize) -> AttributeSet
     requires { ⌜ (a < length (now sets)) × (b < length (now sets)) ⌝ }
     ensures { λ s. ⌜ s .bits ≡ bitXor (getD (now (sets .entry)) a 0) (getD (now (sets .entry)) b 0) ⌝ }
 {
-    AttributeSet {
-        bits: sets[a] ^ sets[b],
-    }
+    set_in(sets, a).unequal(set_in(sets, b))
 }
 
 // The attributes that a comparison names at c, from those that lower ones name.
@@ -212,9 +206,9 @@ fn fill_sets(
     q: usize,
     sets: &mut [u64],
 ) -> usize
-    requires { ⌜ QueryReadable (now conditions) (now entries) (now queries) (now «relation_sets») c q (now sets) ⌝ }
+    requires { ⌜ SetsReadable (now conditions) (now entries) (now queries) (now «relation_sets») c q (now sets) ⌝ }
     ensures { λ start.
-        ⌜ ((T : Tables) → QueryReads T (now (conditions .entry)) (now (entries .entry)) (now (queries .entry)) (now («relation_sets» .entry)) c
+        ⌜ ((T : Tables) → SetsReads T (now (conditions .entry)) (now (entries .entry)) (now (queries .entry)) (now («relation_sets» .entry)) c
         → SetsFilled T c q (now (sets .entry)) (now (sets .exit)) start) ⌝ }
 {
     let mut start = 0;
@@ -253,10 +247,10 @@ fn faults_of(
     sets: &[u64],
     start: usize,
 ) -> AttributeSet
-    requires { ⌜ FormReadable (now conditions) (now entries) (now relations) c (now named) (now sets) start x ⌝ }
+    requires { ⌜ FormFaultsReadable (now conditions) (now entries) (now relations) c (now named) (now sets) start x ⌝ }
     ensures { λ s.
         ⌜ ((T : Tables) (q : ℕ)
-        → FormReads T q (now (conditions .entry)) (now (entries .entry)) (now (relations .entry)) c (now (named .entry)) (now (sets .entry)) start x
+        → FormFaultsReads T q (now (conditions .entry)) (now (entries .entry)) (now (relations .entry)) c (now (named .entry)) (now (sets .entry)) start x
         → s .bits ≡ faultsOf T c q x) ⌝ }
 {
     match x {

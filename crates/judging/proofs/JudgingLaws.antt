@@ -1,5 +1,5 @@
 -- How the parts of judging make its answer, what each part leaves for the next, and what a caller has of tables that pass.
-use Prim.Native.Nat.{ℕ, _+_, _-_, _*_, _/_, _≤_, max}
+use Prim.Native.Nat.{ℕ, _-_, _*_, _/_, _≤_, max}
 use mathlib.Core.Path.{_≡_, refl, sym, ap, _∙_}
 use mathlib.Core.Bool.{true}
 use mathlib.Core.List.{List}
@@ -67,16 +67,12 @@ enough {T} F e f g =
 
 module _ {T : Tables} {n m model : ℕ} {conditions relationEntries projectEntries relations comparisons queries : List ℕ}
     (R : JudgeReads T n m model conditions relationEntries projectEntries relations comparisons queries) where
-  -- the expression rows have that of the model
-  pub model-room : model * 16 + 16 ≤ length conditions
-  model-room = let m = R .prepared .filled .room in let i = R .prepared .formed .modelIn in let e = R .number in omega arith
-
   pub few-features : n ≤ 10
   few-features = let f = R .prepared .formed .few in let e = R .features in omega arith
 
   module _ {permits : List ℕ} (load : permits ≡ rowIn 16 conditions model) where
     permitting : permits ≡ rowOf 16 (permitted T)
-    permitting = load ∙ ap (rowIn 16 conditions) (R .number) ∙ model-row (R .prepared .formed) (R .prepared .filled)
+    permitting = load ∙ model-row (R .prepared .formed) (R .prepared .filled) (R .number)
 
     pub schema-reads : SchemaReads T conditions permits relationEntries relations
     schema-reads = record {

@@ -50,7 +50,7 @@ same-prints e p = rw e p
 module _ {T : Tables} {n model : ℕ} {conditions columns : List ℕ} (R : ColumnReads T n model conditions columns) where
   -- the expression rows have that of the model
   pub columns-room : model * 16 + 16 ≤ length conditions
-  columns-room = let l = model-room (R .formed) (R .filled) in let e = R .modelled in omega arith
+  columns-room = model-room (R .formed) (R .filled) (R .modelled)
 
   -- 1 << n is the number of configurations
   configurations-are : (1 * 2 ^ n) % 2 ^ 64 ≡ configurations T
@@ -76,7 +76,7 @@ module _ {T : Tables} {n model : ℕ} {conditions columns : List ℕ} (R : Colum
     where
       -- the row of the model has the permitted configurations
       permits-are : permits ≡ rowOf 16 (permitted T)
-      permits-are = load ∙ ap (rowIn 16 conditions) (R .modelled) ∙ model-row (R .formed) (R .filled)
+      permits-are = load ∙ model-row (R .formed) (R .filled) (R .modelled)
 
 -- ---- the print of the answer
 

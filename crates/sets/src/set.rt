@@ -3,7 +3,7 @@ use crate::Found;
 ghost use mathlib.Core.Path.{_≡_};
 ghost use mathlib.Core.Bool.{cond};
 ghost use Prim.Native.Nat.{_<_, _^_};
-ghost use lib.Bits.{bitAnd, bitOr};
+ghost use lib.Bits.{bitAnd, bitOr, bitXor};
 ghost use lib.Dec.{eqb};
 ghost use Rattle.sets.specs.Search.{lowest};
 ghost use Rattle.sets.specs.Bits.{bit, difference, memberCount};
@@ -32,6 +32,13 @@ impl AttributeSet {
         ensures { λ r. ⌜ r .bits ≡ 0 ⌝ }
     {
         AttributeSet { bits: 0 }
+    }
+
+    // The set whose attributes are the bits of a word that are 1.
+    pub fn of_bits(bits: u64) -> AttributeSet
+        ensures { λ r. ⌜ r .bits ≡ bits ⌝ }
+    {
+        AttributeSet { bits: bits }
     }
 
     // The set of attribute a alone.
@@ -83,6 +90,15 @@ impl AttributeSet {
     {
         AttributeSet {
             bits: self.bits ^ (self.bits & other.bits),
+        }
+    }
+
+    // The attributes that one of the two sets has, and not both.
+    pub fn unequal(self, other: AttributeSet) -> AttributeSet
+        ensures { λ r. ⌜ r .bits ≡ bitXor (self .bits) (other .bits) ⌝ }
+    {
+        AttributeSet {
+            bits: self.bits ^ other.bits,
         }
     }
 

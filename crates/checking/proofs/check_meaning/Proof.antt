@@ -3,15 +3,21 @@ use Rattle.checking.proofs.CheckLaws.{meaning-refused, meaning-accepted
 use Rattle.checking.proofs.check_meaning.Statement.{statement}
 use Rattle.checking.proofs.check_meaning.Tie as tie
 
+-- places of the code that the needs look back to
+abbrev refused : tie.After-enum-told → tie.After-judge-tables
+refused p = p .before .before .before .before .before
+
+abbrev passed : tie.After-enum-told2 → tie.After-judge-tables
+passed p = p .before .before .before .before .before
+
 returns : tie.Need-returns
-returns c = meaning-refused (c .before .before .before .before .before .judge-tables .ensures) _ (c .enum-told .given .1)
+returns c = meaning-refused (refused c .judge-tables .ensures) _ (c .enum-told .given .1)
 
 returns-2 : tie.Need-returns-2
 returns-2 c =
     let w = c .before .before in
     let t = w .before .before .before in
-    let j = t .before .before .before .before .before in
-    meaning-accepted (j .judge-tables .ensures) _ (t .enum-told2 .given .1) (w .copy-words .ensures)
+    meaning-accepted (passed t .judge-tables .ensures) _ (t .enum-told2 .given .1) (w .copy-words .ensures)
 
 pub check-meaning-spec : {M : Type 1} → statement M
 check-meaning-spec =

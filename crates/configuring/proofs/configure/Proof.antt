@@ -12,6 +12,15 @@ start y = y .before .before .before .before .before .before .before .before .bef
 abbrev typed : tie.After-enum-told → tie.After-typed
 typed t = t .before .before .before .before .before
 
+abbrev refused : tie.After-known-told → tie.After-typed
+refused p = p .before .before .before .before .before .before
+
+abbrev told : tie.After-configure-judged-arg4 → tie.After-enum-told
+told p = p .before .before .before .before .before .before
+
+abbrev configured : tie.After-slice-known8 → tie.After-configure-judged
+configured p = p .before .before .before .before .before .before .before .before
+
 abbrev tables : tie.After-typed → Tables
 tables y =
     let a = start y .args in
@@ -20,21 +29,21 @@ tables y =
 
 returns : tie.Need-returns
 returns c =
-    let y = c .before .before .before .before .before .before in
+    let y = refused c in
     let a = start y .args in
     report-refuses (tables y) (a .c) (a .new-entries .now) (a .new-relations .now) (a .new-comparisons .now) (a .new-queries .now)
     (y .typed .ensures .answers) (c .before .checked .given .1)
 
 configure-judged-requires : tie.Need-configure-judged-requires
 configure-judged-requires c κs =
-    let t = c .before .before .before .before .before .before in
+    let t = told c in
     let y = typed t in
     record { tables = tables y; reads = judged-reads (own-rows (y .typed .ensures) (t .enum-told .given .1)) }
 
 returns-2 : tie.Need-returns-2
 returns-2 c =
-    let j = c .before .before .before .before .before .before .before .before in
-    let t = j .before .before .before .before .before .before .before in
+    let j = configured c in
+    let t = told (j .before) in
     let y = typed t in
     let a = start y .args in
     late-answers (tables y) (a .c) (a .new-entries .now) (a .new-relations .now) (a .new-comparisons .now) (a .new-queries .now)

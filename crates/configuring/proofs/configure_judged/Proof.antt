@@ -4,20 +4,27 @@ use native.Mathlib.Omega.{arith}
 use mathlib.Core.Path.{sym, _∙_}
 use lib.ListN.{length}
 use lib.Seq.{length-take-le}
+use Rattle.conditions.proofs.PermittedLaws.{model-room}
 use Rattle.configuring.proofs.ConfigureLaws.{leaves-refused, late-accepted, written-late}
-use Rattle.configuring.proofs.WriteLaws.{model-room, late-reads, few-relations, split-words, kept-reads}
+use Rattle.configuring.proofs.WriteLaws.{late-reads, few-relations, split-words, kept-reads}
 use Rattle.configuring.proofs.configure_judged.Statement.{statement}
 use Rattle.configuring.proofs.configure_judged.Tie as tie
 
 -- places of the code that the needs look back to
+abbrev first : tie.After-slice-known4 → tie.Start
+first p = p .before .before .before .before .before .before .before .before .before .before
+
 abbrev start : tie.After-load → tie.Start
-start l = l .before .before .before .before .before .before .before .before .before .before .before
+start l = first (l .before)
 
 abbrev load : tie.After-relations-end → tie.After-load
 load e = e .before .before .before .before
 
-abbrev relations-end : tie.After-write-kept → tie.After-relations-end
-relations-end w = w .before .before .before .before .before .before .before
+abbrev relations-end : tie.After-write-kept-arg6 → tie.After-relations-end
+relations-end p = p .before .before .before .before .before .before
+
+abbrev kept : tie.After-slice-known8 → tie.After-write-kept
+kept p = p .before .before .before .before .before .before .before .before
 
 split : (e : tie.After-relations-end) → e .relations-end .result * 2 ≤ length (start (load e) .args .entries .now)
 split e = split-words (start (load e) .pre .reads) (e .relations-end .ensures)
@@ -30,7 +37,7 @@ returns c T R =
 
 write-kept-requires : tie.Need-write-kept-requires
 write-kept-requires c κs =
-    let e = c .before .before .before .before .before .before in
+    let e = relations-end c in
     let t = e .before in
     let m = t .before .before in
     let l = load e in
@@ -42,8 +49,8 @@ write-kept-requires c κs =
 
 returns-2 : tie.Need-returns-2
 returns-2 c T R =
-    let w = c .before .before .before .before .before .before .before .before in
-    let e = relations-end w in
+    let w = kept c in
+    let e = relations-end (w .before) in
     let t = e .before in
     let m = t .before .before in
     let l = load e in
@@ -56,7 +63,7 @@ pub configure-judged-spec : {M : Type 1} → statement M
 configure-judged-spec =
     tie.close
     (tie.spec
-    (λ c κs. model-room (c .before .before .before .before .before .before .before .before .before .before .pre .reads))
+    (λ c κs. let R = first c .pre .reads in model-room (R .formed) (R .filled) (R .number))
     (λ c κs. search needs)
     (λ c. search needs)
     returns

@@ -7,8 +7,11 @@ use Rattle.configuring.proofs.write_kept.Statement.{statement}
 use Rattle.configuring.proofs.write_kept.Tie as tie
 
 -- from each call back to the one before it
+abbrev first : tie.After-write-entries-arg → tie.Start
+first p = p .before .before .before .before .before .before .before .before .before .before .before .before
+
 abbrev start : tie.After-write-entries → tie.Start
-start l = l .before .before .before .before .before .before .before .before .before .before .before .before .before
+start l = first (l .before)
 
 abbrev entries : tie.After-write-relation-forms → tie.After-write-entries
 entries r = r .before .before .before .before
@@ -22,8 +25,11 @@ numbers w = w .before .before .before .before
 abbrev compared : tie.After-number-queries → tie.After-write-comparisons
 compared n = n .before .before .before .before
 
+abbrev number-queries : tie.After-write-queries-arg → tie.After-number-queries
+number-queries p = p .before .before .before .before
+
 abbrev counted : tie.After-write-queries → tie.After-number-queries
-counted w = w .before .before .before .before .before
+counted w = number-queries (w .before)
 
 write-relation-forms-requires : tie.Need-write-relation-forms-requires
 write-relation-forms-requires c κs = relations-writable (start (c .before .before .before) .pre)
@@ -42,7 +48,7 @@ number-queries-requires c κs = queries-numberable (start (entries (forms (numbe
 
 write-queries-requires : tie.Need-write-queries-requires
 write-queries-requires c κs =
-    let q = c .before .before .before .before in
+    let q = number-queries c in
     let n = numbers (compared q) in
     let W = start (entries (forms n)) .pre in
     queries-writable W (n .number-comparisons .ensures (W .tables) (comparisons-read (W .reads)))
@@ -67,7 +73,7 @@ pub write-kept-spec : {M : Type 1} → statement M
 write-kept-spec =
     tie.close
     (tie.spec
-    (λ c κs. entries-writable (c .before .before .before .before .before .before .before .before .before .before .before .before .pre))
+    (λ c κs. entries-writable (first c .pre))
     write-relation-forms-requires
     (λ c. search needs)
     number-comparisons-requires

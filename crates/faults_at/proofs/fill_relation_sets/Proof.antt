@@ -2,13 +2,13 @@ use Prim.Native.Nat.{_/_, _-_}
 use native.Mathlib.Omega.{arith}
 use borrow.Author.Needs.{needs}
 use lib.ListN.{length}
-use Rattle.faults_at.proofs.ListLaws.{RelationsFilling, related-none, related-some, related-place, related-inside, related-more, related-all}
+use Rattle.faults_at.proofs.ListLaws.{RelationSetsFilling, related-none, related-some, related-place, related-inside, related-more, related-all}
 use Rattle.faults_at.proofs.fill_relation_sets.Statement.{statement}
 use Rattle.faults_at.proofs.fill_relation_sets.Tie as tie
 
 abbrev Inv-loop : tie.InvT-loop
 Inv-loop entries relations conditions c relationSets₀ count start₀ r₀ relationSets start r =
-    RelationsFilling conditions entries relations c relationSets₀ relationSets r start
+    RelationSetsFilling conditions entries relations c relationSets₀ relationSets r start
 
 abbrev μ-loop : tie.MeasureT-loop
 μ-loop entries relations conditions c relationSets₀ count start₀ r₀ relationSets start r = length relations / 2 - r

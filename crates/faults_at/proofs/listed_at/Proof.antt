@@ -1,12 +1,12 @@
 use Prim.Native.Nat.{_-_}
 use borrow.Author.Needs.{needs}
 use Rattle.at_configuration.proofs.ListLaws.{attribute-small, some-entry}
-use Rattle.faults_at.proofs.ListLaws.{EntriesJoining, listing-none, listing-more, listing-all}
+use Rattle.faults_at.proofs.ListLaws.{EntriesListing, listing-none, listing-more, listing-all}
 use Rattle.faults_at.proofs.listed_at.Statement.{statement}
 use Rattle.faults_at.proofs.listed_at.Tie as tie
 
 abbrev Inv-loop : tie.InvT-loop
-Inv-loop entries conditions c start count listed₀ i₀ listed i = EntriesJoining conditions entries c start count (listed .bits) i
+Inv-loop entries conditions c start count listed₀ i₀ listed i = EntriesListing conditions entries c start count (listed .bits) i
 
 abbrev μ-loop : tie.MeasureT-loop
 μ-loop entries conditions c start count listed₀ i₀ listed i = count - i

@@ -2,19 +2,29 @@ use borrow.Author.Needs.{needs}
 use Prim.Native.Nat.{ℕ}
 use mathlib.Core.Path.{ap, _∙_}
 use lib.ListN.{replicate}
-use Rattle.judging.proofs.JudgingLaws.{model-room, few-features, schema-reads, reach-reads, typing-reads, reach-room, early-refuses, typing-answers}
+use Rattle.conditions.proofs.PermittedLaws.{model-room}
+use Rattle.judging.proofs.JudgingLaws.{few-features, schema-reads, reach-reads, typing-reads, reach-room, early-refuses, typing-answers}
 use Rattle.judging.proofs.judge.Statement.{statement}
 use Rattle.judging.proofs.judge.Tie as tie
 
 -- places of the code that the needs look back to
+abbrev first : tie.After-slice-known2 → tie.Start
+first p = p .before .before .before .before .before .before .before .before
+
 abbrev start : tie.After-load → tie.Start
-start l = l .before .before .before .before .before .before .before .before .before
+start l = first (l .before)
+
+abbrev load : tie.After-fill-reach-arg → tie.After-load
+load p = p .before .before .before .before
 
 abbrev told : tie.After-fill-reach → tie.After-enum-told2
 told f = f .before .before
 
+abbrev cleared : tie.After-slice-known4 → tie.After-fill-reach
+cleared p = p .before .before .before .before .before .before
+
 abbrev fill-reach : tie.After-full → tie.After-fill-reach
-fill-reach u = u .before .before .before .before .before .before .before
+fill-reach u = cleared (u .before)
 
 check-model-requires : tie.Need-check-model-requires
 check-model-requires c κs = let p = start c .pre in record { tables = p .tables; reads = schema-reads (p .reads) (c .load .ensures) }
@@ -26,7 +36,7 @@ returns c =
 
 fill-reach-requires : tie.Need-fill-reach-requires
 fill-reach-requires c κs =
-    let l = c .before .before .before .before in
+    let l = load c in
     let p = start l .pre in
     record { tables = p .tables; reads = reach-reads (p .reads) (l .load .ensures); room = p .forms }
 
@@ -35,7 +45,7 @@ check-typing-requires c κs =
     let g = c .before .before in
     let u = g .before in
     let f = fill-reach u in
-    let l = told f .before .before .before in
+    let l = load (f .before) in
     let p = start l .pre in
     record {
       tables = p .tables;
@@ -63,14 +73,14 @@ pub judge-spec : {M : Type 1} → statement M
 judge-spec =
     tie.close
     (tie.spec
-    (λ c κs. model-room (c .before .before .before .before .before .before .before .before .pre .reads))
+    (λ c κs. let R = first c .pre .reads in model-room (R .prepared .formed) (R .prepared .filled) (R .number))
     check-model-requires
     (λ c. search needs)
     returns
     (λ c. search needs)
     fill-reach-requires
     (λ c κs. search needs)
-    (λ c κs. few-features (start (told (c .before .before .before .before .before .before) .before .before .before) .pre .reads))
+    (λ c κs. few-features (start (told (cleared c) .before .before .before) .pre .reads))
     (λ c κs. search needs)
     check-typing-requires
     (λ c. search needs)

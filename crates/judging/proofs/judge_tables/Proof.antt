@@ -14,8 +14,17 @@ use Rattle.judging.proofs.judge_tables.Statement.{statement}
 use Rattle.judging.proofs.judge_tables.Tie as tie
 
 -- places of the code that the needs look back to
+abbrev first : tie.After-fill-rows-arg → tie.Start
+first p = p .before .before .before .before .before .before .before .before .before
+
 abbrev start : tie.After-fill-rows → tie.Start
-start f = f .before .before .before .before .before .before .before .before .before .before
+start f = first (f .before)
+
+abbrev relations-end : tie.After-judge-arg5 → tie.After-relations-end
+relations-end p = p .before .before .before .before .before
+
+abbrev judged : tie.After-slice-known6 → tie.After-judge
+judged p = p .before .before .before .before
 
 abbrev fill-rows : tie.After-relations-end → tie.After-fill-rows
 fill-rows e = e .before .before .before
@@ -27,7 +36,7 @@ tables s =
 
 fill-rows-requires : tie.Need-fill-rows-requires
 fill-rows-requires c κs =
-    let s = c .before .before .before .before .before .before .before .before .before in
+    let s = first c in
     let lent = s .args .conditions .now in
     fillable (s .pre .formed) lent (fill-room (s .pre .formed) lent (s .pre .rows .expressions))
 
@@ -42,7 +51,7 @@ conditioned f =
 
 judge-requires : tie.Need-judge-requires
 judge-requires c κs =
-    let e = c .before .before .before .before .before in
+    let e = relations-end c in
     let f = fill-rows e in
     let s = start f in
     record {
@@ -54,8 +63,8 @@ judge-requires c κs =
 
 returns : tie.Need-returns
 returns c =
-    let j = c .before .before .before .before in
-    let e = j .before .before .before .before .before .before in
+    let j = judged c in
+    let e = relations-end (j .before) in
     let f = fill-rows e in
     let s = start f in
     record {

@@ -5,16 +5,26 @@ use Rattle.judging.proofs.JudgingLaws.{forms-refuse, judging-answers}
 use Rattle.judging.proofs.typed.Statement.{statement}
 use Rattle.judging.proofs.typed.Tie as tie
 
+-- places of the code that the needs look back to
+abbrev start : tie.After-check-forms → tie.Start
+start p = p .before .before .before .before .before .before .before .before .before
+
+abbrev told : tie.After-judge-tables-arg3 → tie.After-enum-told2
+told p = p .before .before .before
+
+abbrev judged : tie.After-slice-known6 → tie.After-judge-tables
+judged p = p .before .before .before .before .before .before
+
 judge-tables-requires : tie.Need-judge-tables-requires
 judge-tables-requires c κs =
-    let t = c .before .before .before in
+    let t = told c in
     let f = t .before .before in
-    record { formed = formed _ (sym (f .check-forms .ensures) ∙ t .enum-told2 .given .1); rows = f .before .before .before .before .before .before .before .before .before .pre }
+    record { formed = formed _ (sym (f .check-forms .ensures) ∙ t .enum-told2 .given .1); rows = start f .pre }
 
 returns-2 : tie.Need-returns-2
 returns-2 c =
-    let j = c .before .before .before .before .before .before in
-    let t = j .before .before .before .before in
+    let j = judged c in
+    let t = told (j .before) in
     judging-answers (t .before .before .check-forms .ensures) (t .enum-told2 .given .1) (j .judge-tables .ensures)
 
 pub typed-spec : {M : Type 1} → statement M

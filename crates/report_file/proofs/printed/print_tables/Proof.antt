@@ -18,6 +18,12 @@ start y = y .before .before .before .before .before .before .before .before .bef
 abbrev typed : tie.After-enum-told → tie.After-typed
 typed t = t .before .before .before .before .before
 
+abbrev refused : tie.After-v → tie.After-typed
+refused p = p .before .before .before .before .before
+
+abbrev told : tie.After-print-columns → tie.After-enum-told
+told p = p .before .before .before .before
+
 abbrev tables : tie.After-typed → Tables
 tables y =
     let a = start y .args in
@@ -35,7 +41,7 @@ returns : tie.Need-returns
 returns c =
     let put = c .before .before in
     let v = put .before .before .before in
-    let y = v .before .before .before .before .before in
+    let y = refused v in
     refusal-printed (tables y) (y .typed .ensures .answers) (v .v .given .1) (prints (short (put .before)) (start y .pre) (put .put-refused .ensures))
 
 print-columns-requires : tie.Need-print-columns-requires
@@ -47,7 +53,7 @@ print-columns-requires c κs =
 returns-2 : tie.Need-returns-2
 returns-2 c =
     let put = c .before .before in
-    let t = put .before .before .before .before in
+    let t = told put in
     let y = typed t in
     acceptance-printed (tables y) (y .typed .ensures .answers) (t .enum-told .given .1)
     (put .print-columns .ensures (tables y) (accepted-reads (own-rows (y .typed .ensures) (t .enum-told .given .1))))
