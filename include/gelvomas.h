@@ -1,13 +1,14 @@
-/* The column checker, and configuring, for C (C99 or later) and C++. Link
-   target/staticlib/libgelvomas.a, which `rt staticlib gelvomas` writes (x86-64
-   Linux).
+/* The column checker, configuring, and finding a configuration, for C (C99 or
+   later) and C++. Link target/staticlib/libgelvomas.a, which `rt staticlib
+   gelvomas` writes (x86-64 Linux).
 
-   gelvomas_check and gelvomas_configure are proved: they read and write only what
-   is said here, allocate nothing, keep nothing, end on any input, and may be
-   called from several threads at once. gelvomas_check takes at most 400 KiB of
-   stack and gelvomas_configure at most 450 KiB, which is measured and not proved.
-   gelvomas_check_tables and gelvomas_configure_tables, at the end, call them with
-   the tables in a struct; they are short, and not proved. */
+   gelvomas_check, gelvomas_configure and gelvomas_find are proved: they read and
+   write only what is said here, allocate nothing, keep nothing, end on any input,
+   and may be called from several threads at once. gelvomas_check and gelvomas_find
+   take at most 400 KiB of stack and gelvomas_configure at most 450 KiB, which is
+   measured and not proved. gelvomas_check_tables, gelvomas_configure_tables and
+   gelvomas_find_tables, at the end, call them with the tables in a struct; they
+   are short, and not proved. */
 
 #ifndef GELVOMAS_H
 #define GELVOMAS_H
@@ -20,9 +21,9 @@ extern "C" {
 #endif
 
 #define GELVOMAS_VERSION_MAJOR 1
-#define GELVOMAS_VERSION_MINOR 0
+#define GELVOMAS_VERSION_MINOR 1
 #define GELVOMAS_VERSION_PATCH 0
-#define GELVOMAS_VERSION "1.0.0"
+#define GELVOMAS_VERSION "1.1.0"
 
 /* The most there may be of each. There is at least one expression and one query;
    of the others there may be none. */
@@ -44,6 +45,9 @@ extern "C" {
 /* The words of the column rows, 64 rows of 16 words, and of one row. */
 #define GELVOMAS_ROWS 1024
 #define GELVOMAS_ROW_WORDS 16
+
+/* The set of attribute a alone, a below 64. Sets are joined by |. */
+#define GELVOMAS_ATTRIBUTE(a) ((uint64_t)1 << (a))
 
 /* Kinds of expressions. */
 enum gelvomas_expression {
@@ -141,10 +145,12 @@ enum gelvomas_refusal_number {
     GELVOMAS_REFUSED_CONFIGURATION = 20,
     /* a table lent for writing is shorter than its source; gelvomas_configure alone
        (table, 1 to 4) */
-    GELVOMAS_REFUSED_ROOM = 21
+    GELVOMAS_REFUSED_ROOM = 21,
+    /* a wanted attribute is not below `attributes`; gelvomas_find alone (0) */
+    GELVOMAS_REFUSED_WANTED = 22
 };
 
-/* The two functions that are proved. A table is a pointer to its words and then
+/* The three functions that are proved. A table is a pointer to its words and then
    the number of its words, which may be any number: a length or a word that the
    checker does not take is refused. A pointer is never NULL, also where the length
    is 0, and lies as its type asks. What a function writes to, at a pointer without
@@ -214,7 +220,33 @@ uint64_t gelvomas_configure(
                                       the refusal. */
 );
 
-/* The same two with structs. Here the pointer of a table may be NULL where its
+/* Finds the lowest permitted configuration at which the report of these tables has
+   every wanted attribute. Returns 0 (found), 1 (refused) or 2 (none: no permitted
+   configuration has them all, which is no refusal). */
+uint64_t gelvomas_find(
+    uint64_t features,           /* the report, as for gelvomas_check */
+    uint64_t attributes,
+    uint64_t model,
+    const uint16_t *expressions,
+    size_t expressions_length,
+    const uint16_t *entries,
+    size_t entries_length,
+    const uint16_t *relations,
+    size_t relations_length,
+    const uint16_t *comparisons,
+    size_t comparisons_length,
+    const uint16_t *queries,
+    size_t queries_length,
+    uint64_t wanted,             /* the set of wanted attributes: attribute a is wanted where
+                                    bit a is 1. A bit at or above `attributes` is refused. For
+                                    the empty set, 0, the lowest permitted configuration is
+                                    found. */
+    uint64_t answer[4]           /* all words are written. Found: the configuration, 0, 0 and 0.
+                                    None: 0, 0, 0 and 0. Refused: number, place, item and
+                                    configuration of the refusal. */
+);
+
+/* The same three with structs. Here the pointer of a table may be NULL where its
    length is 0, so a struct that is set to 0 holds tables without words. */
 
 /* A report: its head, and tables 0 to 4 with their numbers of words. */
@@ -262,7 +294,7 @@ struct gelvomas_counts {
     uint64_t queries;
 };
 
-/* What the two functions are given for a table without words, in the place of a
+/* What the functions are given for a table without words, in the place of a
    pointer that may be NULL. It is neither read nor written. */
 static inline const uint16_t *gelvomas_words(const uint16_t *table, size_t length)
 {
@@ -338,6 +370,35 @@ static inline int gelvomas_configure_tables(
     }
     gelvomas_set_refusal(refusal, words);
     return 1;
+}
+
+/* gelvomas_find. Returns 0 (found): `configuration` is written, `refusal` is not.
+   Or 1 (refused): `refusal` is written, `configuration` is not. Or 2 (none):
+   neither is written. */
+static inline int gelvomas_find_tables(
+    const struct gelvomas_tables *tables,
+    uint64_t wanted,
+    uint64_t *configuration,
+    struct gelvomas_refusal *refusal)
+{
+    uint64_t words[4] = {0, 0, 0, 0};
+    switch (gelvomas_find(
+        tables->features, tables->attributes, tables->model,
+        gelvomas_words(tables->expressions, tables->expressions_length), tables->expressions_length,
+        gelvomas_words(tables->entries, tables->entries_length), tables->entries_length,
+        gelvomas_words(tables->relations, tables->relations_length), tables->relations_length,
+        gelvomas_words(tables->comparisons, tables->comparisons_length), tables->comparisons_length,
+        gelvomas_words(tables->queries, tables->queries_length), tables->queries_length,
+        wanted, words)) {
+    case 0:
+        *configuration = words[0];
+        return 0;
+    case 1:
+        gelvomas_set_refusal(refusal, words);
+        return 1;
+    default:
+        return 2;
+    }
 }
 
 #ifdef __cplusplus

@@ -38,6 +38,15 @@ pub fn case(seed: u64, number: u64) -> (&'static str, Tables) {
     (names[usize::from(damaged)], tables)
 }
 
+/// In seven of ten cases tables that are accepted; else a case of any of the
+/// generator's families, one in five with raw damage.
+pub fn mostly_accepted(random: &mut Random, seed: u64, number: u64) -> (&'static str, Tables) {
+    if random.chance(7, 10) {
+        return ("accepted", generate::accepted(random.word()));
+    }
+    case(seed, number)
+}
+
 /// Says the difference, and writes it to the file.
 pub fn differ(
     file: &str,

@@ -89,3 +89,41 @@ pub fn configure(tables: &Tables, configuration: u64, lent: [&mut [u16]; 4]) -> 
         _ => Err((answer, words)),
     }
 }
+
+/// The configuration found, or none, or the refusal; or a number and words that no
+/// contract allows.
+pub type Found = Result<Result<Option<u64>, Refusal>, (u64, [u64; 4])>;
+
+/// Finding, by the C function, which writes all four words.
+#[inline]
+pub fn find(tables: &Tables, wanted: u64) -> Found {
+    let mut words = UNTOUCHED;
+    // The slices are lent for the call, and the lengths are theirs.
+    let answer = unsafe {
+        gelvomas::ffi::gelvomas_find(
+            tables.features,
+            tables.attributes,
+            tables.model,
+            tables.expressions.as_ptr(),
+            tables.expressions.len(),
+            tables.entries.as_ptr(),
+            tables.entries.len(),
+            tables.relations.as_ptr(),
+            tables.relations.len(),
+            tables.comparisons.as_ptr(),
+            tables.comparisons.len(),
+            tables.queries.as_ptr(),
+            tables.queries.len(),
+            wanted,
+            &mut words,
+        )
+    };
+    match (answer, words) {
+        (0, [found, 0, 0, 0]) => Ok(Ok(Some(found))),
+        (1, [number, place, item, configuration]) => {
+            Ok(Err(Refusal::new(number, place, item, configuration)))
+        }
+        (2, [0, 0, 0, 0]) => Ok(Ok(None)),
+        _ => Err((answer, words)),
+    }
+}

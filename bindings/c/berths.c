@@ -1,5 +1,6 @@
-/* include/gelvomas.h as a C program uses it: H1, H2 and H4 of docs/FORMAT.md, tables
-   that are NULL, and the words lent. ../../test compiles and runs it. */
+/* include/gelvomas.h as a C program uses it: H1, H2 and H4 of docs/FORMAT.md, which
+   configuration gives H1's columns, tables that are NULL, and the words lent.
+   ../../test compiles and runs it. */
 
 #include <inttypes.h>
 #include <stdio.h>
@@ -176,6 +177,30 @@ static void configure_h1(const struct gelvomas_tables *h1)
     expect_table("H4, queries", new_queries, LENGTH(new_queries), h4_queries, LENGTH(h4_queries));
 }
 
+/* Finds a configuration of H1 with the columns of a set. What is not written is as
+   it was. */
+static void find_in_h1(const struct gelvomas_tables *h1)
+{
+    const uint64_t vessel_and_ramp = GELVOMAS_ATTRIBUTE(VESSEL) | GELVOMAS_ATTRIBUTE(RAMP);
+    const uint64_t no_attribute = GELVOMAS_ATTRIBUTE(RAMP + 1);
+    uint64_t configuration = STALE;
+    struct gelvomas_refusal refusal = {7, 7, 7, 7};
+
+    /* The relation has berth, and the report does not. */
+    expect("berth", (uint64_t)gelvomas_find_tables(h1, GELVOMAS_ATTRIBUTE(BERTH), &configuration, &refusal), 2);
+    expect("berth, configuration", configuration, STALE);
+    expect_refusal("berth, refusal", &refusal, 7, 7, 7, 7);
+
+    /* Both, where ramps is on and swaps is off. */
+    expect("vessel and ramp", (uint64_t)gelvomas_find_tables(h1, vessel_and_ramp, &configuration, &refusal), 0);
+    expect("vessel and ramp, configuration", configuration, 1 << RAMPS);
+    expect_refusal("vessel and ramp, refusal", &refusal, 7, 7, 7, 7);
+
+    expect("no attribute", (uint64_t)gelvomas_find_tables(h1, no_attribute, &configuration, &refusal), 1);
+    expect("no attribute, configuration of before", configuration, 1 << RAMPS);
+    expect_refusal("no attribute", &refusal, GELVOMAS_REFUSED_WANTED, 0, 0, 0);
+}
+
 int main(void)
 {
     struct gelvomas_tables h1 = with_entries(h1_entries, LENGTH(h1_entries));
@@ -184,6 +209,7 @@ int main(void)
     struct gelvomas_lent no_room = {0};
     struct gelvomas_counts counts;
     struct gelvomas_refusal refusal = {0, 0, 0, 0};
+    uint64_t configuration;
 
     check_h1(&h1);
     check_refused("H2", &h2, GELVOMAS_REFUSED_PROJECTED_MISSING, 1, RAMP, 1);
@@ -191,5 +217,8 @@ int main(void)
     configure_h1(&h1);
     expect("no room", (uint64_t)gelvomas_configure_tables(&h1, 0, &no_room, &counts, &refusal), 1);
     expect_refusal("no room", &refusal, GELVOMAS_REFUSED_ROOM, 1, 0, 0);
+    find_in_h1(&h1);
+    expect("in no tables", (uint64_t)gelvomas_find_tables(&none, 0, &configuration, &refusal), 1);
+    expect_refusal("in no tables", &refusal, GELVOMAS_REFUSED_LENGTH, 0, 0, 0);
     return differences == 0 ? 0 : 1;
 }

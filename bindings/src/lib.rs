@@ -1,5 +1,5 @@
-//! The proved column checker of harbour reports, and configuring, as safe
-//! functions. See README.md, and ../include/gelvomas.h for C.
+//! The proved column checker of harbour reports, configuring, and finding a
+//! configuration, as safe functions. See README.md, and ../include/gelvomas.h for C.
 
 #![no_std]
 
@@ -128,6 +128,24 @@ pub mod ffi {
             new_queries_length: usize,
             answer: *mut [u64; 4],
         ) -> u64;
+
+        pub fn gelvomas_find(
+            features: u64,
+            attributes: u64,
+            model: u64,
+            expressions: *const u16,
+            expressions_length: usize,
+            entries: *const u16,
+            entries_length: usize,
+            relations: *const u16,
+            relations_length: usize,
+            comparisons: *const u16,
+            comparisons_length: usize,
+            queries: *const u16,
+            queries_length: usize,
+            wanted: u64,
+            answer: *mut [u64; 4],
+        ) -> u64;
     }
 }
 
@@ -209,6 +227,41 @@ pub fn configure(tables: &Tables, configuration: u64, lent: Lent) -> Result<Coun
             comparisons,
             queries,
         }),
+        _ => Err(words.into()),
+    }
+}
+
+/// Finds the lowest permitted configuration at which the report of these tables has
+/// every wanted attribute: attribute a is wanted where bit a of `wanted` is 1. It is
+/// `None` where no permitted configuration has them all, and the lowest permitted
+/// configuration where nothing is wanted. A wanted attribute that is not below the
+/// number of attributes is refused.
+pub fn find(tables: &Tables, wanted: u64) -> Result<Option<u64>, Refusal> {
+    let mut words = [0; 4];
+    // The slices are lent for the call, and the lengths are theirs; the function
+    // asks nothing else.
+    let answer = unsafe {
+        ffi::gelvomas_find(
+            tables.features,
+            tables.attributes,
+            tables.model,
+            tables.expressions.as_ptr(),
+            tables.expressions.len(),
+            tables.entries.as_ptr(),
+            tables.entries.len(),
+            tables.relations.as_ptr(),
+            tables.relations.len(),
+            tables.comparisons.as_ptr(),
+            tables.comparisons.len(),
+            tables.queries.as_ptr(),
+            tables.queries.len(),
+            wanted,
+            &mut words,
+        )
+    };
+    match answer {
+        0 => Ok(Some(words[0])),
+        2 => Ok(None),
         _ => Err(words.into()),
     }
 }

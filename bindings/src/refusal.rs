@@ -39,6 +39,7 @@ impl Refusal {
     pub const UNEQUAL: u64 = 19;
     pub const CONFIGURATION: u64 = 20;
     pub const ROOM: u64 = 21;
+    pub const WANTED: u64 = 22;
 }
 
 impl From<[u64; 4]> for Refusal {
@@ -147,6 +148,7 @@ impl Display for Refusal {
             (Refusal::ROOM, _) => {
                 write!(f, "table {place} lent for writing is shorter than its source")
             }
+            (Refusal::WANTED, _) => write!(f, "a wanted attribute is past the head's number"),
             _ => write!(f, "refused {number} {place} {item} {configuration}"),
         }
     }

@@ -3,8 +3,8 @@
 
 mod common;
 
-use common::{refused, H1};
-use gelvomas::{check, ffi, Refusal, Tables, ROWS};
+use common::{raw_check, refused, H1};
+use gelvomas::{check, Refusal, Tables, ROWS};
 
 /// What the words are before a call.
 const STALE: u64 = 0xABCD_EF01_2345_6789;
@@ -30,27 +30,7 @@ fn expect_rows(tables: &Tables, wanted: &[(usize, u64)]) {
 /// as it was.
 fn expect_rows_refused(tables: &Tables, length: usize, wanted: Refusal) {
     let mut rows = vec![STALE; length];
-    let mut refusal = [0; 4];
-    let answer = unsafe {
-        ffi::gelvomas_check(
-            tables.features,
-            tables.attributes,
-            tables.model,
-            tables.expressions.as_ptr(),
-            tables.expressions.len(),
-            tables.entries.as_ptr(),
-            tables.entries.len(),
-            tables.relations.as_ptr(),
-            tables.relations.len(),
-            tables.comparisons.as_ptr(),
-            tables.comparisons.len(),
-            tables.queries.as_ptr(),
-            tables.queries.len(),
-            rows.as_mut_ptr(),
-            rows.len(),
-            &mut refusal,
-        )
-    };
+    let (answer, refusal) = raw_check(tables, &mut rows);
     assert_eq!((answer, Refusal::from(refusal)), (1, wanted));
     assert!(rows.iter().all(|&word| word == STALE));
 }

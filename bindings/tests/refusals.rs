@@ -38,6 +38,7 @@ fn each_refusal_is_said_in_words() {
         ([19, 2, 3, 7], "form 2 is a union or an intersection, and only one of its operands has attribute 3 at configuration 7"),
         ([20, 0, 0, u64::MAX], "configuration 18446744073709551615 is 2^features or more, or is not permitted"),
         ([21, 4, 0, 0], "table 4 lent for writing is shorter than its source"),
+        ([22, 0, 0, 0], "a wanted attribute is past the head's number"),
     ] {
         let [number, place, item, configuration] = refusal;
         assert_eq!(said(number, place, item, configuration), wanted);
@@ -48,7 +49,7 @@ fn each_refusal_is_said_in_words() {
 fn other_numbers_are_given_as_they_are() {
     assert_eq!(said(0, 0, 0, 0), "refused 0 0 0 0");
     assert_eq!(said(1, 2, 0, 0), "refused 1 2 0 0");
-    assert_eq!(said(22, 1, 2, 3), "refused 22 1 2 3");
+    assert_eq!(said(23, 1, 2, 3), "refused 23 1 2 3");
     assert_eq!(
         said(u64::MAX, 1, 2, 3),
         "refused 18446744073709551615 1 2 3"
@@ -121,7 +122,7 @@ fn numbers_of_header() -> BTreeMap<String, u64> {
 #[test]
 fn the_numbers_are_those_of_the_header() {
     let numbers = numbers_of_header();
-    assert_eq!(numbers.get("GELVOMAS_REFUSED_ROOM"), Some(&21));
+    assert_eq!(numbers.get("GELVOMAS_REFUSED_WANTED"), Some(&22));
     assert_eq!(numbers_of_package(), numbers);
 }
 

@@ -4,12 +4,14 @@
 
 use std::thread;
 
-use gelvomas::{check, comparison, configure, expression, query, Counts, Lent, Refusal, Tables};
+use gelvomas::{check, comparison, configure, expression, find, query};
+use gelvomas::{Counts, Lent, Refusal, Tables};
 use gelvomas::{MAX_ATTRIBUTES, MAX_COMPARISONS, MAX_EXPRESSIONS, MAX_FEATURES, MAX_QUERIES, ROWS};
 
-/// What is stated, in bytes. The least that was enough: 366 KiB for a check, 368
-/// KiB for configuring, of which the thread needs some itself.
+/// What is stated, in bytes. The least that was enough: 367 KiB for a check and for
+/// finding, 369 KiB for configuring, of which the thread needs some itself.
 const STACK_OF_CHECK: usize = 400 << 10;
+const STACK_OF_FIND: usize = 400 << 10;
 const STACK_OF_CONFIGURE: usize = 450 << 10;
 
 const FEATURES: u16 = MAX_FEATURES as u16;
@@ -102,6 +104,10 @@ fn checked(tables: &Tables, rows: &mut [u64; ROWS]) -> Result<(), Refusal> {
     with_stack(STACK_OF_CHECK, || check(tables, rows))
 }
 
+fn found(tables: &Tables, wanted: u64) -> Result<Option<u64>, Refusal> {
+    with_stack(STACK_OF_FIND, || find(tables, wanted))
+}
+
 fn configured(tables: &Tables, configuration: u64) -> Result<Counts, Refusal> {
     let mut entries = tables.entries.to_vec();
     let mut relations = tables.relations.to_vec();
@@ -156,6 +162,9 @@ fn the_stated_stack_is_enough() {
     wanted[ROWS - 1] >>= 1;
     assert!(rows == wanted);
     assert_eq!(checked(&deep_refused, &mut rows), Err(refusal));
+
+    assert_eq!(found(&deep, u64::MAX), Ok(Some(0)));
+    assert_eq!(found(&deep_refused, u64::MAX), Err(refusal));
 
     let kept = comparisons
         .chunks(5)

@@ -4,7 +4,6 @@ use std::ops::Range;
 
 use crate::check::{self, Accepted};
 use crate::expression::Permitted;
-use crate::form;
 use crate::refusal::Refusal;
 use crate::tables::{self, Tables};
 use crate::typing;
@@ -16,8 +15,7 @@ use crate::typing;
 /// The head of the result is 0 features, the same attributes, model 0; its
 /// only expression is true (1 0 0). They are fixed, so they are not written.
 pub fn configure(tables: &Tables, c: u64, out: [&mut [u16]; 4]) -> Result<[usize; 4], Refusal> {
-    let lists = form::check(tables)?;
-    let accepted = check::schema_and_typing(tables, lists)?;
+    let accepted = check::accepted(tables)?;
     let at = permitted_at(&accepted, c)?;
     room(tables, &out)?;
     let written = configured(tables, &accepted, at);

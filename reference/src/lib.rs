@@ -4,10 +4,12 @@
 //! way (every permitted configuration is tried one after another), and the
 //! proved product is compared with it. See README.md.
 
+pub mod cases;
 pub mod check;
 pub mod configure;
 pub mod expression;
 pub mod file;
+pub mod find;
 pub mod form;
 pub mod generate;
 pub mod plain;
@@ -21,5 +23,6 @@ pub mod vectors;
 
 pub use check::check;
 pub use configure::configure;
+pub use find::find;
 pub use refusal::Refusal;
 pub use tables::Tables;

@@ -4,6 +4,7 @@
 use crate::check::{self, ROWS};
 use crate::configure;
 use crate::file;
+use crate::find;
 use crate::generate::{self, LIMITS};
 use crate::random::Random;
 use crate::refusal::Refusal;
@@ -21,6 +22,8 @@ pub enum Case {
         c: u64,
         room: [usize; 4],
     },
+    /// Finding a configuration with the wanted attributes.
+    Find { tables: Tables, wanted: u64 },
     /// The program, given a text.
     Text(Vec<u8>),
 }
@@ -50,14 +53,17 @@ const REFUSALS: [u64; 24] = [
 pub fn case(seed: u64) -> Case {
     let mut random = Random::new(seed ^ 0x0073_6D61_6C6C);
     match random.below(100) {
-        0..=34 => accepted_check(&mut random),
-        35..=58 => {
+        0..=27 => {
+            let tables = varied(&mut random);
+            Case::Check { tables, room: ROWS }
+        }
+        28..=46 => {
             // Neighbouring seeds go through all limits.
             let limit = &LIMITS[(seed % LIMITS.len() as u64) as usize];
             let tables = generate::small_limit(&mut random, limit);
             refused_check(&mut random, tables, limit.number)
         }
-        59..=69 => {
+        47..=55 => {
             let number = random.pick(&REFUSALS);
             let tables = match number {
                 11 => generate::small_accepted(&mut random),
@@ -65,13 +71,14 @@ pub fn case(seed: u64) -> Case {
             };
             refused_check(&mut random, tables, number)
         }
-        70..=89 => configuring(&mut random),
+        56..=71 => configuring(&mut random),
+        72..=91 => finding(&mut random),
         _ => text(&mut random),
     }
 }
 
-fn accepted_check(random: &mut Random) -> Case {
-    // Cases of one configuration are taken now and then only.
+/// Accepted tables. Those of one configuration are taken now and then only.
+fn varied(random: &mut Random) -> Tables {
     let mut tables = generate::small_accepted(random);
     for _ in 0..6 {
         if tables.features > 0 && tables.attributes > 0 && tables.count(4) > 1 {
@@ -82,7 +89,7 @@ fn accepted_check(random: &mut Random) -> Case {
         }
         tables = generate::small_accepted(random);
     }
-    Case::Check { tables, room: ROWS }
+    tables
 }
 
 /// Tables that are refused by the number, with rows to fit: those of another
@@ -99,14 +106,8 @@ fn refused_check(random: &mut Random, tables: Tables, number: u64) -> Case {
 fn configuring(random: &mut Random) -> Case {
     let kind = random.below(10);
     let mut tables = match kind {
-        0 => {
-            let number = random.pick(&[1, 2, 3, 4, 5, 6, 7, 8, 9, 10, 12, 13, 14]);
-            generate::small_refused(random, number)
-        }
-        1 => {
-            let number = random.between(15, 19) as u64;
-            generate::small_refused(random, number)
-        }
+        0 => refused_early(random),
+        1 => refused_by_typing(random),
         _ => generate::small_accepted(random),
     };
     if kind > 1 && random.chance(2, 3) {
@@ -133,6 +134,27 @@ fn configuring(random: &mut Random) -> Case {
         _ => {}
     }
     Case::Configure { tables, c, room }
+}
+
+/// Tables that are refused before typing.
+fn refused_early(random: &mut Random) -> Tables {
+    let number = random.pick(&[1, 2, 3, 4, 5, 6, 7, 8, 9, 10, 12, 13, 14]);
+    generate::small_refused(random, number)
+}
+
+fn refused_by_typing(random: &mut Random) -> Tables {
+    let number = random.between(15, 19) as u64;
+    generate::small_refused(random, number)
+}
+
+fn finding(random: &mut Random) -> Case {
+    let tables = match random.below(10) {
+        0 => refused_early(random),
+        1 => refused_by_typing(random),
+        _ => varied(random),
+    };
+    let wanted = generate::wanted(random, &tables);
+    Case::Find { tables, wanted }
 }
 
 /// A short harbour file, sound or damaged, whose print is short too.
@@ -173,6 +195,11 @@ pub fn answer(case: &Case) -> String {
                 Err(refusal) => refused_line(refusal),
             }
         }
+        Case::Find { tables, wanted } => match find::find(tables, *wanted) {
+            Ok(Some(configuration)) => format!("found {configuration}"),
+            Ok(None) => String::from("none"),
+            Err(refusal) => refused_line(refusal),
+        },
         Case::Text(text) => format!("print{}", spaced(&file::print_file(text))),
     }
 }
@@ -216,6 +243,7 @@ pub fn lines(number: u64, case: &Case) -> String {
             let tables = tables_lines(tables);
             format!("{tables}call configure {c}{}\n", spaced(room))
         }
+        Case::Find { tables, wanted } => format!("{}call find {wanted}\n", tables_lines(tables)),
         Case::Text(text) => format!("text{}\n", spaced(text)),
     };
     format!("case {number}\n{given}gives {}\nend\n", answer(case))

@@ -6,11 +6,11 @@ use std::collections::{BTreeMap, BTreeSet};
 
 use common::checked;
 use reference::check::shown;
-use reference::generate::{self, is_crossed, is_small, outcome, LIMITS};
+use reference::generate::{self, is_crossed, is_small, outcome, Answer, AIMS, LIMITS};
 use reference::random::Random;
 use reference::small::{self, Case};
 use reference::tables::{operands, RANGES};
-use reference::{expression, Tables};
+use reference::{expression, find, Tables};
 
 /// Accepted, with more than one permitted configuration and column set.
 fn varies(tables: &Tables) -> bool {
@@ -149,6 +149,16 @@ fn has_guarded_relation(tables: &Tables) -> bool {
     })
 }
 
+/// The tables that a small case's call is given.
+fn tables_of(case: &Case) -> Option<&Tables> {
+    match case {
+        Case::Check { tables, .. } | Case::Configure { tables, .. } | Case::Find { tables, .. } => {
+            Some(tables)
+        }
+        Case::Text(_) => None,
+    }
+}
+
 /// There are cases whose lowest failing form is not the first to fail, so that
 /// form and configuration cannot be confused.
 #[test]
@@ -157,7 +167,7 @@ fn faults_cross() {
     let crossed = several.filter(is_crossed).count();
     let small = (0..3000).map(small::case);
     let small_crossed = small
-        .filter(|case| matches!(case, Case::Check { tables, .. } if is_crossed(tables)))
+        .filter(|case| tables_of(case).is_some_and(is_crossed))
         .count();
     println!("crossed {crossed} of 400 several, {small_crossed} of 3000 small");
     assert!(crossed >= 40 && small_crossed >= 5);
@@ -181,21 +191,74 @@ fn full_cases_are_full() {
     assert!(outcomes.contains(&0) && outcomes.len() > 3, "{outcomes:?}");
 }
 
-/// Small cases: all numbers from 1 to 21, the mixture, and the bounds.
+/// Each sort of wanted set gives the answer that it aims at, and there are
+/// occasions for it.
+#[test]
+fn every_aim_is_hit() {
+    let mut random = Random::new(4);
+    for aim in AIMS {
+        let mut times = 0;
+        for seed in 0..200 {
+            let tables = generate::accepted(seed);
+            let Some(wanted) = generate::wanted_by(&mut random, &tables, aim) else {
+                continue;
+            };
+            times += 1;
+            let lowest = expression::permitted(&tables)[0].configuration;
+            let hit = match find(&tables, wanted) {
+                Ok(Some(c)) if c == lowest => Answer::Lowest,
+                Ok(Some(_)) => Answer::Later,
+                Ok(None) => Answer::Nowhere,
+                Err(_) => Answer::Refused,
+            };
+            let as_aimed = aim.answer == hit || aim.answer == Answer::Open;
+            assert!(as_aimed, "{}: {hit:?}, seed {seed}", aim.words);
+        }
+        println!("{}: {times} of 200", aim.words);
+        assert!(times >= 10, "{}", aim.words);
+    }
+}
+
+/// The answers of `find` by sort, given the sets that are generated for it.
+fn answers_of_find(cases: impl Iterator<Item = Tables>) -> BTreeMap<&'static str, u64> {
+    let mut random = Random::new(5);
+    let mut answers = BTreeMap::new();
+    for tables in cases {
+        let wanted = generate::wanted(&mut random, &tables);
+        let answer = match find(&tables, wanted) {
+            Ok(Some(0)) => "found 0",
+            Ok(Some(_)) => "found another",
+            Ok(None) => "none",
+            Err(refusal) if refusal.number == 22 => "22",
+            Err(_) => "refused earlier",
+        };
+        *answers.entry(answer).or_default() += 1;
+    }
+    println!("{answers:?}");
+    answers
+}
+
+#[test]
+fn no_answer_of_find_is_rare() {
+    let answers = answers_of_find((0..2000).map(generate::case));
+    assert_eq!(answers.len(), 5);
+    assert!(answers.values().all(|&times| times >= 200), "{answers:?}");
+    // With 64 attributes 22 is never given.
+    let answers = answers_of_find((0..24).map(generate::full));
+    assert!(!answers.contains_key("22") && answers.len() >= 3);
+}
+
+/// Small cases: all numbers from 1 to 22, the mixture, and the bounds.
 #[test]
 fn small_cases_cover_everything() {
     let mut outcomes: BTreeMap<(&str, String), u64> = BTreeMap::new();
     for seed in 0..3000 {
         let case = small::case(seed);
+        assert!(tables_of(&case).is_none_or(is_small));
         let call = match &case {
-            Case::Check { tables, .. } => {
-                assert!(is_small(tables));
-                "check"
-            }
-            Case::Configure { tables, .. } => {
-                assert!(is_small(tables));
-                "configure"
-            }
+            Case::Check { .. } => "check",
+            Case::Configure { .. } => "configure",
+            Case::Find { .. } => "find",
             Case::Text(text) => {
                 assert!(text.len() <= 320);
                 "text"
@@ -205,10 +268,12 @@ fn small_cases_cover_everything() {
         let words: Vec<&str> = answer.split(' ').collect();
         let key = match words[..] {
             ["refused", number, ..] => number.to_string(),
+            ["found", "0"] => answer,
             _ => words[0].to_string(),
         };
         *outcomes.entry((call, key)).or_default() += 1;
     }
+    println!("{outcomes:?}");
     let texts = (0..1000).map(small::case);
     let h1 = |case: &Case| matches!(case, Case::Text(text) if text == small::H1.as_bytes());
     assert!(texts.filter(h1).count() > 3);
@@ -222,7 +287,15 @@ fn small_cases_cover_everything() {
             "configure {number}"
         );
     }
-    assert!((900..1200).contains(&times("check", "rows")));
+    for key in ["found 0", "found", "none", "22"] {
+        assert!(times("find", key) >= 60, "find {key}");
+    }
+    for number in [15, 16, 17, 18, 19] {
+        assert!(times("find", &number.to_string()) >= 3, "find {number}");
+    }
+    let finds = outcomes.iter().filter(|((call, _), _)| *call == "find");
+    assert!((540..660).contains(&finds.map(|(_, times)| times).sum::<u64>()));
+    assert!((720..960).contains(&times("check", "rows")));
     assert!(times("configure", "written") >= 200);
     assert!((200..400).contains(&times("text", "print")));
 }

@@ -4,9 +4,8 @@
 use std::collections::BTreeMap;
 use std::process::ExitCode;
 
-use bench::cases::{case, differ, seed_and_count};
+use bench::cases::{differ, mostly_accepted, seed_and_count};
 use reference::check::{shown, ROWS};
-use reference::generate;
 use reference::random::Random;
 use reference::tables::WIDTHS;
 use reference::{expression, form, Refusal, Tables};
@@ -41,7 +40,7 @@ fn main() -> ExitCode {
     let [mut kinds, mut configurations, mut rooms, mut left_out] = [const { Tally::new() }; 4];
     for number in 0..count {
         let mut random = Random::new(seed ^ number.wrapping_mul(0x9E37_79B9));
-        let (kind, tables) = any_tables(&mut random, seed, number);
+        let (kind, tables) = mostly_accepted(&mut random, seed, number);
         let asked = Asked {
             configuration: any_configuration(&mut random, &tables, &mut configurations),
             lent: any_lent(&mut random, &tables, &mut rooms),
@@ -87,15 +86,6 @@ fn compare(
         }
     }
     Ok(wanted.answer)
-}
-
-/// In seven of ten cases tables that are accepted; else a case of any of the
-/// generator's families, one in five with raw damage.
-fn any_tables(random: &mut Random, seed: u64, number: u64) -> (&'static str, Tables) {
-    if random.chance(7, 10) {
-        return ("accepted", generate::accepted(random.word()));
-    }
-    case(seed, number)
 }
 
 fn met(tally: &mut Tally, name: &'static str) {

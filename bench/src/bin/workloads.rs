@@ -1,7 +1,7 @@
 //! The time of the whole check at full size, ours and the reference's, which goes
 //! configuration by configuration, in one run and in a thread with a stack of
 //! 1 MiB; on three workloads also that of all configurations at once
-//! (`bench::parallel`); and the time of configuring.
+//! (`bench::parallel`); the time of configuring; and that of finding, to our check's.
 
 use std::collections::BTreeMap;
 use std::hint::black_box;
@@ -21,22 +21,32 @@ const STACK: usize = 1 << 20;
 const TIMES: usize = 201;
 const FEWER: usize = 15;
 
-/// Our goal for each workload.
+/// Our goal for each workload: of a check to the reference's, and of finding to our
+/// check.
 const GOAL: f64 = 0.2;
+const GOAL_OF_FINDING: f64 = 1.1;
 
 const FEATURES: u16 = 10;
 const ATTRIBUTES: u16 = 64;
 const FORMS: u16 = 256;
 
+/// A name, and the tables that are measured.
+type Workload = (&'static str, Tables);
+
 fn main() -> ExitCode {
     let run = thread::Builder::new().stack_size(STACK).spawn(run);
     match run.map(thread::JoinHandle::join) {
-        Ok(Ok(code)) => code,
+        Ok(Ok(Ok(()))) => ExitCode::SUCCESS,
+        Ok(Ok(Err(difference))) => {
+            println!("{difference}");
+            ExitCode::FAILURE
+        }
         _ => ExitCode::FAILURE,
     }
 }
 
-fn run() -> ExitCode {
+/// Measures all parts. An error says where answers or words differ.
+fn run() -> Result<(), String> {
     let deep = deep(mixed_expressions(), mixed_comparisons());
     let mut refused = deep.clone();
     refuse_last(&mut refused);
@@ -45,21 +55,34 @@ fn run() -> ExitCode {
         ("(b) deep, accepted", deep.clone()),
         ("(c) deep, refused last", refused),
     ];
+    time_checks(&workloads)?;
+    time_generated()?;
+    time_chains(deep)?;
+    time_configuring(&workloads[..2])?;
+    time_finding(&workloads[..2])
+}
+
+fn say_goal(goal: f64, met: bool) {
+    println!(
+        "goal, a ratio of at most {goal} on each of these: {}",
+        if met { "met" } else { "not met" }
+    );
+}
+
+fn time_checks(workloads: &[Workload]) -> Result<(), String> {
     println!("medians of {TIMES} measurements, ours and the reference's in turn; µs a call; a stack of 1 MiB");
     println!(
         "{:<26} {:>8} {:>10} {:>7} {:>9} {:>7}  answer",
         "workload", "ours", "reference", "ratio", "parallel", "ratio"
     );
     let mut met = true;
-    for (name, tables) in &workloads {
-        let Some(answer) = same_answer(tables) else {
-            println!("{name}: the answers or the rows differ");
-            return ExitCode::FAILURE;
-        };
+    for (name, tables) in workloads {
+        let answer =
+            same_answer(tables).ok_or_else(|| format!("{name}: the answers or the rows differ"))?;
         let [ours, theirs, parallel] = in_turn(
             TIMES,
             [tables; 3],
-            [Check::Ours, Check::Reference, Check::Parallel],
+            [Call::Check, Call::ReferenceCheck, Call::ParallelCheck],
         );
         met &= ours / theirs <= GOAL;
         println!(
@@ -69,19 +92,18 @@ fn run() -> ExitCode {
             words(answer)
         );
     }
-    println!(
-        "goal, a ratio of at most {GOAL} on each of these: {}",
-        if met { "met" } else { "not met" }
-    );
+    say_goal(GOAL, met);
+    Ok(())
+}
 
-    // The reference's time goes with the number of permitted configurations.
+/// The reference's time goes with the number of permitted configurations.
+fn time_generated() -> Result<(), String> {
     let mut groups: BTreeMap<usize, Vec<f64>> = BTreeMap::new();
     for tables in generated() {
         if same_answer(&tables).is_none() {
-            println!("a generated case: the answers or the rows differ");
-            return ExitCode::FAILURE;
+            return Err("a generated case: the answers or the rows differ".to_string());
         }
-        let [ours, theirs] = in_turn(FEWER, [&tables; 2], [Check::Ours, Check::Reference]);
+        let [ours, theirs] = in_turn(FEWER, [&tables; 2], [Call::Check, Call::ReferenceCheck]);
         let permitted = expression::permitted(&tables).len();
         groups.entry(permitted).or_default().push(ours / theirs);
     }
@@ -95,29 +117,31 @@ fn run() -> ExitCode {
             if high <= GOAL { "" } else { ", above the goal" }
         );
     }
+    Ok(())
+}
 
-    // Chains in which each form joins the one below it with itself.
+/// Chains in which each form joins the one below it with itself.
+fn time_chains(full: Tables) -> Result<(), String> {
     let chains = [
-        ("another full table", deep),
+        ("another full table", full),
         (
             "comparisons 5 0 i i",
-            self::deep(mixed_expressions(), joined_comparisons()),
+            deep(mixed_expressions(), joined_comparisons()),
         ),
         (
             "expressions 5 i i",
-            self::deep(joined_expressions(), mixed_comparisons()),
+            deep(joined_expressions(), mixed_comparisons()),
         ),
     ];
     for (name, tables) in &chains {
         if same_answer(tables) != Some(Ok(())) {
-            println!("{name}: not accepted, or the rows differ");
-            return ExitCode::FAILURE;
+            return Err(format!("{name}: not accepted, or the rows differ"));
         }
     }
     let times = in_turn(
         TIMES,
         chains.each_ref().map(|(_, tables)| tables),
-        [Check::Ours; 3],
+        [Call::Check; 3],
     );
     println!("(d) ours in turn, all accepted:");
     for ((name, _), time) in chains.iter().zip(times) {
@@ -126,19 +150,64 @@ fn run() -> ExitCode {
             time / times[0]
         );
     }
+    Ok(())
+}
 
+fn time_configuring(workloads: &[Workload]) -> Result<(), String> {
     println!("(e) configuring at {MIDDLE}, ours and the reference's in turn:");
-    for (name, tables) in &workloads[..2] {
-        let Some([ours, theirs]) = configuring(tables) else {
-            println!("{name}: not written, or the words differ");
-            return ExitCode::FAILURE;
-        };
+    for (name, tables) in workloads {
+        let [ours, theirs] = configuring(tables)
+            .ok_or_else(|| format!("{name}: not written, or the words differ"))?;
         println!(
             "{name:<26} {ours:>8.1} {theirs:>10.1} {:>7.3}",
             ours / theirs
         );
     }
-    ExitCode::SUCCESS
+    Ok(())
+}
+
+/// The wanted sets of (f): nothing, all attributes, and every other one.
+fn wanted_sets(tables: &Tables) -> [(&'static str, u64); 3] {
+    let all = u64::MAX >> (64 - tables.attributes);
+    [
+        ("nothing wanted", 0),
+        ("all wanted", all),
+        ("half wanted", all & 0x5555_5555_5555_5555),
+    ]
+}
+
+/// Each workload's check and its findings take turns.
+fn time_finding(workloads: &[Workload]) -> Result<(), String> {
+    println!("(f) our check and our finding in turn:");
+    println!(
+        "{:<26} {:<14} {:>8} {:>8} {:>7}  answer",
+        "workload", "set", "check", "find", "ratio"
+    );
+    let mut met = true;
+    for (name, tables) in workloads {
+        let sets = wanted_sets(tables);
+        let [nothing, all, half] = sets.map(|(_, wanted)| Call::Find(wanted));
+        let calls = [Call::Check, nothing, all, half];
+        let [check, finds @ ..] = in_turn(TIMES, [tables; 4], calls);
+        for ((set, wanted), find) in sets.into_iter().zip(finds) {
+            let found = same_found(tables, wanted)
+                .ok_or_else(|| format!("{name}, {set}: not found, or the answers differ"))?;
+            met &= find / check <= GOAL_OF_FINDING;
+            println!(
+                "{name:<26} {set:<14} {check:>8.1} {find:>8.1} {:>7.3}  {found}",
+                find / check
+            );
+        }
+    }
+    say_goal(GOAL_OF_FINDING, met);
+    Ok(())
+}
+
+/// The configuration that both find.
+fn same_found(tables: &Tables, wanted: u64) -> Option<u64> {
+    let found = reference::find(tables, wanted);
+    let same = bench::find(tables, wanted) == Ok(found);
+    found.ok().flatten().filter(|_| same)
 }
 
 /// The configuration of (e): every other feature is on.
@@ -191,27 +260,39 @@ fn same_answer(tables: &Tables) -> Option<Result<(), Refusal>> {
     same.then_some(wanted)
 }
 
-/// Whose check is measured: ours, the reference's, or `bench::parallel`'s.
+/// What is measured.
 #[derive(Clone, Copy)]
-enum Check {
-    Ours,
-    Reference,
-    Parallel,
+enum Call {
+    /// Our check.
+    Check,
+    /// The reference's.
+    ReferenceCheck,
+    /// `bench::parallel`'s.
+    ParallelCheck,
+    /// Our finding, of this set.
+    Find(u64),
+}
+
+impl Call {
+    fn run(self, tables: &Tables, rows: &mut [u64]) {
+        match self {
+            Call::Check => drop(black_box(bench::check(tables, rows))),
+            Call::ReferenceCheck => drop(black_box(reference::check(tables, rows))),
+            Call::ParallelCheck => drop(black_box(parallel::check(tables, rows))),
+            Call::Find(wanted) => drop(black_box(bench::find(tables, wanted))),
+        }
+    }
 }
 
 /// Medians in µs of calls that take turns, so that all meet the same machine.
-fn in_turn<const N: usize>(count: usize, tables: [&Tables; N], checks: [Check; N]) -> [f64; N] {
+fn in_turn<const N: usize>(count: usize, tables: [&Tables; N], calls: [Call; N]) -> [f64; N] {
     let mut times = [const { Vec::new() }; N];
     let mut rows = vec![0; ROWS];
     for _ in 0..count {
         for (number, times) in times.iter_mut().enumerate() {
             let tables = black_box(tables[number]);
             let start = Instant::now();
-            match checks[number] {
-                Check::Ours => drop(black_box(bench::check(tables, black_box(&mut rows)))),
-                Check::Reference => drop(black_box(reference::check(tables, black_box(&mut rows)))),
-                Check::Parallel => drop(black_box(parallel::check(tables, black_box(&mut rows)))),
-            }
+            calls[number].run(tables, black_box(&mut rows));
             times.push(start.elapsed().as_nanos() as f64 / 1000.0);
         }
     }

@@ -1,6 +1,8 @@
-//! What the tests share.
+//! What the tests share. Each uses some of it.
 
-use gelvomas::{Refusal, Tables};
+#![allow(dead_code)]
+
+use gelvomas::{ffi, Refusal, Tables};
 
 pub const H1: Tables = Tables {
     features: 2,
@@ -20,4 +22,59 @@ pub fn refused(number: u64, place: u64, item: u64, configuration: u64) -> Refusa
         item,
         configuration,
     }
+}
+
+/// What the four words of an answer are before a call of a C function.
+pub const UNWRITTEN: [u64; 4] = [0xDEAD_0000, 0xDEAD_0001, 0xDEAD_0002, 0xDEAD_0003];
+
+/// What the C function returns, and the refusal's four words afterwards. It takes
+/// rows of any length.
+pub fn raw_check(tables: &Tables, rows: &mut [u64]) -> (u64, [u64; 4]) {
+    let mut refusal = UNWRITTEN;
+    let answer = unsafe {
+        ffi::gelvomas_check(
+            tables.features,
+            tables.attributes,
+            tables.model,
+            tables.expressions.as_ptr(),
+            tables.expressions.len(),
+            tables.entries.as_ptr(),
+            tables.entries.len(),
+            tables.relations.as_ptr(),
+            tables.relations.len(),
+            tables.comparisons.as_ptr(),
+            tables.comparisons.len(),
+            tables.queries.as_ptr(),
+            tables.queries.len(),
+            rows.as_mut_ptr(),
+            rows.len(),
+            &mut refusal,
+        )
+    };
+    (answer, refusal)
+}
+
+/// What the C function returns, and the answer's four words afterwards.
+pub fn raw_find(tables: &Tables, wanted: u64) -> (u64, [u64; 4]) {
+    let mut words = UNWRITTEN;
+    let answer = unsafe {
+        ffi::gelvomas_find(
+            tables.features,
+            tables.attributes,
+            tables.model,
+            tables.expressions.as_ptr(),
+            tables.expressions.len(),
+            tables.entries.as_ptr(),
+            tables.entries.len(),
+            tables.relations.as_ptr(),
+            tables.relations.len(),
+            tables.comparisons.as_ptr(),
+            tables.comparisons.len(),
+            tables.queries.as_ptr(),
+            tables.queries.len(),
+            wanted,
+            &mut words,
+        )
+    };
+    (answer, words)
 }

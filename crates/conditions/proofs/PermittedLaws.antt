@@ -3,14 +3,12 @@ use Prim.Native.Nat.{ℕ, _+_, _*_, _/_, _^_, _<_, _≤_}
 use mathlib.Core.Path.{_≡_, refl, sym, ap, ap₂, _∙_}
 use mathlib.Core.Bool.{Bool, true, false, not, _&&_, and-true}
 use mathlib.Core.List.{List}
-use native.Mathlib.Decide.{decLt}
 use native.Mathlib.Omega.{arith}
 use lib.Dec.{ltb}
 use lib.ListN.{length}
 use lib.Pow.{pow-mono}
-use Rattle.sets.specs.Search.{someBelow}
 use Rattle.sets.specs.Rows.{rowOf, rowIn, rowIntersect, rowIsEmpty, within}
-use Rattle.sets.proofs.SearchLaws.{some-at, some-none, none-some, at-some}
+use Rattle.sets.proofs.SearchLaws.{some-narrow}
 use Rattle.sets.proofs.RowLaws.{rowOf-same, within-out, intersect-rowOf, empty-rowOf}
 use Rattle.report.specs.Tables.{Tables, expressionCount}
 use Rattle.report.specs.Expressions.{holds, permitted}
@@ -20,24 +18,12 @@ use Rattle.report.specs.Checks.{somewhere, modelCheck}
 use Rattle.report.specs.Formed.{Formed}
 use Rattle.conditions.specs.Conditions.{Conditioned}
 
--- a test that fails from m on
-some-narrow : (test : ℕ → Bool) (m n : ℕ) → m ≤ n → ((k : ℕ) → m ≤ k → test k ≡ false) → someBelow test n ≡ someBelow test m
-some-narrow test m n h out = go (someBelow test m) refl
-  where
-    rest : someBelow test m ≡ false → (k : ℕ) → Dec (k < m) → test k ≡ false
-    rest e k (yes l) = some-none test m e k l
-    rest e k (no l) = out k (omega arith)
-
-    go : (b : Bool) → someBelow test m ≡ b → someBelow test n ≡ b
-    go true e = let r = some-at test m e in at-some test n (r .0) (omega arith) (r .2)
-    go false e = none-some test n (λ k l. rest e k (decLt k m))
-
 -- the permitted configurations at which the test holds
 abbrev pub permittedRow : Tables → (ℕ → Bool) → List ℕ
 permittedRow T test = rowOf 16 (λ c. permitted T c && test c)
 
 module _ (T : Tables) where
-  permitted-out : (c : ℕ) → 2 ^ (T .features) ≤ c → permitted T c ≡ false
+  pub permitted-out : (c : ℕ) → 2 ^ (T .features) ≤ c → permitted T c ≡ false
   unfolding permitted
   permitted-out = within-out (T .features) (λ c. holds (T .expressions) c (T .model))
 

@@ -17,17 +17,16 @@ use Rattle.report.specs.Tables.{Tables, tablesOf}
 use Rattle.report.specs.Expressions.{holds, permitted}
 use Rattle.report.specs.Configuring.{configured, written}
 use Rattle.report.specs.Verdicts.{refusal, refuseIf, orElse, firstOf}
-use Rattle.report.specs.FormChecks.{formCheck}
 use Rattle.report.specs.Formed.{Formed}
 use Rattle.report.specs.Checks.{isTypingFault}
-use Rattle.report.specs.Calls.{answer, permittedCondition, roomConditions, configuring}
+use Rattle.report.specs.Calls.{Call, permittedCondition, roomConditions, configuring}
 use Rattle.report.specs.declared.Refusal.{Refusal}
 use Rattle.report.specs.declared.Verdict.{Verdict}
-use Rattle.report.proofs.VerdictLaws.{or-else-assoc, both-accepted, then-next, if-accepted, accepted-if}
+use Rattle.report.proofs.VerdictLaws.{both-accepted, then-next, if-accepted, accepted-if}
 use Rattle.report.proofs.FirstFault.{first-none, first-room, room-fits, first-own}
-use Rattle.forms.proofs.Chain.{stops, goes-on}
-use Rattle.judging.specs.Judging.{meaningCheck, reportCheck}
-use Rattle.judging.proofs.JudgingLaws.{answer-parts, Rows}
+use Rattle.forms.proofs.Chain.{stops}
+use Rattle.judging.specs.Judging.{reportCheck}
+use Rattle.judging.proofs.JudgingLaws.{call-refused, call-late, Rows}
 use Rattle.configuring.specs.declared.Configured.{Configured}
 use Rattle.configuring.specs.Promises.{configuredAnswer, Rooms, Leaves, Configures, isConfiguredFault}
 use Rattle.configuring.specs.Steps.{lateVerdict, SourceReads, LateReads, ConfigureReads}
@@ -112,30 +111,21 @@ pub leaves-refused : {v : Verdict} {r : Refusal} {U : Tables} {newEntries newRel
     → Leaves v U newEntries newRelations newComparisons newQueries (Configured.Refused r) newEntries newRelations newComparisons newQueries
 leaves-refused e = rw (← e) record { answers = refl; entries = refl; relations = refl; comparisons = refl; queries = refl }
 
-module _ (T : Tables) (c : ℕ) (newEntries newRelations newComparisons newQueries : List ℕ) where
-  abbrev verdict : Verdict
-  verdict = answer T (configuring c (length newEntries) (length newRelations) (length newComparisons) (length newQueries))
+module _ (T : Tables) (c : ℕ) (newEntries newRelations newComparisons newQueries : List ℕ) {v : Verdict} (checked : v ≡ reportCheck T) where
+  abbrev call : Call
+  call = configuring c (length newEntries) (length newRelations) (length newComparisons) (length newQueries)
 
-  -- the parts of the answer, in the order in which they run
-  parts : verdict ≡ orElse (reportCheck T) (lateVerdict T c newEntries newRelations newComparisons newQueries)
-  parts =
-      answer-parts T (configuring c (length newEntries) (length newRelations) (length newComparisons) (length newQueries))
-      ∙ ap (λ (v : Verdict). orElse (formCheck T) (orElse v (orElse (meaningCheck T) (lateVerdict T c newEntries newRelations newComparisons newQueries))))
-      first-none
-      ∙ simp or-else-assoc
+  -- a check before 20 refuses
+  pub report-refuses : {r : Refusal} → v ≡ Verdict.Refused r
+      → Configures T c newEntries newRelations newComparisons newQueries (Configured.Refused r) newEntries newRelations newComparisons newQueries
+  report-refuses f = leaves-refused (call-refused T call first-none checked f)
 
-  module _ {v : Verdict} (checked : v ≡ reportCheck T) where
-    -- a check before 20 refuses
-    pub report-refuses : {r : Refusal} → v ≡ Verdict.Refused r
-        → Configures T c newEntries newRelations newComparisons newQueries (Configured.Refused r) newEntries newRelations newComparisons newQueries
-    report-refuses f = leaves-refused (sym f ∙ stops _ checked f ∙ sym parts)
-
-    -- 20 and 21 answer
-    pub late-answers : v ≡ Verdict.Accepted → {r : Configured} {newEntries′ newRelations′ newComparisons′ newQueries′ : List ℕ}
-        → Leaves (lateVerdict T c newEntries newRelations newComparisons newQueries) (configured T c)
-        newEntries newRelations newComparisons newQueries r newEntries′ newRelations′ newComparisons′ newQueries′
-        → Configures T c newEntries newRelations newComparisons newQueries r newEntries′ newRelations′ newComparisons′ newQueries′
-    late-answers f L = rw (← goes-on checked f refl ∙ sym parts) L
+  -- 20 and 21 answer
+  pub late-answers : v ≡ Verdict.Accepted → {r : Configured} {newEntries′ newRelations′ newComparisons′ newQueries′ : List ℕ}
+      → Leaves (lateVerdict T c newEntries newRelations newComparisons newQueries) (configured T c)
+      newEntries newRelations newComparisons newQueries r newEntries′ newRelations′ newComparisons′ newQueries′
+      → Configures T c newEntries newRelations newComparisons newQueries r newEntries′ newRelations′ newComparisons′ newQueries′
+  late-answers f L = rw (← call-late T call first-none checked f) L
 
 -- 20 and 21 accept, and the tables are written
 pub written-late : (T : Tables) (c : ℕ) (newEntries newRelations newComparisons newQueries : List ℕ) {v : Verdict}

@@ -15,8 +15,12 @@ use Rattle.report.proofs.Guards.{h1-accepted}
 use Rattle.checking.specs.Promises.{Checks}
 use Rattle.configuring.specs.declared.Configured.{Configured}
 use Rattle.configuring.specs.Promises.{Rooms, Configures}
+use Rattle.finding.specs.declared.FindAnswer.{FindAnswer}
+use Rattle.finding.specs.Finding.{lowestWanted, Finds}
 use Rattle.demands.specs.FoundWritten.{FoundWritten}
+use Rattle.demands.specs.FoundConfiguration.{columnsAt, HoldsAll, LowestWith, NoneWith}
 use Rattle.demands.proofs.Demands.{found-written}
+use Rattle.demands.proofs.Finding.{find-found, find-none}
 
 -- tables lent with other words in them, table 1 with two words more than its source
 abbrev lent1 : List ℕ
@@ -59,3 +63,21 @@ pub h4-found : FoundWritten (h1 2) 0 (columnRows (h1 2)) lent1 lent2 [] lent4 (C
     (0 ∷ 2 ∷ []) [] (1 ∷ 0 ∷ 0 ∷ 0 ∷ 3 ∷ 1 ∷ 0 ∷ 0 ∷ [])
 h4-found =
     found-written (h1 2) 0 lent1 lent2 [] lent4 _ _ _ _ _ h4-configures (replicate 1024 9) (columnRows (h1 2)) h1-checks h4-permitted h4-rooms
+
+-- `find` on H1: vessel and ramp are wanted, and 2 is the lowest configuration that has both; 0 has not. Berth no configuration has
+h1-finds : Finds (h1 2) 5 (FindAnswer.At 2)
+unfolding computed lowestWanted
+h1-finds = refl
+
+pub h1-found : LowestWith (h1 2) (columnsAt (h1 2)) 5 2
+h1-found = find-found (h1 2) 5 (FindAnswer.At 2) h1-finds refl .1
+
+pub h1-lacks : HoldsAll (columnsAt (h1 2)) 5 0 → ⊥
+h1-lacks = h1-found .lower 0 (lit≤ tt) h4-permitted
+
+berth-finds : Finds (h1 2) 2 FindAnswer.None
+unfolding computed lowestWanted
+berth-finds = refl
+
+pub berth-nowhere : NoneWith (h1 2) (columnsAt (h1 2)) 2
+berth-nowhere = find-none (h1 2) 2 FindAnswer.None berth-finds refl

@@ -6,7 +6,7 @@
 -- specs/WrittenTables.
 use Prim.Native.Nat.{ℕ}
 use mathlib.Core.Path.{_≡_, refl, sym, ap, _∙_}
-use mathlib.Core.Bool.{true, false, not}
+use mathlib.Core.Bool.{Bool, true, false, not}
 use mathlib.Core.List.{List}
 use mathlib.Core.Logic.{_↔_}
 use native.Mathlib.Omega.{arith}
@@ -162,6 +162,18 @@ module _ (T : Tables) (c : ℕ) (newEntries newRelations newComparisons newQueri
 -- permitted configuration, the configured report breaks a plain rule; the configuration named is then one of those. No report that passes at every
 -- permitted configuration is refused so."
 
+-- of any call that gets as far as typing, where the answer's being a typing fault is told by `fault`
+module _ (T : Tables) (sound : Sound T) {call : Call} (own : OwnNumbers call) (gets : GetsAsFarAsTyping T call) {fault : Bool}
+    (same : fault ≡ isTypingFault (answer T call)) where
+  pub call-refuses : (fault ≡ true) ↔ Broken T
+  call-refuses = let b = refused-broken T sound own gets in (λ e. b .0 (sym same ∙ e), λ e. same ∙ b .1 e)
+
+  pub call-names : fault ≡ true → Named T call
+  call-names e = refused-named T sound own gets (sym same ∙ e)
+
+  pub call-never : ((c : ℕ) → permitted T c ≡ true → passes (configuredSchema T c) (configuredReport T c) ≡ true) → fault ≡ false
+  call-never h = same ∙ never-refused T sound own gets h
+
 module _ (T : Tables) (sound : Sound T) where
   -- on such tables these calls are checking with 1,024 words of rows, and configuring whatever configuration and room it is given
   pub which-check : (rows : List ℕ) → GetsAsFarAsTyping T (checking (length rows)) ↔ (length rows ≡ 1024)
@@ -183,13 +195,13 @@ module _ (T : Tables) (sound : Sound T) where
     same = ap isTypingFault (checks .0)
 
     pub check-refuses : (isTypingFault r ≡ true) ↔ Broken T
-    check-refuses = let b = refused-broken T sound (checking-own (length rows)) gets in (λ e. b .0 (sym same ∙ e), λ e. same ∙ b .1 e)
+    check-refuses = call-refuses T sound (checking-own (length rows)) gets same
 
     pub check-names : isTypingFault r ≡ true → (n : Named T call) × (r ≡ Verdict.Refused (n .refuses))
-    check-names e = let n = refused-named T sound (checking-own (length rows)) gets (sym same ∙ e) in (n, checks .0 ∙ n .answers)
+    check-names e = let n = call-names T sound (checking-own (length rows)) gets same e in (n, checks .0 ∙ n .answers)
 
     pub check-never : ((c : ℕ) → permitted T c ≡ true → passes (configuredSchema T c) (configuredReport T c) ≡ true) → isTypingFault r ≡ false
-    check-never h = same ∙ never-refused T sound (checking-own (length rows)) gets h
+    check-never = call-never T sound (checking-own (length rows)) gets same
 
   -- configuring
   module _ (c : ℕ) (newEntries newRelations newComparisons newQueries : List ℕ) (r : Configured)
@@ -205,15 +217,12 @@ module _ (T : Tables) (sound : Sound T) where
     reaches = which-configure c (length newEntries) (length newRelations) (length newComparisons) (length newQueries)
 
     pub configure-refuses : (isConfiguredFault r ≡ true) ↔ Broken T
-    configure-refuses =
-        let f = configured-fault configures in
-        let b = refused-broken T sound own reaches in
-        (λ e. b .0 (sym f ∙ e), λ e. f ∙ b .1 e)
+    configure-refuses = call-refuses T sound own reaches (configured-fault configures)
 
     pub configure-names : isConfiguredFault r ≡ true → (n : Named T called) × (r ≡ Configured.Refused (n .refuses))
     configure-names e =
-        let n = refused-named T sound own reaches (sym (configured-fault configures) ∙ e) in (n, configured-refused configures (n .answers))
+        let n = call-names T sound own reaches (configured-fault configures) e in (n, configured-refused configures (n .answers))
 
     pub configure-never : ((d : ℕ) → permitted T d ≡ true → passes (configuredSchema T d) (configuredReport T d) ≡ true)
         → isConfiguredFault r ≡ false
-    configure-never h = configured-fault configures ∙ never-refused T sound own reaches h
+    configure-never = call-never T sound own reaches (configured-fault configures)

@@ -1,1 +1,2 @@
 pub mod FoundWritten
+pub mod FoundConfiguration

@@ -9,6 +9,8 @@ use Rattle.report.specs.declared.Refusal.{Refusal}
 use Rattle.report.specs.declared.Verdict.{Verdict}
 use Rattle.configuring.specs.Promises.{configuredAnswer}
 use Rattle.configuring.specs.declared.Configured.{Configured}
+use Rattle.finding.specs.Finding.{finding, lowestWanted, foundAnswer}
+use Rattle.finding.specs.declared.FindAnswer.{FindAnswer}
 
 -- number, place, item and configuration
 abbrev pub refusalWords : Refusal → List ℕ
@@ -46,3 +48,21 @@ configuredNumber (Configured.Refused r) = 1
 abbrev pub configuredWords : Configured → List ℕ
 configuredWords (Configured.Written entries relations comparisons queries) = entries ∷ relations ∷ comparisons ∷ queries ∷ []
 configuredWords (Configured.Refused r) = refusalWords r
+
+-- ---- finding
+
+-- what finding answers on T, where these attributes are wanted
+abbrev pub findAnswer : Tables → ℕ → FindAnswer
+findAnswer T wanted = foundAnswer (answer T (finding wanted)) (lowestWanted T wanted)
+
+-- the number that is returned: found, none, refused
+abbrev pub foundNumber : FindAnswer → ℕ
+foundNumber (FindAnswer.At c) = 0
+foundNumber FindAnswer.None = 2
+foundNumber (FindAnswer.Refused r) = 1
+
+-- the four lent words afterwards: the configuration, or those of a refusal; a word that the answer does not use is 0
+abbrev pub foundWords : FindAnswer → List ℕ
+foundWords (FindAnswer.At c) = c ∷ 0 ∷ 0 ∷ 0 ∷ []
+foundWords FindAnswer.None = 0 ∷ 0 ∷ 0 ∷ 0 ∷ []
+foundWords (FindAnswer.Refused r) = refusalWords r

@@ -1,7 +1,9 @@
-// Checking and configuring as C functions.
+// Checking, configuring and finding as C functions.
 use checking::check;
 use configuring::Configured;
 use configuring::configure;
+use finding::FindAnswer;
+use finding::find;
 use report::Refusal;
 use report::Verdict;
 ghost use mathlib.Core.Path.{_≡_};
@@ -9,14 +11,18 @@ ghost use Rattle.report.specs.Tables.{tablesOf};
 ghost use Rattle.checking.specs.Promises.{Checks};
 ghost use Rattle.configuring.specs.Promises.{Configures};
 ghost use Rattle.gelvomas.specs.Answers.{refusalWords, checkAnswer, answerNumber, answerWords, configureAnswer, configuredNumber, configuredWords};
+ghost use Rattle.gelvomas.specs.Answers.{findAnswer, foundNumber, foundWords};
 
-// Number, place, item and configuration of a refusal, or how many forms tables 1 to 4 have.
+// Number, place, item and configuration of a refusal; how many forms tables 1 to 4 have; or a configuration, and three words that are 0.
 pub type AnswerWords = [u64; 4];
 
-fn refusal_words(r: Refusal) -> AnswerWords
-    ensures { λ words. ⌜ words ≡ refusalWords r ⌝ }
+// Tells a refusal: 1, and its words in those lent for the answer.
+fn tell_refusal(r: Refusal, answer: &mut AnswerWords) -> u64
+    ensures { λ n. ⌜ n ≡ 1 ⌝ }
+    ensures { λ _. ⌜ now (answer .exit) ≡ refusalWords r ⌝ }
 {
-    [r.number, r.place, r.item, r.configuration]
+    *answer = [r.number, r.place, r.item, r.configuration];
+    1
 }
 
 // Answers 0 where the report is accepted: `rows` holds its column rows, and `refusal` is as it was.
@@ -69,8 +75,7 @@ pub extern "C" fn gelvomas_check(
         rows,
     );
     if let Verdict::Refused(r) = v {
-        *refusal = refusal_words(r);
-        return 1;
+        return tell_refusal(r, refusal);
     }
     0
 }
@@ -142,9 +147,58 @@ pub extern "C" fn gelvomas_configure(
             ];
             0
         }
-        Configured::Refused(r) => {
-            *answer = refusal_words(r);
-            1
+        Configured::Refused(r) => tell_refusal(r, answer),
+    }
+}
+
+// Answers 0 where a permitted configuration has all wanted attributes: `answer` begins with the lowest. Answers 2 where none has. Else answers 1:
+// `answer` holds number, place, item and configuration.
+#[no_mangle]
+pub extern "C" fn gelvomas_find(
+    features: u64,
+    attributes: u64,
+    model: u64,
+    expressions: &[u16],
+    entries: &[u16],
+    relations: &[u16],
+    comparisons: &[u16],
+    queries: &[u16],
+    wanted: u64,
+    answer: &mut AnswerWords,
+) -> u64
+    ensures { λ r.
+        ⌜ r
+        ≡ foundNumber (findAnswer
+        (tablesOf features attributes model (now (expressions .entry)) (now (entries .entry)) (now (relations .entry)) (now (comparisons .entry))
+        (now (queries .entry)))
+        wanted) ⌝ }
+    ensures { λ _.
+        ⌜ now (answer .exit)
+        ≡ foundWords (findAnswer
+        (tablesOf features attributes model (now (expressions .entry)) (now (entries .entry)) (now (relations .entry)) (now (comparisons .entry))
+        (now (queries .entry)))
+        wanted) ⌝ }
+{
+    let found = find(
+        features,
+        attributes,
+        model,
+        expressions,
+        entries,
+        relations,
+        comparisons,
+        queries,
+        wanted,
+    );
+    match found {
+        FindAnswer::At(c) => {
+            *answer = [c as u64, 0, 0, 0];
+            0
         }
+        FindAnswer::None => {
+            *answer = [0, 0, 0, 0];
+            2
+        }
+        FindAnswer::Refused(r) => tell_refusal(r, answer),
     }
 }

@@ -31,7 +31,7 @@ use Rattle.reach.proofs.ReachRows.{reach-rows}
 use Rattle.forms.proofs.Chain.{stops, goes-on}
 use Rattle.fault_rows.specs.FaultRows.{Items}
 use Rattle.typing.specs.Typed.{TypingReads, Checked}
-use Rattle.judging.specs.Judging.{meaningCheck, earlyCheck, JudgeReads, JudgeReadable, Judged, RowsLent, TablesJudged, Typed}
+use Rattle.judging.specs.Judging.{meaningCheck, reportCheck, earlyCheck, JudgeReads, JudgeReadable, Judged, RowsLent, TablesJudged, Typed}
 
 -- ---- the answer of any call
 
@@ -39,6 +39,20 @@ use Rattle.judging.specs.Judging.{meaningCheck, earlyCheck, JudgeReads, 
 pub answer-parts : (T : Tables) (call : Call)
     → answer T call ≡ orElse (formCheck T) (orElse (firstOf (call .beforeModel T)) (orElse (meaningCheck T) (firstOf (call .afterTyping T))))
 answer-parts T call = answer-run T call ∙ simp or-else-assoc
+
+-- a call whose own conditions before 12 do not hold answers what 1 to 10 and 12 to 19 answer, and then what its own after typing do
+module _ (T : Tables) (call : Call) (none : firstOf (call .beforeModel T) ≡ Verdict.Accepted) where
+  pub call-parts : answer T call ≡ orElse (reportCheck T) (firstOf (call .afterTyping T))
+  call-parts =
+      answer-parts T call ∙ ap (λ (v : Verdict). orElse (formCheck T) (orElse v (orElse (meaningCheck T) (firstOf (call .afterTyping T))))) none
+      ∙ simp or-else-assoc
+
+  module _ {v : Verdict} (checked : v ≡ reportCheck T) where
+    pub call-refused : {r : Refusal} → v ≡ Verdict.Refused r → Verdict.Refused r ≡ answer T call
+    call-refused f = sym f ∙ stops _ checked f ∙ sym call-parts
+
+    pub call-late : v ≡ Verdict.Accepted → firstOf (call .afterTyping T) ≡ answer T call
+    call-late f = goes-on checked f refl ∙ sym call-parts
 
 -- ---- 12 to 14
 

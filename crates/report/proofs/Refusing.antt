@@ -221,17 +221,19 @@ unfolding _gives_
 configuring-own c r1 r2 r3 r4 = record { early = λ T. refl; late = λ T. refl }
 
 module _ (T : Tables) where
-  -- checking with 1,024 words of rows does so exactly where the tables are not sound, and configuring likewise
+  -- a call whose own conditions before 12 do not hold does so exactly where the tables are not sound
+  pub own-early : {call : Call} → OwnNumbers call → firstOf (call .beforeModel T) ≡ Verdict.Accepted
+      → ((r : Refusal) × (answer T call ≡ Verdict.Refused r) × (isEarly (r .number) ≡ true)) ↔ (Sound T → ⊥)
+  own-early {call} own none =
+      let e = refused-early T own in (λ p s. e .0 p (gets-own T call s .1 none), λ n. e .1 (λ g. n (gets-sound T call g)))
+
+  -- checking with 1,024 words of rows, and configuring
   pub check-early : ((r : Refusal) × (answer T (checking 1024) ≡ Verdict.Refused r) × (isEarly (r .number) ≡ true)) ↔ (Sound T → ⊥)
-  check-early =
-      let e = refused-early T (checking-own 1024) in
-      (λ p s. e .0 p (check-gets T s 1024 .1 refl), λ n. e .1 (λ g. n (gets-sound T (checking 1024) g)))
+  check-early = own-early (checking-own 1024) (first-one _ _)
 
   pub configure-early : (c r1 r2 r3 r4 : ℕ)
       → ((r : Refusal) × (answer T (configuring c r1 r2 r3 r4) ≡ Verdict.Refused r) × (isEarly (r .number) ≡ true)) ↔ (Sound T → ⊥)
-  configure-early c r1 r2 r3 r4 =
-      let e = refused-early T (configuring-own c r1 r2 r3 r4) in
-      (λ p s. e .0 p (configure-gets T s c r1 r2 r3 r4), λ n. e .1 (λ g. n (gets-sound T (configuring c r1 r2 r3 r4) g)))
+  configure-early c r1 r2 r3 r4 = own-early (configuring-own c r1 r2 r3 r4) first-none
 
   -- ---- accepted
 

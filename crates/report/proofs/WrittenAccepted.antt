@@ -146,24 +146,32 @@ module _ (T : Tables) (call : Call) (e : answer T call ≡ Verdict.Accepted) whe
   pub called-own : firstOf (call .afterTyping T) ≡ Verdict.Accepted
   called-own = after .1
 
+  pub called-formed : Formed T
+  called-formed = sound-formed T called-sound
+
+  module _ (c : ℕ) (ok : permitted T c ≡ true) where
+    -- the configured report passes at every permitted configuration
+    pub called-passes : passes (configuredSchema T c) (configuredReport T c) ≡ true
+    called-passes = typing-passes called-formed .0 called-typed c ok
+
+    -- and its columns are the report's set there
+    pub called-columns : columns (configuredSchema T c) (configuredReport T c) ≡ setOf T c (report T)
+    called-columns = report-columns called-formed c called-passes
+
 module _ (T : Tables) (room : ℕ) (e : answer T (checking room) ≡ Verdict.Accepted) where
   pub checked-sound : Sound T
   checked-sound = called-sound T (checking room) e
 
   pub checked-formed : Formed T
-  checked-formed = sound-formed T checked-sound
-
-  checked-typed : typingCheck T ≡ Verdict.Accepted
-  checked-typed = called-typed T (checking room) e
+  checked-formed = called-formed T (checking room) e
 
   module _ (c : ℕ) (ok : permitted T c ≡ true) where
-    -- the configured report passes at every permitted configuration
     pub checked-passes : passes (configuredSchema T c) (configuredReport T c) ≡ true
-    checked-passes = typing-passes checked-formed .0 checked-typed c ok
+    checked-passes = called-passes T (checking room) e c ok
 
-    -- and its columns are those that the rows show there
+    -- the columns are those that the rows show there
     pub checked-columns : columns (configuredSchema T c) (configuredReport T c) ≡ shown (columnRows T) c
-    checked-columns = report-columns checked-formed c checked-passes ∙ sym (shown-columns checked-formed c ok)
+    checked-columns = called-columns T (checking room) e c ok ∙ sym (shown-columns checked-formed c ok)
 
     -- the tables written there
     pub accepted-written : WrittenAccepted T c
@@ -186,7 +194,7 @@ module _ (T : Tables) (room : ℕ) (e : answer T (checking room) ≡ Verdict.Acc
         → length (T .queries) ≤ r4 → answer T (configuring c r1 r2 r3 r4) ≡ Verdict.Accepted
     configure-accepted r1 r2 r3 r4 h1 h2 h3 h4 =
         gets-answer T (configuring c r1 r2 r3 r4) (configure-gets T checked-sound c r1 r2 r3 r4)
-        ∙ accepted-both checked-typed
+        ∙ accepted-both (called-typed T (checking room) e)
         (first-own T c r1 r2 r3 r4
         ∙ accepted-both (accepted-if _ (ap not ok))
         (room-fits T r1 r2 r3 r4 .1 (h1, h2, h3, h4)))

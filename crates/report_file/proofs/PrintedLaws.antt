@@ -1,6 +1,6 @@
 -- That what the calls write is the print of the answer.
 use Prim.Native.Nat.{ℕ, _+_, _*_, _%_, _^_, _≤_}
-use mathlib.Core.Path.{_≡_, refl, sym, ap, ap₂, _∙_}
+use mathlib.Core.Path.{_≡_, refl, sym, ap, _∙_}
 use mathlib.Core.List.{List}
 use native.Mathlib.Omega.{arith}
 use lib.ListN.{length, getD, take}
@@ -12,7 +12,6 @@ use Rattle.sets.proofs.WritingLaws.{from-start}
 use Rattle.report.specs.Tables.{Tables, tablesOf}
 use Rattle.report.specs.Expressions.{configurations, permitted}
 use Rattle.report.specs.Verdicts.{orElse}
-use Rattle.report.specs.FormChecks.{formCheck}
 use Rattle.report.specs.Calls.{answer, checking}
 use Rattle.report.specs.Print.{printAnswer, printFile, print}
 use Rattle.report.specs.HarbourFile.{File}
@@ -22,8 +21,8 @@ use Rattle.report.proofs.VerdictLaws.{or-else-accepted}
 use Rattle.report.proofs.FirstFault.{first-none, first-one}
 use Rattle.report.proofs.TypingLaws.{rows-length}
 use Rattle.conditions.proofs.PermittedLaws.{model-room, model-row}
-use Rattle.judging.specs.Judging.{meaningCheck, reportCheck}
-use Rattle.judging.proofs.JudgingLaws.{answer-parts, Rows}
+use Rattle.judging.specs.Judging.{reportCheck}
+use Rattle.judging.proofs.JudgingLaws.{call-parts, Rows}
 use Rattle.printing.specs.Lines.{refusalLine, unreadLine, acceptedText, AcceptedRead}
 use Rattle.printing.proofs.LinePieces.{refusal-print, unread-print}
 use Rattle.printing.proofs.PrintLaws.{accepted-print, accepted-room}
@@ -83,9 +82,7 @@ module _ {T : Tables} {n model : ℕ} {conditions columns : List ℕ} (R : Colum
 -- the answer of a check with rows at their full length, which the print shows
 checked : (T : Tables) → answer T (checking 1024) ≡ reportCheck T
 checked T =
-    answer-parts T (checking 1024)
-    ∙ ap₂ (λ (v w : Verdict). orElse (formCheck T) (orElse v (orElse (meaningCheck T) w))) (first-one _ _) first-none
-    ∙ ap (orElse (formCheck T)) (or-else-accepted (meaningCheck T))
+    call-parts T (checking 1024) (first-one _ _) ∙ ap (orElse (reportCheck T)) first-none ∙ or-else-accepted (reportCheck T)
 
 module _ (T : Tables) {v : Verdict} (own : v ≡ reportCheck T) where
   answers : printFile (File.holds T) ≡ printAnswer T v

@@ -1,23 +1,23 @@
 -- Laws of sets as numbers, for any number of bits.
 use Prim.Native.Nat.{ℕ, zero, suc, _+_, _-_, _*_, _/_, _%_, _^_, _<_, _≤_, min, max}
 use mathlib.Core.Path.{_≡_, refl, sym, ap, ap₂, _∙_}
-use mathlib.Core.Bool.{Bool, true, false, cond, not, _&&_, _||_, xor, and-true, and-false, or-false, or-assoc as or-assoc-bool, false≢true}
-use mathlib.Core.Logic.{_≢_}
+use mathlib.Core.Bool.{Bool, true, false, cond, not, _&&_, _||_, xor, and-true, and-false, or-false, or-assoc as or-assoc-bool, and-eq-true-iff, false≢true}
+use mathlib.Core.Logic.{_≢_, _↔_}
 use native.Mathlib.Nat.{div-one, mod-lt, zero-lt-suc, pow-suc, pow-succ', div-div-eq-div-mul, div-eq-of-lt, zero-div, sub-zero, div-add-mod', one-mul}
-use native.Mathlib.Nat.{le-of-suc-le-suc, not-suc-le-zero, lt-of-lt-of-le, lt-of-le-of-lt}
+use native.Mathlib.Nat.{le-of-suc-le-suc, not-suc-le-zero, lt-of-lt-of-le, lt-of-le-of-lt, div-le-self}
 use native.Mathlib.Decide.{decLt, ℕ-discrete}
 use native.Mathlib.Omega.{arith}
-use lib.Dec.{eqb, ltb, eqb·suc-suc, eqb·suc-zero, eqb·zero-suc}
+use lib.Dec.{eqb, ltb, leb, eqb·suc-suc, eqb·suc-zero, eqb·zero-suc}
 use lib.Arith.{digits-div, digits-mod, lt-one}
 use lib.Pow.{pow-pos, pow-mono, pow-lt, ones-lt, ones-sub-lt, shr-shr, high, shl-exact}
 use lib.Bits.{bitAnd, bitOr, bitXor, differ, block-half, block-odd, and-step, or-step, xor-step}
 use lib.Bits.{and-lt, or-lt, xor-lt, and-le-l, and-le-r, xor-self, xor-add-and}
 use lib.Count.{trailingZeros, under, ones, ones-step}
-use borrow.Author.Tests.{lt-ltb, le-ltb, eq-eqb, ne-eqb}
+use borrow.Author.Tests.{lt-ltb, le-ltb, le-leb, leb-true, eq-eqb, ne-eqb}
 use Rattle.sets.specs.declared.Found.{Found}
-use Rattle.sets.specs.Search.{lowest, countBelow, foundOr0, First}
-use Rattle.sets.specs.Bits.{bit, digit, bitsOf, difference, lowestMember}
-use Rattle.sets.proofs.SearchLaws.{nothing-lowest, at-lowest, count-head, count-same}
+use Rattle.sets.specs.Search.{lowest, someBelow, countBelow, foundOr0, First}
+use Rattle.sets.specs.Bits.{bit, digit, bitsOf, difference, subset, lowestMember}
+use Rattle.sets.proofs.SearchLaws.{nothing-lowest, at-lowest, some-at, at-some, count-head, count-same}
 
 -- ---- one digit
 
@@ -281,11 +281,90 @@ bit-subset k x y h e = zero-bits k (difference x y) (difference-lt k x y h) (λ 
 pub subset-and : (x y : ℕ) → difference x y ≡ 0 → bitAnd x y ≡ x
 subset-and x y e = sym (xor-same x (bitAnd x y) e)
 
+-- a set x without its member a
+module _ (x a : ℕ) (member : bit x a ≡ true) where
+  -- all of x is in y where a is, and the rest
+  pub subset-without : (y : ℕ) → subset x y ≡ (bit y a && subset (difference x (2 ^ a)) y)
+  subset-without y = go (bit y a) refl
+    where
+      same : bit y a ≡ true → (i : ℕ) → Dec (i ≡ a) → (bit x i && not (bit y i)) ≡ ((bit x i && not (eqb i a)) && not (bit y i))
+      same e i (yes s) = rw (s, e, eq-eqb a a, member) refl
+      same e i (no s) = rw (ne-eqb i a s, and-true) refl
+
+      go : (b : Bool) → bit y a ≡ b → subset x y ≡ (b && subset (difference x (2 ^ a)) y)
+      go true e =
+          ap (λ (z : ℕ). eqb z 0)
+          (bits-equal (difference x y) (difference (difference x (2 ^ a)) y)
+          (λ i. bit-difference x y i ∙ same e i (ℕ-discrete i a)
+          ∙ sym
+          (bit-difference (difference x (2 ^ a)) y i
+          ∙ ap (λ (t : Bool). t && not (bit y i)) (bit-difference x (2 ^ a) i ∙ ap (λ (t : Bool). bit x i && not t) (bit-pow a i)))))
+      go false e =
+          ne-eqb (difference x y) 0
+          (λ z. false≢true
+          (sym (bit-none a) ∙ ap (λ (n : ℕ). bit n a) (sym z) ∙ bit-difference x y a ∙ ap₂ (λ (p q : Bool). p && not q) member e))
+
+  -- the rest is less, as a number
+  pub without-less : difference x (2 ^ a) < x
+  without-less =
+      let one : bit (bitAnd x (2 ^ a)) a ≡ true = bit-and x (2 ^ a) a ∙ ap₂ _&&_ member (bit-pow a a ∙ eq-eqb a a refl) in
+      let again : bitAnd x (bitAnd x (2 ^ a)) ≡ bitAnd x (2 ^ a) =
+      bits-equal (bitAnd x (bitAnd x (2 ^ a))) (bitAnd x (2 ^ a))
+      (λ i. bit-and x (bitAnd x (2 ^ a)) i ∙ ap (_&&_ (bit x i)) (bit-and x (2 ^ a) i) ∙ twice (bit x i) (bit (2 ^ a) i) ∙ sym (bit-and x (2 ^ a) i)) in
+      omega (arith, xor-add-and x (bitAnd x (2 ^ a)), positive (bitAnd x (2 ^ a)) one)
+    where
+      twice : (p q : Bool) → (p && (p && q)) ≡ (p && q)
+      twice true q = refl
+      twice false q = refl
+
+      positive : (z : ℕ) → bit z a ≡ true → 0 < z
+      positive z e = go (ℕ-discrete z 0)
+        where
+          go : Dec (z ≡ 0) → 0 < z
+          go (yes s) = absurd (false≢true (sym (bit-none a) ∙ ap (λ (n : ℕ). bit n a) (sym s) ∙ e))
+          go (no s) = omega arith
+
+-- a set of numbers below k has a member at or above m (`hasFrom`, where k is 64)
+pub from-member : (k x m : ℕ) → x < 2 ^ k → (someBelow (λ a. leb m a && bit x a) k ≡ true) ↔ ((a : ℕ) × (m ≤ a) × (bit x a ≡ true))
+from-member k x m h = (
+  λ e.
+      let s = some-at (λ a. leb m a && bit x a) k e in
+      let p = and-eq-true-iff (leb m (s .0)) (bit x (s .0)) .0 (s .2) in
+      (s .0, leb-true m (s .0) (p .0), p .1),
+  λ q. go (q .0) (q .1) (q .2) (decLt (q .0) k),
+)
+  where
+    go : (a : ℕ) → m ≤ a → bit x a ≡ true → Dec (a < k) → someBelow (λ i. leb m i && bit x i) k ≡ true
+    go a l e (yes b) = at-some (λ i. leb m i && bit x i) k a b (ap₂ _&&_ (le-leb m a l) e)
+    go a l e (no b) = absurd (false≢true (sym (bit-above k x a h (omega arith)) ∙ e))
+
 -- ---- the machine's shift and counts
 
 -- 1 shifted left by a in a word of k bits
 pub shl-one : (k a : ℕ) → a < k → (1 * 2 ^ a) % 2 ^ k ≡ 2 ^ a
 shl-one k a h = shl-exact 1 a k (omega arith) (omega arith) ∙ one-mul (2 ^ a)
+
+-- shifted right by m, a number has the bits from m on, and is 0 where there are none
+bit-shifted : (x m i : ℕ) → bit (x / 2 ^ m) i ≡ bit x (m + i)
+bit-shifted x m i = ap (λ (y : ℕ). eqb (y % 2) 1) (shr-shr x m i)
+
+pub shifted-from : (k x m : ℕ) → x < 2 ^ k → not (eqb (x / 2 ^ m) 0) ≡ someBelow (λ a. leb m a && bit x a) k
+shifted-from k x m h = go (someBelow (λ a. leb m a && bit x a) k) refl
+  where
+    go : (b : Bool) → someBelow (λ a. leb m a && bit x a) k ≡ b → not (eqb (x / 2 ^ m) 0) ≡ b
+    go true e =
+        let s = from-member k x m h .0 e in
+        let above : m + (s .0 - m) ≡ s .0 = let l = s .1 in omega arith in
+        let one : bit (x / 2 ^ m) (s .0 - m) ≡ true = bit-shifted x m (s .0 - m) ∙ ap (bit x) above ∙ s .2 in
+        ap not (ne-eqb (x / 2 ^ m) 0 (λ z. false≢true (sym (bit-none (s .0 - m)) ∙ ap (λ (y : ℕ). bit y (s .0 - m)) (sym z) ∙ one)))
+    go false e =
+        ap not
+        (eq-eqb (x / 2 ^ m) 0
+        (zero-bits k (x / 2 ^ m) (lt-of-le-of-lt (div-le-self x (2 ^ m)) h) (λ i l. bit-shifted x m i ∙ none i (bit x (m + i)) refl)))
+      where
+        none : (i : ℕ) (t : Bool) → bit x (m + i) ≡ t → t ≡ false
+        none i true s = absurd (false≢true (sym e ∙ from-member k x m h .1 (m + i, omega arith, s)))
+        none i false s = refl
 
 -- trailing_zeros is the lowest bit that is 1
 pub trailing-first : (k x : ℕ) → x < 2 ^ k → x ≢ 0 → First (bit x) k (trailingZeros k x)

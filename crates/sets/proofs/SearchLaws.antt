@@ -142,6 +142,24 @@ module _ (test : ℕ → Bool) (n : ℕ) where
       go true b = refl
       go false b = Bool·not-not b
 
+-- a test that fails from m on may be looked for below m alone
+module _ (test : ℕ → Bool) (m n : ℕ) (more : m ≤ n) (out : (k : ℕ) → m ≤ k → test k ≡ false) where
+  pub lowest-narrow : lowest test n ≡ lowest test m
+  lowest-narrow = go (lowest test m) refl
+    where
+      none : lowest test m ≡ Found.Nothing → (k : ℕ) → Dec (k < m) → test k ≡ false
+      none e k (yes l) = lowest-nothing test m e k l
+      none e k (no l) = out k (omega arith)
+
+      go : (x : Found) → lowest test m ≡ x → lowest test n ≡ x
+      go (Found.At k) e =
+          let r = lowest-at test m k e in
+          at-lowest test n k (record { below = let b = r .below in omega arith; holds = r .holds; before = r .before })
+      go Found.Nothing e = nothing-lowest test n (λ k l. none e k (decLt k m))
+
+  pub some-narrow : someBelow test n ≡ someBelow test m
+  some-narrow = ap isFound lowest-narrow
+
 -- ---- tests that agree below the bound
 
 module _ (f g : ℕ → Bool) where

@@ -1,10 +1,10 @@
 -- Sets of small numbers as numbers: the set has k where bit k is 1. Two sets are equal where the numbers are.
 -- Union, intersection and symmetric difference are the library's bitOr, bitAnd and bitXor.
 use Prim.Native.Nat.{ℕ, zero, suc, _+_, _*_, _/_, _%_, _^_}
-use mathlib.Core.Bool.{Bool, true, false}
+use mathlib.Core.Bool.{Bool, true, false, _&&_}
 use lib.Bits.{bitAnd, bitXor}
-use lib.Dec.{eqb}
-use Rattle.sets.specs.Search.{lowest, countBelow, foundOr0}
+use lib.Dec.{eqb, leb}
+use Rattle.sets.specs.Search.{lowest, someBelow, countBelow, foundOr0}
 
 -- bit k of n is 1
 abbrev pub bit : ℕ → ℕ → Bool
@@ -34,3 +34,7 @@ lowestMember x = foundOr0 (lowest (bit x) 64)
 -- how many members a set of numbers below 64 has
 abbrev pub memberCount : ℕ → ℕ
 memberCount x = countBelow (bit x) 64
+
+-- a set of numbers below 64 has a member at or above m
+abbrev pub hasFrom : ℕ → ℕ → Bool
+hasFrom x m = someBelow (λ a. leb m a && bit x a) 64

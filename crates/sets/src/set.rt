@@ -6,7 +6,7 @@ ghost use Prim.Native.Nat.{_<_, _^_};
 ghost use lib.Bits.{bitAnd, bitOr, bitXor};
 ghost use lib.Dec.{eqb};
 ghost use Rattle.sets.specs.Search.{lowest};
-ghost use Rattle.sets.specs.Bits.{bit, difference, memberCount};
+ghost use Rattle.sets.specs.Bits.{bit, difference, memberCount, hasFrom};
 
 // A set of attributes: attribute a is in it where bit a is 1. The type also holds the limits of docs/FORMAT.md.
 pub struct AttributeSet {
@@ -107,6 +107,13 @@ impl AttributeSet {
         ensures { λ r. ⌜ r ≡ bit (self .bits) a ⌝ }
     {
         (self.bits >> a) % 2 == 1
+    }
+
+    // The set has an attribute at or above m. A word cannot be shifted by its 64 bits, so m is compared first.
+    pub fn has_from(self, m: usize) -> bool
+        ensures { λ r. ⌜ r ≡ hasFrom (self .bits) m ⌝ }
+    {
+        m < AttributeSet::MOST_ATTRIBUTES && (self.bits >> m) != 0
     }
 
     pub fn is_empty(self) -> bool

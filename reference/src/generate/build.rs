@@ -861,12 +861,12 @@ fn put_list(tables: &mut Tables, list: &[Entry]) {
 }
 
 /// The attributes of a set, ascending.
-fn bits(set: u64) -> Vec<u16> {
+pub(super) fn bits(set: u64) -> Vec<u16> {
     (0..64).filter(|a| set >> a & 1 == 1).collect()
 }
 
 /// The set of all attributes below a number.
-fn below(attributes: usize) -> u64 {
+pub(super) fn below(attributes: usize) -> u64 {
     match attributes {
         64 => u64::MAX,
         _ => (1 << attributes) - 1,

@@ -5,11 +5,13 @@ mod build;
 mod damage;
 mod fault;
 mod mutate;
+mod wanted;
 
 pub use build::Size;
 pub use damage::{damage, lengthened};
 pub use fault::{is_crossed, lengths_are_sound, more_comparisons, outcome, Limit, LIMITS};
 pub use mutate::mutate;
+pub use wanted::{wanted, wanted_by, Aim, Answer, AIMS};
 
 use crate::random::Random;
 use crate::tables::Tables;

@@ -13,11 +13,11 @@ check p = p .before .before
 
 returns : tie.Need-returns
 returns c =
-    let k = c .before .before in
+    let k = c .before .before .before in
     let called = check (k .before .before) in
     let s = start called in
     let a = answered (s .args .refusal .now) (sym (k .v .given .1) ∙ called .check .ensures .0) in
-    (a .0, (c .refusal-words .ensures ∙ a .1, (refl, called .check .ensures .1)))
+    (c .tell-refusal .ensures .0 ∙ a .0, (c .tell-refusal .ensures .1 ∙ a .1, (refl, called .check .ensures .1)))
 
 returns-2 : tie.Need-returns-2
 returns-2 c =

@@ -25,12 +25,12 @@ returns c =
 
 returns-2 : tie.Need-returns-2
 returns-2 c =
-    let m = c .before .before in
+    let m = c .before .before .before in
     let k = m .before .before .before .before .before .before .before .before .before .before in
     let a = start k .args in
     let left = rw (m .made2 .given .1) at (k .configure .ensures) in
     let e = configure-answered (tables k) (a .c) (a .new-entries .now) (a .new-relations .now) (a .new-comparisons .now) (a .new-queries .now) left in
-    (e .0, (c .refusal-words .ensures ∙ e .1 .0, e .1 .1))
+    (c .tell-refusal .ensures .0 ∙ e .0, (c .tell-refusal .ensures .1 ∙ e .1 .0, e .1 .1))
 
 pub gelvomas-configure-spec : {M : Type 1} → statement M
 gelvomas-configure-spec =

@@ -1,0 +1,3 @@
+pub mod WantedLaws
+pub mod FindLaws
+pub mod FindExamplesHold

@@ -1,0 +1,146 @@
+//! The cases in the folder `cases` are those that the source has, and their
+//! answers are the reference's.
+
+use std::collections::BTreeSet;
+use std::fs;
+use std::path::Path;
+
+use reference::cases::{find_cases, find_lines, find_notes};
+use reference::small::{self, Case};
+use reference::Tables;
+
+fn stored(name: &str) -> String {
+    let path = Path::new(env!("CARGO_MANIFEST_DIR"))
+        .join("cases")
+        .join(name);
+    fs::read_to_string(&path).unwrap_or_else(|error| panic!("{name}: {error}"))
+}
+
+/// A case that was read: its number, what it gives, and the call.
+struct Stored {
+    number: u64,
+    gives: String,
+    case: Case,
+}
+
+/// The cases of a text, in the format of `small_cases`.
+fn read_cases(text: &str) -> Vec<Stored> {
+    let mut cases = Vec::new();
+    let mut lines = text.lines();
+    while let Some(first) = lines.next() {
+        let number = first.strip_prefix("case ").expect("a case starts");
+        let inner: Vec<&str> = lines.by_ref().take_while(|&line| line != "end").collect();
+        let (gives, given) = inner.split_last().expect("a case gives something");
+        cases.push(Stored {
+            number: number.parse().expect("a case has a number"),
+            gives: gives.strip_prefix("gives ").expect("gives").to_string(),
+            case: read_case(given),
+        });
+    }
+    cases
+}
+
+/// The call of a case, from its lines between `case` and `gives`.
+fn read_case(lines: &[&str]) -> Case {
+    if let [text] = lines {
+        let bytes = text.strip_prefix("text").expect("a text");
+        return Case::Text(numbers(bytes));
+    }
+    let [head, t0, t1, t2, t3, t4, call] = lines else {
+        panic!("a case has a text, or a head, five tables and a call");
+    };
+    let words = |line: &str| numbers(&line[2..]);
+    let head: Vec<u64> = numbers(head.strip_prefix("head").expect("a head"));
+    let tables = Tables {
+        features: head[0],
+        attributes: head[1],
+        model: head[2],
+        expressions: words(t0),
+        entries: words(t1),
+        relations: words(t2),
+        comparisons: words(t3),
+        queries: words(t4),
+    };
+    let (name, asked) = call
+        .strip_prefix("call ")
+        .and_then(|call| call.split_once(' '))
+        .expect("a call");
+    let asked: Vec<u64> = numbers(asked);
+    match (name, &asked[..]) {
+        ("check", &[room]) => Case::Check {
+            tables,
+            room: room as usize,
+        },
+        ("configure", &[c, r1, r2, r3, r4]) => Case::Configure {
+            tables,
+            c,
+            room: [r1, r2, r3, r4].map(|words| words as usize),
+        },
+        ("find", &[wanted]) => Case::Find { tables, wanted },
+        _ => panic!("no such call: {call}"),
+    }
+}
+
+fn numbers<T: std::str::FromStr>(line: &str) -> Vec<T> {
+    let parts = line.split_whitespace().map(str::parse);
+    let numbers: Option<Vec<T>> = parts.map(Result::ok).collect();
+    numbers.expect("numbers only")
+}
+
+#[test]
+fn the_stored_answers_are_the_references() {
+    for name in ["limits.txt", "find.txt"] {
+        let cases = read_cases(&stored(name));
+        assert!(cases.len() >= 50);
+        for Stored {
+            number,
+            gives,
+            case,
+        } in cases
+        {
+            assert_eq!(small::answer(&case), gives, "{name}, case {number}");
+        }
+    }
+}
+
+/// `find_cases` writes them; it is to be run again when this fails.
+#[test]
+fn the_cases_of_find_are_what_the_command_makes() {
+    assert_eq!(stored("find.txt"), find_lines());
+    assert_eq!(stored("find.notes"), find_notes());
+}
+
+#[test]
+fn the_answers_worked_out_by_hand_are_the_references() {
+    for aimed in find_cases() {
+        assert_eq!(small::answer(&aimed.case), aimed.answer, "{}", aimed.note);
+    }
+}
+
+/// A number names one case, whichever file it is in, and each has its note.
+#[test]
+fn numbers_and_notes_are_one_to_one() {
+    let mut all = BTreeSet::new();
+    for name in ["limits", "find"] {
+        let cases = read_cases(&stored(&format!("{name}.txt")));
+        let notes = stored(&format!("{name}.notes"));
+        assert_eq!(notes.lines().count(), cases.len(), "{name}");
+        for (case, note) in cases.iter().zip(notes.lines()) {
+            let number = case.number;
+            assert!(note.starts_with(&format!("{number}: ")), "{note}");
+            assert!(all.insert(number), "{number} twice");
+        }
+    }
+}
+
+/// What is written reads back, so a case that is stored is the case that was
+/// meant.
+#[test]
+fn small_cases_read_back() {
+    for seed in 0..600 {
+        let lines = small::lines(seed, &small::case(seed));
+        let read = read_cases(&lines);
+        assert_eq!(read.len(), 1);
+        assert_eq!(small::lines(read[0].number, &read[0].case), lines);
+    }
+}
