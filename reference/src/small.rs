@@ -53,17 +53,17 @@ const REFUSALS: [u64; 24] = [
 pub fn case(seed: u64) -> Case {
     let mut random = Random::new(seed ^ 0x0073_6D61_6C6C);
     match random.below(100) {
-        0..=27 => {
+        0..=22 => {
             let tables = varied(&mut random);
             Case::Check { tables, room: ROWS }
         }
-        28..=46 => {
+        23..=42 => {
             // Neighbouring seeds go through all limits.
             let limit = &LIMITS[(seed % LIMITS.len() as u64) as usize];
             let tables = generate::small_limit(&mut random, limit);
             refused_check(&mut random, tables, limit.number)
         }
-        47..=55 => {
+        43..=55 => {
             let number = random.pick(&REFUSALS);
             let tables = match number {
                 11 => generate::small_accepted(&mut random),

@@ -167,7 +167,7 @@ fn faults_cross() {
     let crossed = several.filter(is_crossed).count();
     let small = (0..3000).map(small::case);
     let small_crossed = small
-        .filter(|case| tables_of(case).is_some_and(is_crossed))
+        .filter(|case| matches!(case, Case::Check { tables, .. } if is_crossed(tables)))
         .count();
     println!("crossed {crossed} of 400 several, {small_crossed} of 3000 small");
     assert!(crossed >= 40 && small_crossed >= 5);
@@ -295,7 +295,7 @@ fn small_cases_cover_everything() {
     }
     let finds = outcomes.iter().filter(|((call, _), _)| *call == "find");
     assert!((540..660).contains(&finds.map(|(_, times)| times).sum::<u64>()));
-    assert!((720..960).contains(&times("check", "rows")));
+    assert!((590..790).contains(&times("check", "rows")));
     assert!(times("configure", "written") >= 200);
     assert!((200..400).contains(&times("text", "print")));
 }

@@ -55,7 +55,7 @@ configuredWords (Configured.Refused r) = refusalWords r
 abbrev pub findAnswer : Tables → ℕ → FindAnswer
 findAnswer T wanted = foundAnswer (answer T (finding wanted)) (lowestWanted T wanted)
 
--- the number that is returned: found, none, refused
+-- the number that is returned: 0 found, 1 refused, 2 none
 abbrev pub foundNumber : FindAnswer → ℕ
 foundNumber (FindAnswer.At c) = 0
 foundNumber FindAnswer.None = 2

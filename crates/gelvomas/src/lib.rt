@@ -13,7 +13,8 @@ ghost use Rattle.configuring.specs.Promises.{Configures};
 ghost use Rattle.gelvomas.specs.Answers.{refusalWords, checkAnswer, answerNumber, answerWords, configureAnswer, configuredNumber, configuredWords};
 ghost use Rattle.gelvomas.specs.Answers.{findAnswer, foundNumber, foundWords};
 
-// Number, place, item and configuration of a refusal; how many forms tables 1 to 4 have; or a configuration, and three words that are 0.
+// Number, place, item and configuration of a refusal; how many forms tables 1 to 4 have; a configuration and three words that are 0; or, for none,
+// four such words.
 pub type AnswerWords = [u64; 4];
 
 // Tells a refusal: 1, and its words in those lent for the answer.
