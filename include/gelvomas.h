@@ -21,9 +21,9 @@ extern "C" {
 #endif
 
 #define GELVOMAS_VERSION_MAJOR 1
-#define GELVOMAS_VERSION_MINOR 1
+#define GELVOMAS_VERSION_MINOR 2
 #define GELVOMAS_VERSION_PATCH 0
-#define GELVOMAS_VERSION "1.1.0"
+#define GELVOMAS_VERSION "1.2.0"
 
 /* The most there may be of each. There is at least one expression and one query;
    of the others there may be none. */
@@ -107,14 +107,13 @@ enum gelvomas_refusal_number {
     GELVOMAS_REFUSED_MODEL = 4,
     /* attribute not below `attributes`, expression not in table 0 (entry) */
     GELVOMAS_REFUSED_ENTRY = 5,
-    /* expression not in table 0, list past table 1, attribute twice (relation) */
+    /* expression not in table 0, list past table 1 (relation) */
     GELVOMAS_REFUSED_RELATION = 6,
     /* unknown kind, unused word not 0, operand not lower, operator over 5, attribute
        not below `attributes`, expression not in table 0 (comparison) */
     GELVOMAS_REFUSED_COMPARISON = 7,
     /* unknown kind, unused word not 0, operand not lower or already taken; relation,
-       comparison or expression not in its table; list past table 1, attribute
-       twice (query) */
+       comparison or expression not in its table; list past table 1 (query) */
     GELVOMAS_REFUSED_QUERY = 8,
     /* no operand of any query, and not the last (query) */
     GELVOMAS_REFUSED_QUERY_LEFT = 9,

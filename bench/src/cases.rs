@@ -29,6 +29,7 @@ pub fn case(seed: u64, number: u64) -> (&'static str, Tables) {
         (Family::Several, ["several", "several, damaged"]),
         (Family::Small, ["small", "small, damaged"]),
         (Family::Full, ["full", "full, damaged"]),
+        (Family::Repeats, ["repeats", "repeats, damaged"]),
     ]);
     let mut tables = generate::of_family(family, seed);
     let damaged = random.chance(1, 5);

@@ -215,7 +215,8 @@ impl<'a> Checker<'a> {
     /// The bounds of a list; notes the rows of what varies in it.
     fn list(&mut self, list: &Range<usize>) -> Bounds {
         let mut bounds = Bounds::default();
-        let entries = &self.tables.entries[2 * list.start..2 * list.end];
+        let tables = self.tables;
+        let entries = &tables.entries[2 * list.start..2 * list.end];
         for entry in entries.chunks_exact(2) {
             let bit = 1 << (entry[0] & 63);
             let holds = self.known[usize::from(entry[1]) & 255];
@@ -227,7 +228,9 @@ impl<'a> Checker<'a> {
             for entry in entries.chunks_exact(2) {
                 if varies >> (entry[0] & 63) & 1 == 1 {
                     let place = list.start + rank(varies, u32::from(entry[0]));
-                    self.varying[place] = self.known[usize::from(entry[1]) & 255];
+                    // An attribute is there when any of its entries holds.
+                    let holds = self.known[usize::from(entry[1]) & 255];
+                    self.varying[place] = self.either(self.varying[place], holds);
                 }
             }
         }

@@ -84,7 +84,7 @@ impl Display for Refusal {
             (Refusal::RELATION, _) => write!(
                 f,
                 "relation {place} has an expression that is not in table 0, \
-                 a list past table 1, or an attribute twice"
+                 or a list past table 1"
             ),
             (Refusal::COMPARISON, _) => write!(
                 f,
@@ -97,7 +97,7 @@ impl Display for Refusal {
                 "form {place} has an unknown kind, an unused word that is not 0, \
                  an operand that is not lower or is already taken, \
                  a relation, comparison or expression that is not in its table, \
-                 a list past table 1, or an attribute twice"
+                 or a list past table 1"
             ),
             (Refusal::QUERY_LEFT, _) => write!(
                 f,

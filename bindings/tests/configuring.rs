@@ -1,5 +1,5 @@
-//! H4 of docs/FORMAT.md, "Worked examples", checks 20 and 21, the words lent, and what
-//! was written given back to the checker.
+//! H4 of docs/FORMAT.md, "Worked examples", a column listed for two reasons, checks 20
+//! and 21, the words lent, and what was written given back to the checker.
 
 mod common;
 
@@ -29,6 +29,20 @@ const VARIED: Tables = Tables {
     queries: &[
         1, 0, 0, 0, 3, 2, 0, 0, 1, 1, 0, 0, 2, 4, 2, 0, 0, 0, 0, 0, 4, 2, 3, 4, 5, 1, 5, 0,
     ],
+};
+
+/// Berth 0 and ramp 1; swaps 0 and tide gates 1. The relation lists the ramp for
+/// swaps, the berth, and the ramp again for tide gates. The report is the relation.
+const RAMP_TWICE: Tables = Tables {
+    features: 2,
+    attributes: 2,
+    model: 0,
+    // true; swaps; tide gates; not swaps; swaps and not swaps.
+    expressions: &[1, 0, 0, 2, 0, 0, 2, 1, 0, 3, 1, 0, 4, 1, 3],
+    entries: &[1, 1, 0, 0, 1, 2],
+    relations: &[0, 3],
+    comparisons: &[],
+    queries: &[1, 0, 0, 0],
 };
 
 /// The words of tables 1 to 4.
@@ -211,4 +225,33 @@ fn what_is_written_is_accepted_and_has_the_same_columns() {
     expect_same_columns(&VARIED, 1, &[0, 1]);
     expect_same_columns(&VARIED, 2, &[0, 3]);
     expect_same_columns(&VARIED, 3, &[0, 1, 3]);
+}
+
+/// Of each attribute the first entry that holds is kept, in the order of the list.
+#[test]
+fn a_column_is_listed_for_two_reasons() {
+    let kept: [(&[u16], &[usize]); 4] = [
+        (&[0, 0], &[0]),
+        (&[1, 0, 0, 0], &[0, 1]),
+        (&[0, 0, 1, 0], &[0, 1]),
+        (&[1, 0, 0, 0], &[0, 1]),
+    ];
+    for (configuration, (entries, columns)) in (0..).zip(kept) {
+        let relations = [0, entries.len() as u16 / 2];
+        let wanted = [entries, &relations, &[], &[1, 0, 0, 0]];
+        expect_written(&RAMP_TWICE, configuration, wanted);
+        expect_same_columns(&RAMP_TWICE, configuration, columns);
+    }
+}
+
+/// The ramp's second entry holds nowhere, though its first does.
+#[test]
+fn fourteen_tests_each_entry_by_itself() {
+    let entries = &[1, 1, 0, 0, 1, 4];
+    let nowhere = Tables {
+        entries,
+        ..RAMP_TWICE
+    };
+    expect_refused(&nowhere, 3, rooms(&nowhere), refused(14, 0, 1, 0));
+    assert_eq!(check(&nowhere, &mut [0; ROWS]), Err(refused(14, 0, 1, 0)));
 }

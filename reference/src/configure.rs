@@ -67,21 +67,25 @@ struct Numbers {
     comparisons: Vec<u16>,
 }
 
-/// The entries of a list that hold, with expression 0.
+/// "Each attribute's first entry that holds", with expression 0, in the order
+/// of the list: a later entry of an attribute that is kept goes.
 fn entries_at(tables: &Tables, list: &Range<usize>, holds: &[bool]) -> Vec<u16> {
     let mut words = Vec::new();
+    let mut kept = [false; 64];
     for number in list.clone() {
         let [attribute, expression] = tables.entry(number);
-        if holds[usize::from(expression)] {
+        let is_kept = &mut kept[usize::from(attribute)];
+        if holds[usize::from(expression)] && !*is_kept {
+            *is_kept = true;
             words.extend([attribute, 0]);
         }
     }
     words
 }
 
-/// "Relations present are kept in order, each with its entries that hold":
-/// words of the relations and of their entries, and the new numbers (that of an
-/// absent relation is never used, because the report was accepted).
+/// "Relations present are kept in order", each with the entries that configuring
+/// keeps: words of the relations and of their entries, and the new numbers (that
+/// of an absent relation is never used, because the report was accepted).
 fn relations_at(
     tables: &Tables,
     lists: &[Range<usize>],
@@ -127,9 +131,9 @@ fn comparisons_at(tables: &Tables, holds: &[bool]) -> (Vec<u16>, Vec<u16>) {
     (words, numbers)
 }
 
-/// "Kept queries are the non-choice forms reached at c, in order; project lists
-/// keep entries that hold. Lists of forms not kept go." Words of the queries and
-/// of the project lists.
+/// "Kept queries are the non-choice forms reached at c, in order"; project lists
+/// keep entries as relations do. "Lists of forms not kept go." Words of the
+/// queries and of the project lists.
 fn queries_at(
     tables: &Tables,
     lists: &[Range<usize>],

@@ -99,14 +99,14 @@ fn entries(tables: &Tables) -> Result<(), Refusal> {
     Ok(())
 }
 
-/// 6: expression not in table 0, list past table 1, attribute twice.
+/// 6: expression not in table 0, list past table 1.
 fn relations(tables: &Tables) -> Result<Vec<Range<usize>>, Refusal> {
     let mut lists = Vec::new();
     let mut start = 0;
     for number in 0..tables.count(2) {
         let [expression, count] = tables.relation(number);
         let list = start..start + usize::from(count);
-        if !is_in_table(tables, 0, expression) || !list_is_sound(tables, &list) {
+        if !is_in_table(tables, 0, expression) || is_past_entries(tables, &list) {
             return Err(Refusal::at(6, number));
         }
         start = list.end;
@@ -154,8 +154,7 @@ struct Seen {
 }
 
 /// 8: unknown kind, unused word not 0, operand not lower, relation, comparison
-/// or expression not in its table, list past table 1, attribute twice, operand
-/// already taken.
+/// or expression not in its table, list past table 1, operand already taken.
 fn queries(tables: &Tables, after_relations: usize) -> Result<Seen, Refusal> {
     let mut seen = Seen {
         taken: vec![false; tables.count(4)],
@@ -199,8 +198,7 @@ fn take_operands(tables: &Tables, form: usize, taken: &mut [bool]) -> bool {
     true
 }
 
-/// Notes where a project form's list lies; false when it is past table 1 or
-/// holds an attribute twice.
+/// Notes where a project form's list lies; false when it is past table 1.
 fn take_list(tables: &Tables, form: usize, seen: &mut Seen) -> bool {
     let [kind, a, ..] = tables.query(form);
     let length = match kind {
@@ -210,7 +208,7 @@ fn take_list(tables: &Tables, form: usize, seen: &mut Seen) -> bool {
     let list = seen.end..seen.end + length;
     seen.end = list.end;
     seen.lists.push(list.clone());
-    list_is_sound(tables, &list)
+    !is_past_entries(tables, &list)
 }
 
 /// 9: form other than the last never taken.
@@ -239,12 +237,7 @@ fn is_in_table(tables: &Tables, table: usize, word: u16) -> bool {
     usize::from(word) < tables.count(table)
 }
 
-/// Is the list inside table 1, and does it hold no attribute twice?
-fn list_is_sound(tables: &Tables, list: &Range<usize>) -> bool {
-    if list.end > tables.count(1) {
-        return false;
-    }
-    let mut attributes: Vec<u16> = list.clone().map(|e| tables.entry(e)[0]).collect();
-    attributes.sort_unstable();
-    attributes.windows(2).all(|pair| pair[0] != pair[1])
+/// Does the list go past table 1? It may hold an attribute more than once.
+fn is_past_entries(tables: &Tables, list: &Range<usize>) -> bool {
+    list.end > tables.count(1)
 }

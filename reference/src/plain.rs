@@ -90,10 +90,13 @@ impl Configurer<'_> {
         self.holds[usize::from(expression)]
     }
 
+    /// The attributes of a list there, each by its first entry that holds.
     fn list(&self, range: &std::ops::Range<usize>) -> Vec<u16> {
         let entries = range.clone().map(|number| self.tables.entry(number));
-        let kept = entries.filter(|&[_, expression]| self.holds(expression));
-        kept.map(|[attribute, _]| attribute).collect()
+        let there = entries.filter(|&[_, expression]| self.holds(expression));
+        let mut seen = Attributes::new();
+        let first = there.filter(|&[attribute, _]| seen.insert(attribute));
+        first.map(|[attribute, _]| attribute).collect()
     }
 
     fn schema(&self) -> BTreeMap<u16, Attributes> {

@@ -31,7 +31,8 @@ fn present_somewhere(
 }
 
 /// 14: relation and entry hold together at no permitted configuration. The
-/// entries go in the order of the list; the item is the attribute.
+/// entries go in the order of the list, and each is tested by itself, also where
+/// its attribute is there by another entry; the item is the attribute.
 fn entries_hold_somewhere(
     tables: &Tables,
     lists: &Lists,

@@ -45,8 +45,8 @@ pub const H1: &str = "(head 2 3 0)
 
 /// Numbers that few limits, or none, give: the more they lack, the more often
 /// they stand here.
-const REFUSALS: [u64; 24] = [
-    4, 9, 10, 11, 11, 11, 12, 13, 14, 15, 15, 15, 16, 17, 17, 17, 17, 18, 18, 18, 18, 19, 19, 19,
+const REFUSALS: [u64; 25] = [
+    4, 5, 6, 8, 9, 10, 11, 11, 11, 12, 13, 15, 15, 15, 16, 17, 17, 17, 18, 18, 18, 18, 19, 19, 19,
 ];
 
 /// The small case of a seed.
@@ -113,6 +113,11 @@ fn configuring(random: &mut Random) -> Case {
     if kind > 1 && random.chance(2, 3) {
         // Configuring writes all comparisons, also those that nothing names.
         generate::more_comparisons(random, &mut tables, 4);
+    }
+    if kind > 1 && random.chance(2, 3) {
+        // So that the order of the attributes changes with the configuration.
+        let delayed = |_| generate::delay(random, &mut tables, 8);
+        (0..12).find_map(delayed);
     }
     let count = 1u64 << tables.features.min(3);
     let inside = random.word() % count;

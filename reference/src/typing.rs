@@ -134,7 +134,8 @@ fn set_of_form(
     }
 }
 
-/// The attributes of a list's entries whose expression holds.
+/// The attributes of a list's entries whose expression holds: one that occurs
+/// more than once "is there when any of its entries holds".
 fn joined(tables: &Tables, list: &Range<usize>, holds: &[bool]) -> Set {
     let mut set = 0;
     for number in list.clone() {

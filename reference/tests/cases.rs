@@ -5,7 +5,7 @@ use std::collections::BTreeSet;
 use std::fs;
 use std::path::Path;
 
-use reference::cases::{find_cases, find_lines, find_notes};
+use reference::cases::FILES;
 use reference::small::{self, Case};
 use reference::Tables;
 
@@ -87,10 +87,15 @@ fn numbers<T: std::str::FromStr>(line: &str) -> Vec<T> {
     numbers.expect("numbers only")
 }
 
+/// The files of cases: `limits` has no source but itself.
+fn names() -> impl Iterator<Item = &'static str> {
+    ["limits"].into_iter().chain(FILES.map(|file| file.name))
+}
+
 #[test]
 fn the_stored_answers_are_the_references() {
-    for name in ["limits.txt", "find.txt"] {
-        let cases = read_cases(&stored(name));
+    for name in names() {
+        let cases = read_cases(&stored(&format!("{name}.txt")));
         assert!(cases.len() >= 50);
         for Stored {
             number,
@@ -103,16 +108,19 @@ fn the_stored_answers_are_the_references() {
     }
 }
 
-/// `find_cases` writes them; it is to be run again when this fails.
+/// `hand_cases` writes them; it is to be run again when this fails.
 #[test]
-fn the_cases_of_find_are_what_the_command_makes() {
-    assert_eq!(stored("find.txt"), find_lines());
-    assert_eq!(stored("find.notes"), find_notes());
+fn the_cases_with_a_source_are_what_the_command_makes() {
+    for file in FILES {
+        let name = file.name;
+        assert_eq!(stored(&format!("{name}.txt")), file.lines(), "{name}");
+        assert_eq!(stored(&format!("{name}.notes")), file.notes(), "{name}");
+    }
 }
 
 #[test]
 fn the_answers_worked_out_by_hand_are_the_references() {
-    for aimed in find_cases() {
+    for aimed in FILES.iter().flat_map(|file| (file.cases)()) {
         assert_eq!(small::answer(&aimed.case), aimed.answer, "{}", aimed.note);
     }
 }
@@ -121,7 +129,7 @@ fn the_answers_worked_out_by_hand_are_the_references() {
 #[test]
 fn numbers_and_notes_are_one_to_one() {
     let mut all = BTreeSet::new();
-    for name in ["limits", "find"] {
+    for name in names() {
         let cases = read_cases(&stored(&format!("{name}.txt")));
         let notes = stored(&format!("{name}.notes"));
         assert_eq!(notes.lines().count(), cases.len(), "{name}");

@@ -4,9 +4,10 @@ mod common;
 
 use std::collections::{BTreeMap, BTreeSet};
 
-use common::checked;
+use common::{checked, first_that_hold, lists_at, Listed};
 use reference::check::shown;
-use reference::generate::{self, is_crossed, is_small, outcome, Answer, AIMS, LIMITS};
+use reference::generate::{self, is_crossed, is_small, outcome};
+use reference::generate::{Answer, Family, Kept, AIMS, LIMITS};
 use reference::random::Random;
 use reference::small::{self, Case};
 use reference::tables::{operands, RANGES};
@@ -190,6 +191,157 @@ fn full_cases_are_full() {
     }
     assert!(outcomes.contains(&0) && outcomes.len() > 3, "{outcomes:?}");
 }
+
+/// How often the tables are of each sort that has to do with repeats.
+fn sorts_of_repeats(cases: impl Iterator<Item = Tables>) -> BTreeMap<&'static str, u64> {
+    let mut sorts = BTreeMap::new();
+    for tables in cases.filter(generate::has_repeat) {
+        let answer = checked(&tables);
+        let other = |kept| checked(&generate::without_repeats(&tables, kept)) != answer;
+        let (first, last) = (other(Kept::First), other(Kept::Last));
+        let mut count = |sort, is: bool| *sorts.entry(sort).or_default() += u64::from(is);
+        count("a repeat", true);
+        count(
+            "an attribute three times",
+            generate::most_often(&tables) > 2,
+        );
+        count("the first entries give another answer", first);
+        count("the last entries give another answer", last);
+        count("accepted", answer.is_ok());
+        count("accepted, and not by one entry", answer.is_ok() && first);
+        for (number, sort) in [
+            (14, "14 by a repeat"),
+            (16, "16 by a repeat"),
+            (17, "17 by a repeat"),
+            (18, "18 by a repeat"),
+            (19, "19 by a repeat"),
+        ] {
+            let is = matches!(&answer, Err(refusal) if refusal.number == number);
+            count(sort, is && (first || last));
+        }
+    }
+    println!("{sorts:?}");
+    sorts
+}
+
+#[test]
+fn repeats_are_no_rare_thing() {
+    let times = sorts_of_repeats((0..6000).map(generate::case));
+    assert!(times["a repeat"] >= 2000);
+    assert!(times["an attribute three times"] >= 600);
+    assert!(times["accepted"] >= 1500);
+    assert!(times["accepted, and not by one entry"] >= 600);
+    assert!(times["14 by a repeat"] >= 40 && times["17 by a repeat"] >= 50);
+    for number in ["16 by a repeat", "18 by a repeat", "19 by a repeat"] {
+        assert!(times[number] >= 12, "{number}");
+    }
+    let checks = (0..6000).filter_map(|seed| match small::case(seed) {
+        Case::Check { tables, .. } => Some(tables),
+        _ => None,
+    });
+    let small = sorts_of_repeats(checks);
+    assert!(small["a repeat"] >= 500 && small["accepted, and not by one entry"] >= 100);
+    assert!(small["14 by a repeat"] >= 15 && small["17 by a repeat"] >= 15);
+}
+
+/// Lists of which no shorter one is left, and of all attributes at once.
+#[test]
+fn lists_are_as_long_as_they_may_be() {
+    let long = |tables: &Tables| generate::most_often(tables) > 400;
+    let repeats = |seed| generate::of_family(Family::Repeats, seed);
+    let outcomes = (0..150).map(repeats).filter(long).map(|t| outcome(&t));
+    let outcomes: BTreeSet<u64> = outcomes.collect();
+    println!("{outcomes:?}");
+    assert!([0, 14, 17].iter().all(|number| outcomes.contains(number)));
+    let whole = |tables: &Tables| generate::most_often(tables) == 512 && outcome(tables) == 0;
+    assert!((0..150).map(repeats).filter(whole).count() >= 3);
+}
+
+/// The calls that configure accepted tables, where a wrong way to keep entries
+/// would be told.
+#[test]
+fn configuring_shows_which_entry_is_kept() {
+    let mut random = Random::new(7);
+    let mut calls: Vec<(Tables, u64)> = Vec::new();
+    for seed in 0..3000 {
+        let tables = generate::case(seed);
+        if outcome(&tables) == 0 {
+            let permitted = expression::permitted(&tables);
+            calls.push((
+                tables,
+                permitted[random.below(permitted.len())].configuration,
+            ));
+        }
+    }
+    let varied = wrong_configurers(calls);
+    assert!(varied.values().all(|&times| times >= 150), "{varied:?}");
+    let small = (0..6000).filter_map(|seed| match small::case(seed) {
+        Case::Configure { tables, c, room } => {
+            let answer = small::answer(&Case::Configure {
+                tables: tables.clone(),
+                c,
+                room,
+            });
+            answer.starts_with("written").then_some((tables, c))
+        }
+        _ => None,
+    });
+    let small = wrong_configurers(small.collect());
+    assert!(small.values().all(|&times| times >= 15), "{small:?}");
+}
+
+/// How many of the calls tell each wrong way from the right one.
+fn wrong_configurers(calls: Vec<(Tables, u64)>) -> BTreeMap<&'static str, u64> {
+    let mut told = BTreeMap::new();
+    println!("{} calls", calls.len());
+    for (tables, c) in calls {
+        for (name, wrong) in WRONG_WAYS {
+            let is_told = |list: &Listed| wrong(list) != first_that_hold(list);
+            let is_told = lists_at(&tables, c).iter().any(is_told);
+            *told.entry(*name).or_default() += u64::from(is_told);
+        }
+    }
+    println!("{told:?}");
+    told
+}
+
+type Way = (&'static str, fn(&Listed) -> Vec<u16>);
+
+const WRONG_WAYS: &[Way] = &[
+    ("all that hold", |list| {
+        let there = list.iter().filter(|(_, holds)| *holds);
+        there.map(|&(attribute, _)| attribute).collect()
+    }),
+    ("the first, if it holds", |list| {
+        let mut kept = first_that_hold(list);
+        kept.retain(|&attribute| {
+            let first = list.iter().find(|(other, _)| *other == attribute);
+            first.is_some_and(|(_, holds)| *holds)
+        });
+        kept
+    }),
+    ("in the order of the first entries, held or not", |list| {
+        let all: Listed = list
+            .iter()
+            .map(|&(attribute, _)| (attribute, true))
+            .collect();
+        let there = first_that_hold(list);
+        let mut order = first_that_hold(&all);
+        order.retain(|attribute| there.contains(attribute));
+        order
+    }),
+    ("the last that holds", |list| {
+        let reversed: Listed = list.iter().rev().copied().collect();
+        let mut kept = first_that_hold(&reversed);
+        kept.reverse();
+        kept
+    }),
+    ("in the order of the attributes", |list| {
+        let mut kept = first_that_hold(list);
+        kept.sort_unstable();
+        kept
+    }),
+];
 
 /// Each sort of wanted set gives the answer that it aims at, and there are
 /// occasions for it.

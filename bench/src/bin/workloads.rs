@@ -58,7 +58,9 @@ fn run() -> Result<(), String> {
     time_checks(&workloads)?;
     time_generated()?;
     time_chains(deep)?;
+    println!("(e) configuring at {MIDDLE}, ours and the reference's in turn:");
     time_configuring(&workloads[..2])?;
+    time_configuring(&[("one attribute, 512 times", one_attribute())])?;
     time_finding(&workloads[..2])
 }
 
@@ -154,7 +156,6 @@ fn time_chains(full: Tables) -> Result<(), String> {
 }
 
 fn time_configuring(workloads: &[Workload]) -> Result<(), String> {
-    println!("(e) configuring at {MIDDLE}, ours and the reference's in turn:");
     for (name, tables) in workloads {
         let [ours, theirs] = configuring(tables)
             .ok_or_else(|| format!("{name}: not written, or the words differ"))?;
@@ -321,6 +322,25 @@ fn union_of_relations() -> Tables {
         relations: [[0, 16]; 32].concat(),
         comparisons: vec![],
         queries: queries.concat(),
+    }
+}
+
+/// A relation that lists one attribute 512 times, under each feature and its
+/// negation by turns. It is the report.
+fn one_attribute() -> Tables {
+    let mut expressions = vec![[1, 0, 0]];
+    expressions.extend((0..FEATURES).map(|feature| [2, feature, 0]));
+    expressions.extend((1..=FEATURES).map(|feature| [3, feature, 0]));
+    let list = (0..512).map(|entry| [0, 1 + entry % (2 * FEATURES)]);
+    Tables {
+        features: FEATURES.into(),
+        attributes: 1,
+        model: 0,
+        expressions: expressions.concat(),
+        entries: list.collect::<Vec<_>>().concat(),
+        relations: vec![0, 512],
+        comparisons: vec![],
+        queries: vec![1, 0, 0, 0],
     }
 }
 

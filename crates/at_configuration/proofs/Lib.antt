@@ -1,3 +1,4 @@
 pub mod HoldLaws
 pub mod ListLaws
 pub mod PreparedLaws
+pub mod JoinedLaws

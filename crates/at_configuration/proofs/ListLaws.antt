@@ -8,7 +8,7 @@ use lib.ListN.{length}
 use Rattle.sets.specs.Rows.{rowBit, rowIn}
 use Rattle.report.specs.Tables.{Tables, entryAttribute, entryExpression, entryCount, expressionCount}
 use Rattle.report.specs.Tables.{relationLength, relationStart, projectLength, relationsEnd}
-use Rattle.report.specs.Typing.{at}
+use Rattle.report.specs.Typing.{at, entryHolds}
 use Rattle.report.specs.Formed.{QueryLower}
 use Rattle.report.specs.declared.Query.{Query}
 use Rattle.report.proofs.FormedFacts.{entry-narrow, entry-expression, query-at}
@@ -47,7 +47,7 @@ module _ {T : Tables} {offset : ℕ} {conditions entries : List ℕ} {c start co
       pub entry-rowed : (e * 16 + 16 ≤ length conditions) × (c < 1024)
       entry-rowed = rowed (R .reads) expression-in
 
-      pub entry-holds : {b : Bool} → b ≡ rowBit (rowIn 16 conditions e) c → b ≡ at T c (entryExpression (T .entries) (offset + start + i))
+      pub entry-holds : {b : Bool} → b ≡ rowBit (rowIn 16 conditions e) c → b ≡ entryHolds T c (offset + start + i)
       entry-holds d = d ∙ holds-in (R .reads) expression-in ∙ ap (at T c) expression-is
 
     -- the entries of a list up to entry i

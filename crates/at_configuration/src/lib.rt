@@ -1,14 +1,17 @@
-// What holds at one configuration c, read from the expression rows and the reach rows: an expression, an entry of a list, a relation, a choice.
+// What holds at one configuration c, read from the expression rows and the reach rows: an expression, an entry of a list, a relation, a choice; and
+// the joined set of a list.
+use decoders::entry_attribute;
 use decoders::entry_expression;
 use decoders::relation_expression;
+use sets::AttributeSet;
 use sets::Row;
 ghost use mathlib.Core.Path.{_≡_};
 ghost use mathlib.Core.Bool.{cond};
 ghost use Prim.Native.Nat.{ℕ, _+_, _*_, _<_, _≤_};
 ghost use lib.ListN.{length};
 ghost use Rattle.sets.specs.Rows.{rowBit, rowIn};
-ghost use Rattle.report.specs.Tables.{Tables, entryExpression};
-ghost use Rattle.report.specs.Typing.{at, present};
+ghost use Rattle.report.specs.Tables.{Tables};
+ghost use Rattle.report.specs.Typing.{entryHolds, joinedSet, present};
 ghost use Rattle.at_configuration.specs.AtConfiguration.{ListReads, ListReadable, PresentReads, PresentReadable};
 
 // Configuration c is in row x of the rows: expression x holds there, or form x is reached.
@@ -36,9 +39,33 @@ pub fn entry_holds(entries: &[u16], conditions: &[u64], c: usize, start: usize, 
     requires { ⌜ ListReadable (now conditions) (now entries) c start (i + 1) ⌝ }
     ensures { λ b.
         ⌜ ((T : Tables) (offset : ℕ) → ListReads T offset (now (conditions .entry)) (now (entries .entry)) c start (i + 1)
-        → b ≡ at T c (entryExpression (T .entries) (offset + start + i))) ⌝ }
+        → b ≡ entryHolds T c (offset + start + i)) ⌝ }
 {
     holds_at(conditions, entry_expression(entries, start + i), c)
+}
+
+// The joined set of a list at c: the attributes of those of the `count` entries from `start` on that hold.
+pub fn joined_at(
+    entries: &[u16],
+    conditions: &[u64],
+    c: usize,
+    start: usize,
+    count: usize,
+) -> AttributeSet
+    requires { ⌜ ListReadable (now conditions) (now entries) c start count ⌝ }
+    ensures { λ s.
+        ⌜ ((T : Tables) (offset : ℕ) → ListReads T offset (now (conditions .entry)) (now (entries .entry)) c start count
+        → s .bits ≡ joinedSet T c (offset + start) count) ⌝ }
+{
+    let mut joined = AttributeSet::empty();
+    let mut i = 0;
+    while i < count {
+        let a = entry_attribute(entries, start + i);
+        let holds = entry_holds(entries, conditions, c, start, i);
+        joined = joined.with_if(a, holds);
+        i += 1;
+    }
+    joined
 }
 
 // Relation r is present at c.

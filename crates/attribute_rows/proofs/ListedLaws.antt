@@ -16,7 +16,7 @@ use Rattle.sets.proofs.BitLaws.{bit-none, bit-or, bit-pow}
 use Rattle.sets.proofs.RowLaws.{join-within}
 use Rattle.report.specs.Tables.{Tables, expressionCount, entryCount, entryAttribute, entryExpression}
 use Rattle.report.specs.Tables.{relationCount, relationExpression, relationLength, relationStart}
-use Rattle.report.specs.Typing.{at, listed, relationSet}
+use Rattle.report.specs.Typing.{at, joinedSet, relationSet}
 use Rattle.report.specs.Configuring.{written}
 use Rattle.report.proofs.FormedFacts.{entry-expression, relation-expression}
 use Rattle.report.proofs.EntryParts.{relation-part, relation-in-part}
@@ -97,13 +97,13 @@ entry-read A i h =
 
 module _ {conditions entries : List ℕ} {a start count : ℕ} {row : List ℕ} where
   pub listing-none : row ≡ rowOf 16 (λ c. false) → EntriesJoining conditions entries a start count row 0
-  unfolding listed
+  unfolding joinedSet
   listing-none e = record { most = omega arith; joined = λ T offset R. e ∙ has-none T a }
 
   module _ {i : ℕ} (S : EntriesJoining conditions entries a start count row i) where
     pub listing-more : i < count → {after : List ℕ} → after ≡ entryRow conditions entries a (start + i) row
         → EntriesJoining conditions entries a start count after (i + 1)
-    unfolding listed
+    unfolding joinedSet
     listing-more h e = record {
       most = omega arith;
       joined = λ T offset R.
@@ -112,7 +112,7 @@ module _ {conditions entries : List ℕ} {a start count : ℕ} {row : List ℕ} 
           let l = listRow T a (offset + start) in
           e ∙ ap₂ (λ (b y : ℕ). cond (eqb a b) (rowJoin 16 row (rowIn 16 conditions y)) row) (attribute-is R i h) (expression-is R i h)
           ∙ ap₂ (λ (r own : List ℕ). cond (eqb a t) (rowJoin 16 r own) r) (S .joined T offset R) (R .filled .each x (expression-in R i h))
-          ∙ join-entry T a (λ c. at T c x) (λ c. listed T c (offset + start) i) t ∙ ap l (sym (add-one i));
+          ∙ join-entry T a (λ c. at T c x) (λ c. joinedSet T c (offset + start) i) t ∙ ap l (sym (add-one i));
     }
 
     pub listing-all : count ≤ i → (T : Tables) (offset : ℕ) → ListRowReads T offset conditions entries start count

@@ -8,7 +8,7 @@ use lib.ListN.{length}
 use Rattle.sets.specs.Bits.{bit}
 use Rattle.sets.specs.Rows.{rowOf, within}
 use Rattle.report.specs.Tables.{Tables, entriesOfRelations}
-use Rattle.report.specs.Typing.{listed, present, relationSet, names, setOf}
+use Rattle.report.specs.Typing.{joinedSet, present, relationSet, names, setOf}
 use Rattle.report.specs.Formed.{Formed, EntriesFrom}
 use Rattle.conditions.specs.Conditions.{Conditioned}
 
@@ -19,7 +19,7 @@ module _ (T : Tables) (a : ℕ) where
 
   -- `count` entries from `start` on
   abbrev pub listRow : ℕ → ℕ → List ℕ
-  listRow start count = hasRow (λ c. listed T c start count)
+  listRow start count = hasRow (λ c. joinedSet T c start count)
 
   -- a relation: none where it is absent
   abbrev pub relationRow : ℕ → List ℕ

@@ -1,26 +1,32 @@
 -- The promises and the theorems of Demands are about something: calls on H1 (docs/FORMAT.md, "Worked examples"), by computation.
-use Prim.Native.Nat.{ℕ}
+use Prim.Native.Nat.{ℕ, zero, suc, _<_}
 use mathlib.Core.Path.{_≡_, refl, sym, ap}
-use mathlib.Core.Bool.{true}
+use mathlib.Core.Bool.{true, false}
 use mathlib.Core.List.{List, [], _∷_}
+use native.Mathlib.Omega.{arith}
 use lib.ListN.{replicate}
 use lib.Dec.{lit≤}
+use Rattle.report.specs.Tables.{tablesOf, query, relationLength, relationStart, projectLength, projectStart}
 use Rattle.report.specs.Expressions.{permitted}
 use Rattle.report.specs.ColumnRows.{columnRows}
 use Rattle.report.specs.Verdicts.{refusal, after}
-use Rattle.report.specs.Examples.{h1}
+use Rattle.report.specs.FormChecks.{listFits}
+use Rattle.report.specs.Calls.{configuring}
+use Rattle.report.specs.Repeats.{relationRepeats, projectRepeats, NoRepeats, answerBefore, configuredBefore}
+use Rattle.report.specs.Examples.{h1, rampTwice}
 use Rattle.report.specs.declared.Verdict.{Verdict}
 use Rattle.report.proofs.ExamplesHold.{computed}
 use Rattle.report.proofs.Guards.{h1-accepted}
 use Rattle.checking.specs.Promises.{Checks}
 use Rattle.configuring.specs.declared.Configured.{Configured}
-use Rattle.configuring.specs.Promises.{Rooms, Configures}
+use Rattle.configuring.specs.Promises.{Rooms, Leaves, Configures}
 use Rattle.finding.specs.declared.FindAnswer.{FindAnswer}
 use Rattle.finding.specs.Finding.{lowestWanted, Finds}
 use Rattle.demands.specs.FoundWritten.{FoundWritten}
 use Rattle.demands.specs.FoundConfiguration.{columnsAt, HoldsAll, LowestWith, NoneWith}
 use Rattle.demands.proofs.Demands.{found-written}
 use Rattle.demands.proofs.Finding.{find-found, find-none}
+use Rattle.demands.proofs.Joined.{configure-once, configure-before}
 
 -- tables lent with other words in them, table 1 with two words more than its source
 abbrev lent1 : List ℕ
@@ -63,6 +69,38 @@ pub h4-found : FoundWritten (h1 2) 0 (columnRows (h1 2)) lent1 lent2 [] lent4 (C
     (0 ∷ 2 ∷ []) [] (1 ∷ 0 ∷ 0 ∷ 0 ∷ 3 ∷ 1 ∷ 0 ∷ 0 ∷ [])
 h4-found =
     found-written (h1 2) 0 lent1 lent2 [] lent4 _ _ _ _ _ h4-configures (replicate 1024 9) (columnRows (h1 2)) h1-checks h4-permitted h4-rooms
+
+-- Wish 2: H1 has no list with an attribute twice, so H4 is what it was. A relation that lists the ramp for swaps and again for tide gates has such a
+-- list; what is written of it with tide gates alone has none
+pub h1-once : NoRepeats (h1 2)
+unfolding computed
+h1-once = record { relations = relation; projects = project }
+  where
+    relation : (r : ℕ) → r < 1 → listFits (h1 2 .entries) (relationStart (h1 2 .relations) r) (relationLength (h1 2 .relations) r) ≡ true
+        → relationRepeats (h1 2) r ≡ false
+    relation zero h f = refl
+    relation (suc r) h f = absurd (omega arith)
+
+    project : (q : ℕ) → q < 2 → listFits (h1 2 .entries) (projectStart (h1 2) q) (projectLength (query (h1 2 .queries) q)) ≡ true
+        → projectRepeats (h1 2) q ≡ false
+    project zero h f = refl
+    project (suc zero) h f = refl
+    project (suc (suc q)) h f = absurd (omega arith)
+
+pub h4-before : Leaves (answerBefore (h1 2) (configuring 0 12 2 0 8)) (configuredBefore (h1 2) 0) lent1 lent2 [] lent4 (Configured.Written 3 1 0 2)
+    (0 ∷ 0 ∷ 1 ∷ 0 ∷ 0 ∷ 0 ∷ replicate 6 9) (0 ∷ 2 ∷ []) [] (1 ∷ 0 ∷ 0 ∷ 0 ∷ 3 ∷ 1 ∷ 0 ∷ 0 ∷ [])
+h4-before = configure-before (h1 2) 0 lent1 lent2 [] lent4 _ _ _ _ _ h4-configures h1-once
+
+pub ramp-repeats : relationRepeats rampTwice 0 ≡ true
+ramp-repeats = refl
+
+ramp-configures : Configures rampTwice 2 (replicate 7 9) lent2 [] (replicate 4 9) (Configured.Written 2 1 0 1)
+    (0 ∷ 0 ∷ 1 ∷ 0 ∷ replicate 3 9) (0 ∷ 2 ∷ []) [] (1 ∷ 0 ∷ 0 ∷ 0 ∷ [])
+unfolding computed
+ramp-configures = record { answers = refl; entries = refl; relations = refl; comparisons = refl; queries = refl }
+
+pub ramp-once : NoRepeats (tablesOf 0 2 0 (1 ∷ 0 ∷ 0 ∷ []) (0 ∷ 0 ∷ 1 ∷ 0 ∷ []) (0 ∷ 2 ∷ []) [] (1 ∷ 0 ∷ 0 ∷ 0 ∷ []))
+ramp-once = configure-once rampTwice 2 (replicate 7 9) lent2 [] (replicate 4 9) _ _ _ _ _ ramp-configures 2 1 0 1 refl
 
 -- `find` on H1: vessel and ramp are wanted, and 2 is the lowest configuration that has both; 0 has not. Berth no configuration has
 h1-finds : Finds (h1 2) 5 (FindAnswer.At 2)

@@ -39,7 +39,7 @@ use Rattle.configuring.proofs.ConfigureLaws.{room-accepted, read-back, configur
 use Rattle.demands.specs.FoundWritten.{FoundWritten}
 
 -- a check that accepts leaves the column rows
-left-rows : (T : Tables) (rows rows′ : List ℕ) → Checks T rows Verdict.Accepted rows′ → rows′ ≡ columnRows T
+pub left-rows : (T : Tables) (rows rows′ : List ℕ) → Checks T rows Verdict.Accepted rows′ → rows′ ≡ columnRows T
 left-rows T rows rows′ k = k .1 ∙ ap (λ (v : Verdict). after v (columnRows T) rows) (sym (k .0))
 
 -- ---- "Tables sound in form and schema, with rows lent at their full length, it accepts exactly when those rules do, and the column rows it writes

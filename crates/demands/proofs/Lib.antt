@@ -1,3 +1,4 @@
 pub mod Demands
 pub mod Finding
+pub mod Joined
 pub mod CallGuards

@@ -28,7 +28,7 @@ use Rattle.report.specs.Configuring.{written}
 use Rattle.report.specs.Formed.{Formed, QueryLower}
 use Rattle.report.specs.declared.Query.{Query}
 use Rattle.report.proofs.FormedFacts.{query-at, report-in}
-use Rattle.report.proofs.SetLaws.{listed-narrow, names-narrow, set-narrow}
+use Rattle.report.proofs.SetLaws.{joined-narrow, names-narrow, set-narrow}
 use Rattle.fault_rows.specs.FaultRows.{faultyRow, columnRow, Items}
 
 -- ---- items at fault are below `items`
@@ -49,7 +49,7 @@ module _ {T : Tables} (F : Formed T) {items : ℕ} (I : Items T items) (c : ℕ)
       fault true = pow-pos items
       fault false = pow-lt {i = r} {j = items} (let n = I .relations in omega arith)
   faults-rule q h (Query.Select f b) l = difference-lt items _ _ (narrow (names-narrow F c f (l .0)))
-  faults-rule q h (Query.Project n b) l = difference-lt items _ _ (narrow (listed-narrow F c _ n (l .0 .inside)))
+  faults-rule q h (Query.Project n b) l = difference-lt items _ _ (narrow (joined-narrow F c _ n (l .0)))
   faults-rule q h (Query.Choice e b d) l = pow-pos items
   faults-rule q h (Query.Product b d) l = and-lt items _ _ (operand (l .first .lower) h) (operand (l .second .lower) h)
   faults-rule q h (Query.Union b d) l = xor-lt items _ _ (operand (l .first .lower) h) (operand (l .second .lower) h)

@@ -1,64 +1,19 @@
--- Laws of the sets of lists and relations.
-use Prim.Native.Nat.{ℕ, _+_, _/_, _^_, _<_, _≤_}
+-- Laws of the sets of relations.
+use Prim.Native.Nat.{ℕ, _+_, _/_, _<_, _≤_}
 use mathlib.Core.Path.{_≡_, refl, sym, ap, ap₂, _∙_}
-use mathlib.Core.Bool.{Bool, true, false, cond}
+use mathlib.Core.Bool.{Bool, cond}
 use mathlib.Core.List.{List}
 use native.Mathlib.Numerals.{add-one}
 use native.Mathlib.Omega.{arith}
-use lib.Bits.{bitOr, or-zero-r}
 use lib.ListN.{length, set}
 use Rattle.sets.specs.Lists.{table}
 use Rattle.sets.proofs.ListLaws.{NumbersFilling, filling-none, filling-place, filling-more, filling-all}
-use Rattle.report.specs.Tables.{Tables, entryAttribute, entryExpression, relationLength, relationStart, relationCount}
-use Rattle.report.specs.Typing.{at, listed, present, relationSet}
+use Rattle.report.specs.Tables.{Tables, relationLength, relationStart, relationCount}
+use Rattle.report.specs.Typing.{joinedSet, present, relationSet}
 use Rattle.report.specs.Configuring.{written}
 use Rattle.at_configuration.specs.AtConfiguration.{ListReads, PresentReads, PresentReadable, RelationReads}
-use Rattle.at_configuration.proofs.ListLaws.{attribute-is, each-entry, reads-present, starts-at, is-long, relation-list}
+use Rattle.at_configuration.proofs.ListLaws.{reads-present, starts-at, is-long, relation-list}
 use Rattle.faults_at.specs.SetsAt.{presentSet, RelationSetsReadable, RelationSetReadable}
-
--- ---- one entry more
-
--- a set with an attribute more if a test holds
-with-test : (bits a : ℕ) (t : Bool) → cond t (bitOr bits (2 ^ a)) bits ≡ bitOr bits (cond t (2 ^ a) 0)
-with-test bits a true = refl
-with-test bits a false = sym (or-zero-r bits)
-
-module _ {T : Tables} {offset : ℕ} {conditions entries : List ℕ} {c start count : ℕ} (R : ListReads T offset conditions entries c start count)
-    {i : ℕ} (h : i < count) {a : ℕ} (p : a ≡ entryAttribute entries (start + i)) {t : Bool} (d : t ≡ at T c (entryExpression (T .entries) (offset + start + i))) where
-  entry-more : {bits after : ℕ} → bits ≡ listed T c (offset + start) i → after ≡ cond t (bitOr bits (2 ^ a)) bits
-      → after ≡ listed T c (offset + start) (i + 1)
-  unfolding listed
-  entry-more {bits} s joined =
-      joined ∙ with-test bits a t ∙ ap₂ bitOr s (ap₂ (λ (t : Bool) (b : ℕ). cond t (2 ^ b) 0) d (attribute-is R h p))
-      ∙ ap (listed T c (offset + start)) (sym (add-one i))
-
--- ---- the loop over a list
-
--- of the `count` entries from `start` on the first i are joined
-pub record EntriesListing (conditions entries : List ℕ) (c start count bits i : ℕ) : Type 0 where
-  pub most : i ≤ count
-  pub joined : (T : Tables) (offset : ℕ) → ListReads T offset conditions entries c start count → bits ≡ listed T c (offset + start) i
-
-module _ {conditions entries : List ℕ} {c start count bits : ℕ} where
-  pub listing-none : bits ≡ 0 → EntriesListing conditions entries c start count bits 0
-  unfolding listed
-  listing-none e = record { most = omega arith; joined = λ T offset R. e }
-
-  module _ {i : ℕ} (S : EntriesListing conditions entries c start count bits i) where
-    pub listing-more : i < count → {a after : ℕ} {t : Bool} → a ≡ entryAttribute entries (start + i)
-        → ((T : Tables) (offset : ℕ) → ListReads T offset conditions entries c start (i + 1) → t ≡ at T c (entryExpression (T .entries) (offset + start + i)))
-        → after ≡ cond t (bitOr bits (2 ^ a)) bits
-        → EntriesListing conditions entries c start count after (i + 1)
-    listing-more h p d e = record {
-      most = omega arith;
-      joined = λ T offset R. entry-more R h p (d T offset (each-entry R h)) (S .joined T offset R) e;
-    }
-
-    pub listing-all : count ≤ i → (T : Tables) (offset : ℕ) → ListReads T offset conditions entries c start count
-        → bits ≡ listed T c (offset + start) count
-    listing-all h T offset R =
-        let e : i ≡ count = (let l = S .most in omega arith) in
-        S .joined T offset R ∙ ap (listed T c (offset + start)) e
 
 -- ---- one relation
 
@@ -80,8 +35,8 @@ module _ {conditions entries relations : List ℕ} {c r start : ℕ} (A : Relati
     pub asked-list : ListReads T 0 conditions entries c start n
     asked-list = relation-list R (A .starts) (A .inside) e
 
-    pub relation-listed : {s : ℕ} → s ≡ listed T c (0 + start) n → s ≡ relationSet T c r
-    relation-listed p = p ∙ ap₂ (listed T c) (starts-at R (A .starts) (A .inside) e) (is-long R (A .starts) (A .inside) e)
+    pub relation-joined : {s : ℕ} → s ≡ joinedSet T c (0 + start) n → s ≡ relationSet T c r
+    relation-joined p = p ∙ ap₂ (joinedSet T c) (starts-at R (A .starts) (A .inside) e) (is-long R (A .starts) (A .inside) e)
 
 -- ---- the loop over the relations
 

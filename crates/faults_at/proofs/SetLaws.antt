@@ -8,7 +8,7 @@ use native.Mathlib.Omega.{arith}
 use lib.ListN.{length, set}
 use Rattle.sets.proofs.ListLaws.{NumbersFilling, filling-none, filling-below, filling-place, filling-more, filling-all}
 use Rattle.report.specs.Tables.{Tables, query, projectLength, projectedBefore, relationsEnd}
-use Rattle.report.specs.Typing.{listed, projectSet, setRule, setOf}
+use Rattle.report.specs.Typing.{joinedSet, projectSet, setRule, setOf}
 use Rattle.report.specs.Formed.{FreePair}
 use Rattle.report.specs.declared.Query.{Query}
 use Rattle.report.proofs.StepLaws.{set-in}
@@ -26,8 +26,8 @@ module _ {T : Tables} {q : ℕ} {conditions entries : List ℕ} {c start : ℕ} 
   pub project-list : ListReads T (relationsEnd T) conditions entries c start n
   project-list = form-list A (sym (ap projectLength e))
 
-  pub project-listed : {s : ℕ} → s ≡ listed T c (relationsEnd T + start) n → s ≡ projectSet T c q n
-  project-listed p = p ∙ ap (λ (i : ℕ). listed T c (relationsEnd T + i) n) (A .starts)
+  pub project-joined : {s : ℕ} → s ≡ joinedSet T c (relationsEnd T + start) n → s ≡ projectSet T c q n
+  project-joined p = p ∙ ap (λ (i : ℕ). joinedSet T c (relationsEnd T + i) n) (A .starts)
 
 -- ---- the loop
 

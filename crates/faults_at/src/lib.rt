@@ -1,10 +1,9 @@
 // What is worked out at one configuration c: the attributes that comparisons name, the sets of relations and query forms, the items at fault in
 // one form. Sets lie one after another, one word a form. Forms go bottom up, each from the sets of lower ones.
-use at_configuration::entry_holds;
 use at_configuration::is_present;
+use at_configuration::joined_at;
 use at_configuration::taken_at;
 use decoders::comparison_at;
-use decoders::entry_attribute;
 use decoders::project_length;
 use decoders::query_at;
 use decoders::relation_length;
@@ -18,37 +17,13 @@ ghost use lib.Bits.{bitAnd, bitOr, bitXor};
 ghost use lib.ListN.{length, getD};
 ghost use Rattle.sets.specs.Lists.{table};
 ghost use Rattle.report.specs.Tables.{Tables, relationCount, comparisonCount};
-ghost use Rattle.report.specs.Typing.{listed, present, namesOf, names, setRule, setOf, faultsOf, faults};
+ghost use Rattle.report.specs.Typing.{present, namesOf, names, setRule, setOf, faultsOf, faults};
 ghost use Rattle.report.specs.Configuring.{written};
-ghost use Rattle.at_configuration.specs.AtConfiguration.{ListReads, ListReadable, PresentReads, PresentReadable, RelationReads};
+ghost use Rattle.at_configuration.specs.AtConfiguration.{PresentReads, PresentReadable, RelationReads};
 ghost use Rattle.at_configuration.specs.AtConfiguration.{ComparisonReads, ComparisonNumberable};
 ghost use Rattle.faults_at.specs.FaultsAt.{FaultsReads, FaultsReadable};
 ghost use Rattle.faults_at.specs.SetsAt.{presentSet, RelationSetsReadable, RelationSetReadable, ComparisonAt, SomeComparison};
 ghost use Rattle.faults_at.specs.SetsAt.{SetsReads, SetsReadable, SetsFilled, QueryAt, SomeQuery, FormFaultsReads, FormFaultsReadable};
-
-// The attributes of those entries that hold at c, of the `count` entries from `start` on.
-fn listed_at(
-    entries: &[u16],
-    conditions: &[u64],
-    c: usize,
-    start: usize,
-    count: usize,
-) -> AttributeSet
-    requires { ⌜ ListReadable (now conditions) (now entries) c start count ⌝ }
-    ensures { λ s.
-        ⌜ ((T : Tables) (offset : ℕ) → ListReads T offset (now (conditions .entry)) (now (entries .entry)) c start count
-        → s .bits ≡ listed T c (offset + start) count) ⌝ }
-{
-    let mut listed = AttributeSet::empty();
-    let mut i = 0;
-    while i < count {
-        let a = entry_attribute(entries, start + i);
-        let holds = entry_holds(entries, conditions, c, start, i);
-        listed = listed.with_if(a, holds);
-        i += 1;
-    }
-    listed
-}
 
 // The set of relation r, whose list starts at `start`: none where it is absent.
 fn relation_set(
@@ -66,7 +41,7 @@ fn relation_set(
 {
     if is_present(relations, conditions, c, r) {
         let count = relation_length(relations, r);
-        return listed_at(entries, conditions, c, start, count);
+        return joined_at(entries, conditions, c, start, count);
     }
     AttributeSet::empty()
 }
@@ -186,7 +161,7 @@ fn set_at(
         Query::Relation(r) => set_in(relation_sets, r),
         Query::Select(_, a) => set_in(sets, a),
         Query::Project(count, a) => {
-            let listed = listed_at(entries, conditions, c, start, count);
+            let listed = joined_at(entries, conditions, c, start, count);
             listed.intersect(set_in(sets, a))
         }
         Query::Choice(e, a, b) => set_in(sets, taken_at(conditions, c, e, a, b)),
@@ -259,7 +234,7 @@ fn faults_of(
         Query::Relation(r) => absent_item(relations, conditions, c, r),
         Query::Select(f, a) => set_in(named, f).minus(set_in(sets, a)),
         Query::Project(count, a) => {
-            let listed = listed_at(entries, conditions, c, start, count);
+            let listed = joined_at(entries, conditions, c, start, count);
             listed.minus(set_in(sets, a))
         }
         Query::Choice(_, _, _) => AttributeSet::empty(),

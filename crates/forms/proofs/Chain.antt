@@ -5,22 +5,22 @@ use mathlib.Core.Bool.{and-eq-true-iff}
 use mathlib.Core.List.{List, []}
 use native.Mathlib.Nat.{le-refl}
 use native.Mathlib.Omega.{arith}
-use borrow.Author.Tests.{ltb-true, ltb-false, not-false}
+use borrow.Author.Tests.{not-false}
 use lib.ListN.{length, getD, drop}
 use lib.Dec.{ltb, lit<}
-use Rattle.report.specs.Tables.{Tables, shapes, shapeOf, words, entryAttribute, relationExpression, relationStart, projectedBefore}
-use Rattle.report.specs.Verdicts.{refusal, refuseIf, orElse}
-use Rattle.report.specs.FormChecks.{headCheck, lengthCheck, lengthsCheck, entriesCheck, relationsCheck, entryFits, relationFits}
+use Rattle.report.specs.Tables.{Tables, shapes, shapeOf, words, relationExpression, relationStart, projectedBefore}
+use Rattle.report.specs.Verdicts.{orElse}
+use Rattle.report.specs.FormChecks.{lengthCheck, lengthsCheck, relationsCheck, relationFits}
 use Rattle.report.specs.FormChecks.{queriesCheck, untakenCheck, leftEntryCheck}
 use Rattle.report.specs.Formed.{Sized}
 use Rattle.report.specs.declared.Refusal.{Refusal}
 use Rattle.report.specs.declared.Verdict.{Verdict}
-use Rattle.report.proofs.VerdictLaws.{then-next, then-refused, both-accepted, if-accepted, first-accepted}
+use Rattle.report.proofs.VerdictLaws.{then-next, then-refused, if-accepted, first-accepted}
+use Rattle.report.proofs.FormFacts.{list-inside}
 use Rattle.report.proofs.Formed.{sized, all-fit}
-use Rattle.report.proofs.EntryParts.{rest-count, rest-attribute}
+use Rattle.report.proofs.EntryParts.{rest-count}
 use Rattle.forms.specs.declared.Counts.{Counts}
-use Rattle.forms.specs.Steps.{queriesRest, QueriesReady, ListsReady, ContentsReady}
-use Rattle.forms.proofs.Lists.{list-inside}
+use Rattle.forms.specs.Steps.{queriesRest, QueriesReady, ListsReady}
 use Rattle.forms.proofs.Queries.{rest-queries}
 
 -- a check that refuses ends the chain; after one that accepts, the rest answers
@@ -51,7 +51,6 @@ module _ (e : ℕ) (entries relations : List ℕ) (accepted : relationsCheck e e
     ready queries l =
         let c = rest-count entries split (split-in f) in
         record {
-          narrow = record { each = λ k h. rw (rest-attribute entries split k) (l .narrow .each (split + k) (omega arith)) };
           few = let m = l .few in omega arith;
           some = l .some;
           fits = l .fits;
@@ -68,30 +67,9 @@ module _ (e : ℕ) (entries relations : List ℕ) (accepted : relationsCheck e e
         ∙ ap (λ (s : ℕ). queriesCheck (n .expressions) (n .relations) (n .comparisons) entries s queries) f)
         (ap₂ (λ (s c : ℕ). leftEntryCheck (s + projectedBefore queries (length queries / 4)) c) f (rest-count entries split (split-in f)))
 
--- check 5 leaves attributes below 64
-pub lists-ready : (m e : ℕ) (entries relations queries : List ℕ) → entriesCheck m e entries ≡ Verdict.Accepted
-    → ContentsReady m entries relations queries → ListsReady entries relations queries
-unfolding entriesCheck
-lists-ready m e entries relations queries accepted c = record {
-  narrow =
-      record {
-        each = λ k h.
-            let f = all-fit _ (entryFits m e entries) (length entries / 2) accepted k h in
-            let a = ltb-true (entryAttribute entries k) m (and-eq-true-iff _ _ .0 f .0) in
-            let n = c .narrow in
-            omega arith;
-      };
-  few = c .few;
-  most = c .most;
-  some = c .some;
-  fits = c .fits;
-}
-
--- checks 1 and 2 leave the limits
-pub contents-ready : (T : Tables) → headCheck (T .features) (T .attributes) ≡ Verdict.Accepted → lengthsCheck T ≡ Verdict.Accepted
-    → ContentsReady (T .attributes) (T .entries) (T .relations) (T .queries)
-contents-ready T head lengths = record {
-  narrow = ltb-false 64 (T .attributes) (if-accepted _ (refusal 1 1 0 0) (both-accepted (refuseIf (ltb 10 (T .features)) (refusal 1 0 0 0)) _ head .1));
+-- check 2 leaves the limits
+pub lists-ready : (T : Tables) → lengthsCheck T ≡ Verdict.Accepted → ListsReady (T .entries) (T .relations) (T .queries)
+lists-ready T lengths = record {
   few = size 1 (lit< tt) .fits;
   most = size 2 (lit< tt) .fits;
   some = size 4 (lit< tt) .enough;

@@ -14,10 +14,9 @@ use Rattle.report.specs.FormChecks.{takenBelow, free, queryFits, queryFitsAt}
 use Rattle.report.specs.Formed.{OperandsBelow}
 use Rattle.report.specs.declared.Query.{Query}
 use Rattle.report.specs.declared.Operands.{Operands}
-use Rattle.report.proofs.FormFacts.{operands-free, free-below, below-more, Listing, project, unlisted, listing}
+use Rattle.report.proofs.FormFacts.{list-inside, operands-free, free-below, below-more, Listing, project, unlisted, listing}
 use Rattle.forms.specs.declared.Counts.{Counts}
 use Rattle.forms.specs.Steps.{marked, markedBy}
-use Rattle.forms.proofs.Lists.{list-inside}
 
 pub unmarked : (n x : ℕ) → marked (replicate n 0) x ≡ false
 unmarked zero x = refl

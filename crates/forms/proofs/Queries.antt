@@ -8,18 +8,18 @@ use native.Mathlib.Numerals.{add-one}
 use native.Mathlib.Omega.{arith}
 use borrow.Author.Tests.{leb-true, leb-false, le-leb, lt-leb, not-false}
 use lib.ListN.{length, drop, replicate}
-use lib.Dec.{leb, eqb}
-use Rattle.sets.proofs.SearchLaws.{someBelow-suc, lowest-same, some-same}
-use Rattle.report.specs.Tables.{entryAttribute, query, projectLength, projectedBefore}
+use lib.Dec.{leb}
+use Rattle.sets.proofs.SearchLaws.{someBelow-suc, lowest-same}
+use Rattle.report.specs.Tables.{query, projectLength, projectedBefore}
 use Rattle.report.specs.Operands.{queryOperands}
-use Rattle.report.specs.FormChecks.{isOperand, takenBelow, free, repeats, listFits, queryFits, queriesCheck, untakenCheck, leftEntryCheck}
+use Rattle.report.specs.FormChecks.{isOperand, takenBelow, free, listFits, queryFits, queriesCheck, untakenCheck, leftEntryCheck}
 use Rattle.report.specs.Verdicts.{refusal, refuseAt, orElse}
 use Rattle.report.specs.Formed.{OperandsBelow}
 use Rattle.report.specs.declared.Query.{Query}
 use Rattle.report.specs.declared.Operands.{Operands}
 use Rattle.report.specs.declared.Verdict.{Verdict}
 use Rattle.report.proofs.VerdictLaws.{then-next, then-refused}
-use Rattle.report.proofs.EntryParts.{rest-count, rest-attribute}
+use Rattle.report.proofs.EntryParts.{rest-count}
 use Rattle.table_checks.proofs.FormLoops.{FormsPassed, passed-none, passed-more, passed-first, passed-all}
 use Rattle.forms.specs.declared.Counts.{Counts}
 use Rattle.forms.specs.Steps.{marked, markedBy, untakenBy, queriesRest, QueriesReady}
@@ -110,13 +110,6 @@ module _ (entries : List ℕ) (split : ℕ) (h : split ≤ length entries / 2) w
   abbrev rest : List ℕ
   rest = drop (split * 2) entries
 
-  rest-repeats : (start count : ℕ) → repeats rest start count ≡ repeats entries (split + start) count
-  rest-repeats start count =
-      some-same _ _ count (λ j l. some-same _ _ j (λ i k. ap₂ eqb (at i) (at j)))
-    where
-      at : (i : ℕ) → entryAttribute rest (start + i) ≡ entryAttribute entries (split + start + i)
-      at i = rest-attribute entries split (start + i) ∙ ap (entryAttribute entries) (sym (add-assoc split start i))
-
   rest-inside : (n : ℕ) → leb n (length rest / 2) ≡ leb (split + n) (length entries / 2)
   rest-inside n = sym (go (leb n (length rest / 2)) refl)
     where
@@ -125,9 +118,7 @@ module _ (entries : List ℕ) (split : ℕ) (h : split ≤ length entries / 2) w
       go false e = let l = leb-false n (length rest / 2) e in let c = rest-count entries split h in lt-leb (split + n) (length entries / 2) (omega arith)
 
   rest-fits : (start count : ℕ) → listFits rest start count ≡ listFits entries (split + start) count
-  rest-fits start count =
-      ap₂ (λ (s t : Bool). s && not t)
-      (rest-inside (start + count) ∙ ap (λ (n : ℕ). leb n (length entries / 2)) (sym (add-assoc split start count))) (rest-repeats start count)
+  rest-fits start count = rest-inside (start + count) ∙ ap (λ (n : ℕ). leb n (length entries / 2)) (sym (add-assoc split start count))
 
   module _ (e r p : ℕ) (start : ℕ) (taken : ℕ → Bool) (q : ℕ) where
     rest-query : (x : Query) → queryFits e r p rest start taken q x ≡ queryFits e r p entries (split + start) taken q x

@@ -1,11 +1,11 @@
 -- What the functions of checks 6 and 8 to 10 work with: each check over what it reads.
-use Prim.Native.Nat.{ℕ, _+_, _/_, _≤_, _<_}
+use Prim.Native.Nat.{ℕ, _+_, _/_, _≤_}
 use mathlib.Core.Bool.{Bool, not}
 use mathlib.Core.List.{List}
 use lib.ListN.{length, getD, set}
 use lib.Dec.{eqb}
 use Rattle.sets.specs.Search.{lowest}
-use Rattle.report.specs.Tables.{entryAttribute, relationStart, projectedBefore}
+use Rattle.report.specs.Tables.{relationStart, projectedBefore}
 use Rattle.report.specs.FormChecks.{expressionsCheck, modelFormCheck, entriesCheck, relationsCheck, comparisonsCheck}
 use Rattle.report.specs.FormChecks.{queriesCheck, untakenCheck, leftEntryCheck}
 use Rattle.report.specs.Verdicts.{refusal, refuseAt, orElse}
@@ -13,28 +13,14 @@ use Rattle.report.specs.declared.Verdict.{Verdict}
 use Rattle.report.specs.declared.Operands.{Operands}
 use Rattle.forms.specs.declared.Counts.{Counts}
 
--- after checks 1 and 5 the attributes of entries are below 64
-pub record Narrow (entries : List ℕ) : Type 0 where
-  pub each : (k : ℕ) → k < length entries / 2 → entryAttribute entries k < 64
-
--- a list that lies in the entries
-pub record Inside (entries : List ℕ) (start count : ℕ) : Type 0 where
-  pub narrow : Narrow entries
-  pub within : start + count ≤ length entries / 2
-
--- a list that starts in the entries or at their end, and may pass it
-pub record ListBegun (entries : List ℕ) (start : ℕ) : Type 0 where
-  pub narrow : Narrow entries
-  pub starts : start ≤ length entries / 2
-
 -- ---- marks: form x is marked when it has been taken as an operand
 
 abbrev pub marked : List ℕ → ℕ → Bool
 marked marks x = eqb (getD marks x 0) 1
 
--- what form q is tested with: its list starts in the entries, and the forms below it have marks
+-- what form q is tested with: its list starts in the entries or at their end, and the forms below it have marks
 pub record FormRoom (entries : List ℕ) (start : ℕ) (marks : List ℕ) (q : ℕ) : Type 0 where
-  pub begun : ListBegun entries start
+  pub starts : start ≤ length entries / 2
   pub room : q ≤ length marks
 
 -- the marks with those of a form's operands
@@ -58,7 +44,6 @@ queriesRest n projectEntries split queries =
     (leftEntryCheck (split + projectedBefore queries (length queries / 4)) (split + length projectEntries / 2)))
 
 pub record QueriesReady (projectEntries : List ℕ) (split : ℕ) (queries : List ℕ) : Type 0 where
-  pub narrow : Narrow projectEntries
   pub few : split + length projectEntries / 2 ≤ 512
   pub some : 1 ≤ length queries / 4
   pub fits : length queries / 4 ≤ 256
@@ -72,7 +57,6 @@ listsRest m e entries relations comparisons queries =
     (leftEntryCheck (relationStart relations (length relations / 2) + projectedBefore queries (length queries / 4)) (length entries / 2)))))
 
 pub record ListsReady (entries relations queries : List ℕ) : Type 0 where
-  pub narrow : Narrow entries
   pub few : length entries / 2 ≤ 512
   pub most : length relations / 2 ≤ 32
   pub some : 1 ≤ length queries / 4
@@ -83,10 +67,3 @@ contentsRest n m model expressions entries relations comparisons queries =
     orElse (expressionsCheck n expressions)
     (orElse (modelFormCheck (length expressions / 3) model)
     (orElse (entriesCheck m (length expressions / 3) entries) (listsRest m (length expressions / 3) entries relations comparisons queries)))
-
-pub record ContentsReady (m : ℕ) (entries relations queries : List ℕ) : Type 0 where
-  pub narrow : m ≤ 64
-  pub few : length entries / 2 ≤ 512
-  pub most : length relations / 2 ≤ 32
-  pub some : 1 ≤ length queries / 4
-  pub fits : length queries / 4 ≤ 256

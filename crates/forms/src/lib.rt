@@ -1,5 +1,4 @@
 // Checks 6 and 8 to 10 of the table of refusals (docs/FORMAT.md, "Refusals"), and checks 1 to 10 one after another.
-use decoders::entry_attribute;
 use decoders::project_length;
 use decoders::query_at;
 use decoders::query_operands;
@@ -19,49 +18,25 @@ use table_checks::or_else;
 use table_checks::refuse;
 use table_checks::refuse_if;
 ghost use mathlib.Core.Path.{_≡_};
-ghost use mathlib.Core.Bool.{not};
 ghost use Prim.Native.Nat.{_/_, _<_, _≤_};
 ghost use lib.ListN.{length, set};
 ghost use Rattle.report.specs.Tables.{tablesOf, relationStart};
 ghost use Rattle.report.specs.Verdicts.{orElse};
-ghost use Rattle.report.specs.FormChecks.{free, freePair, repeats, listFits, queryFits, relationsCheck, leftEntryCheck, formCheck};
+ghost use Rattle.report.specs.FormChecks.{free, freePair, listFits, queryFits, relationsCheck, leftEntryCheck, formCheck};
 ghost use Rattle.report.specs.Formed.{OperandsBelow};
-ghost use Rattle.forms.specs.Steps.{Narrow, Inside, ListBegun, marked, FormRoom, markedBy, untakenBy};
-ghost use Rattle.forms.specs.Steps.{queriesRest, QueriesReady, listsRest, ListsReady, contentsRest, ContentsReady};
+ghost use Rattle.forms.specs.Steps.{marked, FormRoom, markedBy, untakenBy};
+ghost use Rattle.forms.specs.Steps.{queriesRest, QueriesReady, listsRest, ListsReady, contentsRest};
 
-// No attribute stands twice in a list.
-fn no_repeat(entries: &[u16], start: usize, count: usize) -> bool
-    requires { ⌜ Inside (now entries) start count ⌝ }
-    ensures { λ r. ⌜ r ≡ not (repeats (now (entries .entry)) start count) ⌝ }
-{
-    let mut seen = AttributeSet::empty();
-    let mut k = 0;
-    while k < count {
-        let a = entry_attribute(entries, start + k);
-        if seen.has(a) {
-            return false;
-        }
-        seen = seen.with(a);
-        k += 1;
-    }
-    true
-}
-
-// A list that starts at `start` lies in the entries, and no attribute is in it twice.
+// A list that starts at `start` lies in the entries.
 fn list_fits(entries: &[u16], start: usize, count: usize) -> bool
-    requires { ⌜ ListBegun (now entries) start ⌝ }
+    requires { ⌜ start ≤ length (now entries) / 2 ⌝ }
     ensures { λ r. ⌜ r ≡ listFits (now (entries .entry)) start count ⌝ }
 {
-    if count <= entries.len() / 2 - start {
-        no_repeat(entries, start, count)
-    } else {
-        false
-    }
+    count <= entries.len() / 2 - start
 }
 
 // Check 6, where there are e expressions.
 fn check_relations(e: usize, entries: &[u16], relations: &[u16]) -> Verdict
-    requires { ⌜ Narrow (now entries) ⌝ }
     ensures { λ r. ⌜ r ≡ relationsCheck e (now (entries .entry)) (now (relations .entry)) ⌝ }
 {
     let count = relations.len() / 2;
@@ -269,7 +244,7 @@ fn check_contents(
     comparisons: &[u16],
     queries: &[u16],
 ) -> Verdict
-    requires { ⌜ ContentsReady m (now entries) (now relations) (now queries) ⌝ }
+    requires { ⌜ ListsReady (now entries) (now relations) (now queries) ⌝ }
     ensures { λ r. ⌜ r ≡ contentsRest n m model (now (expressions .entry)) (now (entries .entry)) (now (relations .entry)) (now (comparisons .entry))
         (now (queries .entry)) ⌝ }
 {

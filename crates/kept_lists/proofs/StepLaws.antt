@@ -1,18 +1,22 @@
 -- Laws of the loops that write a block or nothing at each step, for all tables that are read, and of the loop over a list.
-use Prim.Native.Nat.{ℕ, _+_, _<_, _≤_}
-use mathlib.Core.Path.{_≡_, sym, ap₂}
-use mathlib.Core.Bool.{Bool}
+use Prim.Native.Nat.{ℕ, _+_, _^_, _<_, _≤_}
+use mathlib.Core.Path.{_≡_, sym, ap, ap₂, _∙_}
+use mathlib.Core.Bool.{Bool, cond, _&&_, not}
 use mathlib.Core.List.{List}
 use native.Mathlib.Omega.{arith}
 use lib.ListN.{length}
+use lib.Bits.{bitOr}
+use Rattle.sets.specs.Bits.{bit}
 use Rattle.sets.specs.Lists.{concat}
 use Rattle.sets.specs.Writing.{Room, WrittenAt}
 use Rattle.sets.proofs.WritingLaws.{same-length, same-room, same-written, Writing, writing-none, writing-room, writing-more, writing-all}
 use Rattle.decoders.specs.Words.{IsWord}
 use Rattle.report.specs.Tables.{Tables, entryAttribute}
-use Rattle.report.specs.Configuring.{entryKept}
+use Rattle.report.specs.Typing.{entryHolds}
+use Rattle.report.proofs.KeptLists.{kept-new}
 use Rattle.at_configuration.specs.AtConfiguration.{ListReads}
 use Rattle.at_configuration.proofs.ListLaws.{each-entry, attribute-is}
+use Rattle.at_configuration.proofs.JoinedLaws.{EntriesJoined, joined-none, joined-more}
 use Rattle.kept_lists.specs.Keeping.{KeptListWritable}
 use Rattle.kept_lists.specs.Steps.{pairIf, entryAt, WordPairWritable}
 
@@ -43,27 +47,40 @@ module _ {Reads : Tables → Type 0} {f : Tables → ℕ → List ℕ} {n : ℕ}
 
 -- ---- the loop over a list
 
--- of the `count` entries from `start` on the first i are written, wherever in table 1 the entries lie
-abbrev pub EntriesWriting : List ℕ → List ℕ → ℕ → ℕ → ℕ → List ℕ → ℕ → List ℕ → ℕ → ℕ → Type 0
-EntriesWriting conditions entries c start count first at out i p =
-    (offset : ℕ)
-    → Keeping (λ T. ListReads T offset conditions entries c start count) (λ T. entryAt T c (offset + start)) count first at out i p
+-- of the `count` entries from `start` on the first i are seen, and those that are kept are written, wherever in table 1 the entries lie; `kept` is
+-- their joined set
+pub record EntriesWriting (conditions entries : List ℕ) (c start count : ℕ) (first : List ℕ) (at : ℕ) (out : List ℕ) (kept i p : ℕ) : Type 0 where
+  pub joined : EntriesJoined conditions entries c start count kept i
+  pub written : (offset : ℕ)
+      → Keeping (λ T. ListReads T offset conditions entries c start count) (λ T. entryAt T c (offset + start)) count first at out i p
 
--- what the next entry writes is what was found of it
-module _ {conditions entries : List ℕ} {c start count : ℕ} {first : List ℕ} {at : ℕ} {out : List ℕ} {i p : ℕ}
-    (S : EntriesWriting conditions entries c start count first at out i p) (h : i < count) {a : ℕ} (e : IsWord (entryAttribute entries (start + i)) a)
-    {b : Bool}
-    (q : (T : Tables) (offset : ℕ) → ListReads T offset conditions entries c start (i + 1) → b ≡ entryKept T c (offset + start) i) where
-  text : {T : Tables} {offset : ℕ} → ListReads T offset conditions entries c start count → entryAt T c (offset + start) i ≡ pairIf b a 0
+pub listing-none : {conditions entries : List ℕ} {c start count : ℕ} {first : List ℕ} {at kept : ℕ} → kept ≡ 0
+    → EntriesWriting conditions entries c start count first at first kept 0 at
+listing-none e = record { joined = joined-none e; written = λ offset. keeping-none }
+
+-- entry i, of attribute a: h is whether it holds, and t whether a is kept already. What it writes is what was found of it
+module _ {conditions entries : List ℕ} {c start count : ℕ} {first : List ℕ} {at : ℕ} {out : List ℕ} {kept i p : ℕ}
+    (S : EntriesWriting conditions entries c start count first at out kept i p) (l : i < count) {a : ℕ}
+    (e : IsWord (entryAttribute entries (start + i)) a) {h t : Bool}
+    (q : (T : Tables) (offset : ℕ) → ListReads T offset conditions entries c start (i + 1) → h ≡ entryHolds T c (offset + start + i))
+    (m : t ≡ bit kept a) where
+  text : {T : Tables} {offset : ℕ} → ListReads T offset conditions entries c start count → entryAt T c (offset + start) i ≡ pairIf (h && not t) a 0
   text {T} {offset} R =
-      sym (ap₂ (λ (t : Bool) (y : ℕ). pairIf t y 0) (q T offset (each-entry R h)) (attribute-is R h (e .same)))
+      ap (λ (k : Bool). pairIf k (entryAttribute (T .entries) (offset + start + i)) 0) (kept-new T c (offset + start) i)
+      ∙ sym (ap₂ (λ (k : Bool) (y : ℕ). pairIf k y 0)
+      (ap₂ (λ (x y : Bool). x && not y) (q T offset (each-entry R l)) (m ∙ ap₂ bit (S .joined .joined T offset R) (attribute-is R l (e .same))))
+      (attribute-is R l (e .same)))
 
-  pub listing-room : KeptListWritable conditions entries c start count first at → WordPairWritable b a 0 out p
+  pub listing-room : KeptListWritable conditions entries c start count first at → WordPairWritable (h && not t) a 0 out p
   listing-room A = record {
     first = e .small;
     second = omega arith;
-    room = same-room (text (A .reads)) (keeping-room (S (A .offset)) (A .reads) (A .room) h);
+    room = same-room (text (A .reads)) (keeping-room (S .written (A .offset)) (A .reads) (A .room) l);
   }
 
-  pub listing-more : {o : List ℕ} {r : ℕ} → WrittenAt (pairIf b a 0) out p o r → EntriesWriting conditions entries c start count first at o (i + 1) r
-  listing-more w offset = keeping-more (S offset) h (λ T R. same-written (text R) w)
+  pub listing-more : {o : List ℕ} {r more : ℕ} → WrittenAt (pairIf (h && not t) a 0) out p o r → more ≡ cond h (bitOr kept (2 ^ a)) kept
+      → EntriesWriting conditions entries c start count first at o more (i + 1) r
+  listing-more w j = record {
+    joined = joined-more (S .joined) l (e .same) q j;
+    written = λ offset. keeping-more (S .written offset) l (λ T R. same-written (text R) w);
+  }

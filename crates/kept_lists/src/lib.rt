@@ -2,10 +2,12 @@
 use at_configuration::entry_holds;
 use at_configuration::holds_at;
 use at_configuration::is_present;
+use at_configuration::joined_at;
 use decoders::entry_attribute;
 use decoders::project_length;
 use decoders::query_at;
 use decoders::relation_length;
+use sets::AttributeSet;
 ghost use mathlib.Core.Path.{_≡_};
 ghost use mathlib.Core.Bool.{cond};
 ghost use Prim.Native.Nat.{ℕ, _+_, _<_};
@@ -17,18 +19,7 @@ ghost use Rattle.kept_lists.specs.Keeping.{relationLists, projectLists, 
 ghost use Rattle.kept_lists.specs.Keeping.{ProjectReads, ProjectWritable};
 ghost use Rattle.kept_lists.specs.Steps.{pairIf, listIf, WordPairWritable, ListIfWritable};
 
-// One more than n, if the test is true.
-fn more_if(n: usize, test: bool) -> usize
-    requires { ⌜ n < 65536 ⌝ }
-    ensures { λ r. ⌜ r ≡ n + cond test 1 0 ⌝ }
-{
-    if test {
-        return n + 1;
-    }
-    n
-}
-
-// How many of the `count` entries from `start` on hold at c.
+// How many of the `count` entries from `start` on are kept at c: as many as their joined set has attributes.
 pub fn kept_length(
     entries: &[u16],
     conditions: &[u64],
@@ -41,14 +32,7 @@ pub fn kept_length(
         ⌜ ((T : Tables) (offset : ℕ) → ListReads T offset (now (conditions .entry)) (now (entries .entry)) c start count
         → r ≡ keptLength T c (offset + start) count) ⌝ }
 {
-    let mut kept = 0;
-    let mut i = 0;
-    while i < count {
-        let holds = entry_holds(entries, conditions, c, start, i);
-        kept = more_if(kept, holds);
-        i += 1;
-    }
-    kept
+    joined_at(entries, conditions, c, start, count).count()
 }
 
 // Writes x and y, if they are kept.
@@ -64,7 +48,8 @@ fn write_pair(keep: bool, x: usize, y: usize, out: &mut [u16], at: usize) -> usi
     at
 }
 
-// Writes the `count` entries from `start` on that hold at c, their expression made 0.
+// Writes of the `count` entries from `start` on each attribute's first that holds at c, its expression made 0. `kept` has the attributes that are
+// written.
 fn write_list(
     entries: &[u16],
     conditions: &[u64],
@@ -79,12 +64,14 @@ fn write_list(
         ⌜ ((T : Tables) (offset : ℕ) → ListReads T offset (now (conditions .entry)) (now (entries .entry)) c start count
         → WrittenAt (keptList T c (offset + start) count) (now (out .entry)) at (now (out .exit)) r) ⌝ }
 {
+    let mut kept = AttributeSet::empty();
     let mut p = at;
     let mut i = 0;
     while i < count {
         let a = entry_attribute(entries, start + i);
         let holds = entry_holds(entries, conditions, c, start, i);
-        p = write_pair(holds, a, 0, &mut *out, p);
+        p = write_pair(holds & !kept.has(a), a, 0, &mut *out, p);
+        kept = kept.with_if(a, holds);
         i += 1;
     }
     p
@@ -110,6 +97,17 @@ fn write_list_if(
         return write_list(entries, conditions, c, start, count, out, at);
     }
     at
+}
+
+// One more than n, if the test is true.
+fn more_if(n: usize, test: bool) -> usize
+    requires { ⌜ n < 65536 ⌝ }
+    ensures { λ r. ⌜ r ≡ n + cond test 1 0 ⌝ }
+{
+    if test {
+        return n + 1;
+    }
+    n
 }
 
 // The new number of relation r: how many below it are present at c.

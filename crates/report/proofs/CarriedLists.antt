@@ -1,20 +1,24 @@
--- A list of entries and what configuring writes of it: the entries that hold at c, in order, their expression made 0.
-use Prim.Native.Nat.{ℕ, zero, suc, _+_, _*_, _/_, _%_, _^_, _<_, _≤_}
+-- A list of entries and what configuring writes of it: the entries that are kept at c, in order, their expression made 0.
+use Prim.Native.Nat.{ℕ, zero, suc, _+_, _*_, _/_, _%_, _<_, _≤_}
 use mathlib.Core.Path.{_≡_, refl, sym, ap, ap₂, _∙_}
-use mathlib.Core.Bool.{Bool, true, false, cond}
+use mathlib.Core.Bool.{Bool, true, false}
+use mathlib.Core.Logic.{_≢_}
 use mathlib.Core.List.{List, [], _∷_, _++_}
 use native.Mathlib.Nat.{le-refl, zero-lt-suc}
 use native.Mathlib.Omega.{arith}
 use lib.ListN.{length, getD}
-use lib.Bits.{bitOr, or-zero-r}
 use Rattle.sets.proofs.SearchLaws.{nth, count-yes, count-no, count-lt, count-before}
 use Rattle.sets.proofs.ListLaws.{kept-yes, kept-no}
 use Rattle.report.specs.Tables.{Tables, entryAttribute, entryExpression, entryCount}
-use Rattle.report.specs.Typing.{at, listed}
+use Rattle.report.specs.Typing.{entryHolds, joinedSet}
+use Rattle.report.specs.PlainAlgebra.{setFrom}
 use Rattle.report.specs.Configuring.{entryKept, keptLength, keptList}
 use Rattle.report.specs.ConfiguredReport.{keptAttributes}
-use Rattle.report.specs.Formed.{Formed, ListIn}
+use Rattle.report.specs.Repeats.{repeats}
+use Rattle.report.specs.Formed.{Formed}
 use Rattle.report.proofs.FormedFacts.{entry-attribute}
+use Rattle.report.proofs.KeptLists.{kept-once, kept-alone, kept-joined}
+use Rattle.report.proofs.RepeatLaws.{no-repeat}
 use Rattle.report.proofs.KeptForms.{kept-all, forms-length, first-word}
 
 -- ---- table 1 as pairs: an attribute below m, and expression 0
@@ -64,7 +68,7 @@ module _ (T : Tables) (c start count : ℕ) where
   pub list-length : length (keptList T c start count) ≡ keptLength T c start count * 2
   list-length = forms-length (entryKept T c start) pairOf 2 count (λ i h k. refl) (zero-lt-suc 1)
 
-  -- entry i of the source is one of the list written, if it holds
+  -- entry i of the source is one of the list written, if it is kept
   list-attribute : (i : ℕ) → i < count → entryKept T c start i ≡ true
       → getD (keptList T c start count) (keptLength T c start i * 2) 0 ≡ entryAttribute (T .entries) (start + i)
   list-attribute i h k = first-word (entryKept T c start) pairOf 2 count (λ i h k. refl) (zero-lt-suc 1) i h k
@@ -83,35 +87,27 @@ module _ (T : Tables) (c start count : ℕ) where
         let e : (new + keptLength T c start i) * 2 ≡ new * 2 + keptLength T c start i * 2 = omega arith in
         ap (λ (x : ℕ). getD (U .entries) x 0) e ∙ s .reads (keptLength T c start i * 2) (omega (arith, list-length)) ∙ list-attribute i h k
 
-    -- no attribute is in it twice, if none was in the source's list
-    pub carried-in : ListIn (T .entries) start count → ListIn (U .entries) new (keptLength T c start count)
-    carried-in l = record { inside = omega (arith, list-length, s .inside); once = apart }
-      where
-        apart : (i j : ℕ) → i < j → j < keptLength T c start count → entryAttribute (U .entries) (new + i) ≡ entryAttribute (U .entries) (new + j) → ⊥
-        apart i j below h same =
-            let p = nth (entryKept T c start) count i (omega arith) in
-            let q = nth (entryKept T c start) count j h in
-            l .once (p .old) (q .old)
-            (count-before (entryKept T c start) (q .old) (p .old) (p .passed) (let a = p .number in let b = q .number in omega arith)) (q .below)
-            (sym (carried (p .old) (p .below) (p .passed)) ∙ ap (λ (x : ℕ). entryAttribute (U .entries) (new + x)) (p .number) ∙ same
-            ∙ ap (λ (x : ℕ). entryAttribute (U .entries) (new + x)) (sym (q .number)) ∙ carried (q .old) (q .below) (q .passed))
+    pub carried-inside : new + keptLength T c start count ≤ entryCount U
+    carried-inside = omega (arith, list-length, s .inside)
 
-    module _ (hold : (k : ℕ) → at U 0 (entryExpression (U .entries) k) ≡ true) where
-      listed-to : (n : ℕ) → n ≤ count → listed U 0 new (keptLength T c start n) ≡ listed T c start n
-      unfolding listed
-      listed-to zero h = refl
-      listed-to (suc n) h = go (entryKept T c start n) refl (listed-to n (omega arith))
-        where
-          go : (t : Bool) → entryKept T c start n ≡ t → listed U 0 new (keptLength T c start n) ≡ listed T c start n
-              → listed U 0 new (keptLength T c start (suc n))
-              ≡ bitOr (listed T c start n) (cond (entryKept T c start n) (2 ^ entryAttribute (T .entries) (start + n)) 0)
-          go true p ih =
-              ap (listed U 0 new) (count-yes (entryKept T c start) n p)
-              ∙ ap₂ bitOr ih (ap₂ (λ (t : Bool) (a : ℕ). cond t (2 ^ a) 0) (hold (new + keptLength T c start n) ∙ sym p) (carried n h p))
-          go false p ih =
-              ap (listed U 0 new) (count-no (entryKept T c start) n p) ∙ ih
-              ∙ sym (ap (λ (t : Bool). bitOr (listed T c start n) (cond t (2 ^ entryAttribute (T .entries) (start + n)) 0)) p
-              ∙ or-zero-r (listed T c start n))
+    -- no attribute is in it twice
+    carried-once : (i j : ℕ) → i < j → j < keptLength T c start count → entryAttribute (U .entries) (new + i) ≢ entryAttribute (U .entries) (new + j)
+    carried-once i j below h same =
+        let p = nth (entryKept T c start) count i (omega arith) in
+        let q = nth (entryKept T c start) count j h in
+        kept-once T c start (p .old) (q .old)
+        (count-before (entryKept T c start) (q .old) (p .old) (p .passed) (let a = p .number in let b = q .number in omega arith))
+        (p .passed) (q .passed)
+        (sym (carried (p .old) (p .below) (p .passed)) ∙ ap (λ (x : ℕ). entryAttribute (U .entries) (new + x)) (p .number) ∙ same
+        ∙ ap (λ (x : ℕ). entryAttribute (U .entries) (new + x)) (sym (q .number)) ∙ carried (q .old) (q .below) (q .passed))
+
+    pub carried-repeats : repeats (U .entries) new (keptLength T c start count) ≡ false
+    carried-repeats = no-repeat (U .entries) new (keptLength T c start count) carried-once
+
+    module _ (hold : (k : ℕ) → entryHolds U 0 k ≡ true) where
+      -- all of it is kept
+      carried-kept : (k : ℕ) → k < keptLength T c start count → entryKept U 0 new k ≡ true
+      carried-kept k h = kept-alone U 0 new k (λ j l. carried-once j k l h) ∙ hold (new + k)
 
       attributes-to : (n : ℕ) → n ≤ count → keptAttributes U 0 new (keptLength T c start n) ≡ keptAttributes T c start n
       unfolding keptAttributes
@@ -123,16 +119,16 @@ module _ (T : Tables) (c start count : ℕ) where
           go true p ih =
               ap (keptAttributes U 0 new) (count-yes (entryKept T c start) n p)
               ∙ kept-yes (entryKept U 0 new) (λ i. entryAttribute (U .entries) (new + i) ∷ []) (keptLength T c start n)
-              (hold (new + keptLength T c start n))
+              (carried-kept (keptLength T c start n) (count-lt (entryKept T c start) n count h p))
               ∙ ap₂ _++_ ih (ap (λ (a : ℕ). a ∷ []) (carried n h p))
               ∙ sym (kept-yes (entryKept T c start) (λ i. entryAttribute (T .entries) (start + i) ∷ []) n p)
           go false p ih =
               ap (keptAttributes U 0 new) (count-no (entryKept T c start) n p) ∙ ih
               ∙ sym (kept-no (entryKept T c start) (λ i. entryAttribute (T .entries) (start + i) ∷ []) n p)
 
-      -- its set, and its list of attributes, are those of the source's list at c
-      pub carried-set : listed U 0 new (keptLength T c start count) ≡ listed T c start count
-      carried-set = listed-to count (le-refl count)
-
+      -- its list of attributes, and its set, are those of the source's list at c
       pub carried-attributes : keptAttributes U 0 new (keptLength T c start count) ≡ keptAttributes T c start count
       carried-attributes = attributes-to count (le-refl count)
+
+      pub carried-set : joinedSet U 0 new (keptLength T c start count) ≡ joinedSet T c start count
+      carried-set = sym (kept-joined U 0 new (keptLength T c start count)) ∙ ap setFrom carried-attributes ∙ kept-joined T c start count

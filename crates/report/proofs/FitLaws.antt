@@ -1,16 +1,15 @@
 -- The laws of FormFacts the other way: a form, or a list, of which those facts hold fits.
-use Prim.Native.Nat.{ℕ, _+_, _/_, _<_}
+use Prim.Native.Nat.{ℕ, _+_, _/_, _<_, _≤_}
 use mathlib.Core.Path.{_≡_, refl, ap, ap₂}
-use mathlib.Core.Bool.{Bool, true, _&&_, not}
+use mathlib.Core.Bool.{true, _&&_, not}
 use mathlib.Core.List.{List}
 use borrow.Author.Tests.{lt-ltb, le-leb, ne-eqb}
 use lib.ListN.{length}
-use lib.Dec.{ltb, eqb}
-use Rattle.sets.specs.Search.{someBelow}
+use lib.Dec.{ltb}
 use Rattle.sets.proofs.SearchLaws.{none-some}
-use Rattle.report.specs.Tables.{Tables, entryAttribute, query, expressionCount, relationCount, comparisonCount}
+use Rattle.report.specs.Tables.{Tables, query, expressionCount, relationCount, comparisonCount, projectStart}
 use Rattle.report.specs.FormChecks.{expressionFits, comparisonFits, isOperand, takenBelow, free, freePair, listFits, queryFitsIn}
-use Rattle.report.specs.Formed.{ExpressionLower, ComparisonLower, ListIn, Free, FreePair, QueryLower}
+use Rattle.report.specs.Formed.{ExpressionLower, ComparisonLower, Free, FreePair, QueryLower}
 use Rattle.report.specs.declared.Expression.{Expression}
 use Rattle.report.specs.declared.Comparison.{Comparison}
 use Rattle.report.specs.declared.Query.{Query}
@@ -41,13 +40,8 @@ comparison-fits m e f (Comparison.Or a b) l = lower-both l
 comparison-fits m e f (Comparison.Choice a b d) l = ap₂ _&&_ (ap₂ _&&_ (lt-ltb a e (l .0)) (lt-ltb b f (l .1))) (lt-ltb d f (l .2))
 
 -- one list
-pub list-fits : {entries : List ℕ} {start count : ℕ} → ListIn entries start count → listFits entries start count ≡ true
-list-fits {entries} {start} {count} l =
-    ap₂ _&&_ (le-leb (start + count) (length entries / 2) (l .inside))
-    (ap not (none-some (λ j. someBelow (same j) j) count (λ j h. none-some (same j) j (λ i k. ne-eqb _ _ (l .once i j k h)))))
-  where
-    same : ℕ → ℕ → Bool
-    same j i = eqb (entryAttribute entries (start + i)) (entryAttribute entries (start + j))
+pub list-fits : (entries : List ℕ) (start count : ℕ) → start + count ≤ length entries / 2 → listFits entries start count ≡ true
+list-fits entries start count = le-leb (start + count) (length entries / 2)
 
 module _ {queries : List ℕ} {q : ℕ} where
   -- one operand, and two
@@ -63,7 +57,7 @@ query-fits T q Query.Malformed l = absurd l
 query-fits T q Query.Empty l = refl
 query-fits T q (Query.Relation a) l = lt-ltb a (relationCount T) l
 query-fits T q (Query.Select a b) l = ap₂ _&&_ (lt-ltb a (comparisonCount T) (l .0)) (free-fits (l .1))
-query-fits T q (Query.Project a b) l = ap₂ _&&_ (list-fits (l .0)) (free-fits (l .1))
+query-fits T q (Query.Project a b) l = ap₂ _&&_ (list-fits (T .entries) (projectStart T q) a (l .0)) (free-fits (l .1))
 query-fits T q (Query.Choice a b d) l = ap₂ _&&_ (lt-ltb a (expressionCount T) (l .0)) (pair-fits (l .1))
 query-fits T q (Query.Product a b) l = pair-fits l
 query-fits T q (Query.Union a b) l = pair-fits l

@@ -6,14 +6,13 @@ use mathlib.Core.List.{List}
 use native.Mathlib.Omega.{arith}
 use borrow.Author.Tests.{ltb-true, leb-true, eqb-true, eqb-false, not-true}
 use lib.ListN.{length}
-use lib.Dec.{leb, ltb, eqb}
-use Rattle.sets.specs.Search.{someBelow}
+use lib.Dec.{ltb, eqb}
 use Rattle.sets.proofs.SearchLaws.{some-none}
-use Rattle.report.specs.Tables.{Tables, entryAttribute, query, expressionCount, projectLength, projectStart}
+use Rattle.report.specs.Tables.{Tables, query, expressionCount, projectLength, projectStart}
 use Rattle.report.specs.Operands.{comparisonOperands, queryOperands, isAmong}
-use Rattle.report.specs.FormChecks.{expressionFits, comparisonFits, isOperand, takenBelow, free, freePair, repeats, listFits}
+use Rattle.report.specs.FormChecks.{expressionFits, comparisonFits, isOperand, takenBelow, free, freePair, listFits}
 use Rattle.report.specs.FormChecks.{queryFitsAt, queryFitsIn}
-use Rattle.report.specs.Formed.{ExpressionLower, ComparisonLower, OperandsBelow, ListIn, Free, FreePair, OperandsFree, QueryLower}
+use Rattle.report.specs.Formed.{ExpressionLower, ComparisonLower, OperandsBelow, Free, FreePair, OperandsFree, QueryLower}
 use Rattle.report.specs.declared.Expression.{Expression}
 use Rattle.report.specs.declared.Comparison.{Comparison}
 use Rattle.report.specs.declared.Query.{Query}
@@ -66,17 +65,8 @@ comparison-below m e f (Comparison.Choice a b d) l = (l .1, l .2)
 
 -- ---- one list
 
-pub list-in : (entries : List ℕ) (start count : ℕ) → listFits entries start count ≡ true → ListIn entries start count
-list-in entries start count t = record {
-  inside = leb-true _ _ (p .0);
-  once = λ i j l h. eqb-false _ _ (some-none (same j) j (some-none (λ k. someBelow (same k) k) count (not-true _ (p .1)) j h) i l);
-}
-  where
-    same : ℕ → ℕ → Bool
-    same j i = eqb (entryAttribute entries (start + i)) (entryAttribute entries (start + j))
-
-    p : (leb (start + count) (length entries / 2) ≡ true) × (not (repeats entries start count) ≡ true)
-    p = and-eq-true-iff _ _ .0 t
+pub list-inside : (entries : List ℕ) (start count : ℕ) → listFits entries start count ≡ true → start + count ≤ length entries / 2
+list-inside entries start count = leb-true _ _
 
 -- ---- one query form
 
@@ -101,7 +91,7 @@ module _ (T : Tables) where
   query-lower q (Query.Select a b) t = let p = and-eq-true-iff _ _ .0 t in (ltb-true a _ (p .0), is-free (T .queries) q b (p .1))
   query-lower q (Query.Project a b) t =
       let p = and-eq-true-iff (listFits (T .entries) (projectStart T q) a) (free (takenBelow (T .queries) q) q b) .0 t in
-      (list-in (T .entries) (projectStart T q) a (p .0), is-free (T .queries) q b (p .1))
+      (list-inside (T .entries) (projectStart T q) a (p .0), is-free (T .queries) q b (p .1))
   query-lower q (Query.Choice a b d) t =
       let p = and-eq-true-iff (ltb a (expressionCount T)) (freePair (takenBelow (T .queries) q) q b d) .0 t in
       (ltb-true a _ (p .0), is-free-pair (T .queries) q b d (p .1))

@@ -15,9 +15,9 @@ use Rattle.report.specs.Tables.{expressionCount, entryCount, relationCou
 use Rattle.report.specs.Tables.{relationStart, projectLength, projectedBefore, relationsEnd, projectStart}
 use Rattle.report.specs.Operands.{comparisonOperands, queryOperands}
 use Rattle.report.specs.FormChecks.{isOperand, listFits, listsEnd}
-use Rattle.report.specs.Formed.{Formed, ExpressionLower, ComparisonLower, OperandsBelow, ListIn, Free, OperandsFree, QueryLower}
+use Rattle.report.specs.Formed.{Formed, ExpressionLower, ComparisonLower, OperandsBelow, Free, OperandsFree, QueryLower}
 use Rattle.report.specs.declared.Query.{Query}
-use Rattle.report.proofs.FormFacts.{expression-lower, comparison-lower, comparison-below, list-in, query-lower}
+use Rattle.report.proofs.FormFacts.{expression-lower, comparison-lower, comparison-below, list-inside, query-lower}
 use Rattle.report.proofs.FormFacts.{operands-free, among-free, free-below, Listing, project, unlisted, listing}
 
 -- lists start one after another, those of the relations
@@ -108,25 +108,25 @@ module _ {T : Tables} (F : Formed T) where
       × (listFits (T .entries) (relationStart (T .relations) r) (relationLength (T .relations) r) ≡ true)
   relation-tests r h = and-eq-true-iff _ _ .0 (F .relationsOk r h)
 
-  -- a relation's expression is in table 0, its list in table 1 with no attribute twice
+  -- a relation's expression is in table 0, its list in table 1
   pub relation-expression : (r : ℕ) → r < relationCount T → relationExpression (T .relations) r < expressionCount T
   relation-expression r h = ltb-true _ _ (relation-tests r h .0)
 
-  pub relation-list : (r : ℕ) → r < relationCount T → ListIn (T .entries) (relationStart (T .relations) r) (relationLength (T .relations) r)
-  relation-list r h = list-in _ _ _ (relation-tests r h .1)
+  pub relation-list : (r : ℕ) → r < relationCount T → relationStart (T .relations) r + relationLength (T .relations) r ≤ entryCount T
+  relation-list r h = list-inside (T .entries) _ _ (relation-tests r h .1)
 
   -- ---- where the lists lie
 
   -- they all start within table 1, or at its end
   pub relation-within : (r : ℕ) → r ≤ relationCount T → relationStart (T .relations) r ≤ entryCount T
   relation-within zero h = omega arith
-  relation-within (suc r) h = relation-list r h .inside
+  relation-within (suc r) h = relation-list r h
 
   project-next : (q : ℕ) (x : Query) → QueryLower T q x → projectStart T q ≤ entryCount T → projectStart T q + projectLength x ≤ entryCount T
   project-next q x l h = go (listing x)
     where
       go : Listing x → projectStart T q + projectLength x ≤ entryCount T
-      go (project a b e) = rw e ((rw e at l) .0 .inside)
+      go (project a b e) = rw e ((rw e at l) .0)
       go (unlisted e) = omega arith
 
   pub project-within : (q : ℕ) → q ≤ queryCount T → projectStart T q ≤ entryCount T

@@ -11,7 +11,7 @@ use Rattle.sets.specs.Bits.{difference}
 use Rattle.sets.proofs.BitLaws.{difference-lt, subset-and, xor-same}
 use Rattle.report.specs.Tables.{Tables, entryExpression, comparison, query}
 use Rattle.report.specs.Tables.{expressionCount, entryCount, comparisonCount, queryCount}
-use Rattle.report.specs.Typing.{at, listed, present, relationSet, projectSet, namesOf, names, setRule, setOf, faultsOf, faults}
+use Rattle.report.specs.Typing.{at, joinedSet, present, relationSet, projectSet, namesOf, names, setRule, setOf, faultsOf, faults}
 use Rattle.report.specs.Rules.{Rule}
 use Rattle.report.specs.Formed.{Formed, ComparisonLower, QueryLower}
 use Rattle.report.specs.declared.Comparison.{Comparison}
@@ -58,11 +58,11 @@ narrow-word F h = lt-of-lt-of-le h (pow-mono (F .narrow))
 
 module _ {T : Tables} (F : Formed T) (c : ℕ) where
   -- a list of table 1
-  pub listed-narrow : (start count : ℕ) → start + count ≤ entryCount T → listed T c start count < 2 ^ (T .attributes)
-  unfolding listed
-  listed-narrow start zero h = pow-pos (T .attributes)
-  listed-narrow start (suc count) h =
-      or-lt (T .attributes) _ _ (listed-narrow start count (omega arith))
+  pub joined-narrow : (start count : ℕ) → start + count ≤ entryCount T → joinedSet T c start count < 2 ^ (T .attributes)
+  unfolding joinedSet
+  joined-narrow start zero h = pow-pos (T .attributes)
+  joined-narrow start (suc count) h =
+      or-lt (T .attributes) _ _ (joined-narrow start count (omega arith))
       (zero-narrow (T .attributes) (at T c (entryExpression (T .entries) (start + count))) (pow-lt (entry-attribute F (start + count) (omega arith))))
 
   names-rule : (f : ℕ) (x : Comparison) → ComparisonLower (T .attributes) (expressionCount T) f x → ((k : ℕ) → k < f → names T c k < 2 ^ (T .attributes))
@@ -87,9 +87,9 @@ module _ {T : Tables} (F : Formed T) (c : ℕ) where
       → setRule T c (setOf T c) q x < 2 ^ (T .attributes)
   set-rule q Query.Malformed l ih = absurd l
   set-rule q Query.Empty l ih = pow-pos (T .attributes)
-  set-rule q (Query.Relation a) l ih = zero-narrow (T .attributes) (present T c a) (listed-narrow _ _ (relation-list F a l .inside))
+  set-rule q (Query.Relation a) l ih = zero-narrow (T .attributes) (present T c a) (joined-narrow _ _ (relation-list F a l))
   set-rule q (Query.Select a b) l ih = ih b (l .1 .lower)
-  set-rule q (Query.Project a b) l ih = and-lt (T .attributes) _ _ (listed-narrow _ a (l .0 .inside)) (ih b (l .1 .lower))
+  set-rule q (Query.Project a b) l ih = and-lt (T .attributes) _ _ (joined-narrow _ a (l .0)) (ih b (l .1 .lower))
   set-rule q (Query.Choice a b d) l ih = ih _ (taken-below (at T c a) (l .1 .first .lower, l .1 .second .lower))
   set-rule q (Query.Product a b) l ih = or-lt (T .attributes) _ _ (ih a (l .first .lower)) (ih b (l .second .lower))
   set-rule q (Query.Union a b) l ih = ih a (l .first .lower)
@@ -113,7 +113,7 @@ module _ {T : Tables} (F : Formed T) (c : ℕ) where
       fault true = pow-pos 64
       fault false = pow-lt {i = a} {j = 64} (let n = counts F .most2 in omega arith)
   faults-rule q h (Query.Select a b) l = difference-lt 64 _ _ (narrow-word F (names-narrow a (l .0)))
-  faults-rule q h (Query.Project a b) l = difference-lt 64 _ _ (narrow-word F (listed-narrow _ a (l .0 .inside)))
+  faults-rule q h (Query.Project a b) l = difference-lt 64 _ _ (narrow-word F (joined-narrow _ a (l .0)))
   faults-rule q h (Query.Choice a b d) l = pow-pos 64
   faults-rule q h (Query.Product a b) l = and-lt 64 _ _ (operand-word (l .first .lower) h) (operand-word (l .second .lower) h)
   faults-rule q h (Query.Union a b) l = xor-lt 64 _ _ (operand-word (l .first .lower) h) (operand-word (l .second .lower) h)

@@ -1,24 +1,23 @@
 -- The configured report as a tree keeps the plain rules at c exactly where no form that c reaches has a fault; there its columns are the
 -- report's set. And node by node: where the trees of its operands pass, a form's own node breaks its rule exactly where the form has a fault.
-use Prim.Native.Nat.{ℕ, zero, suc, _+_, _^_, _<_, _≤_}
+use Prim.Native.Nat.{ℕ, _^_, _<_, _≤_}
 use mathlib.Core.Path.{_≡_, refl, sym, ap, ap₂, _∙_}
 use mathlib.Core.Bool.{Bool, true, false, cond, _&&_, _||_, not, and-eq-true-iff, and-true, Bool·not-not, false≢true}
 use mathlib.Core.Logic.{_↔_, _≢_, ⊎-elim}
-use mathlib.Core.List.{List, [], _∷_, _++_}
 use mathlib.Core.Option.{none, some}
 use native.Mathlib.Omega.{arith}
 use borrow.Author.Tests.{eqb-true, eqb-false, eq-eqb, ne-eqb, not-true, not-false}
 use lib.Dec.{eqb}
-use lib.Bits.{bitAnd, bitOr, or-zero-l, or-zero-r}
+use lib.Bits.{bitAnd, bitOr}
 use lib.Pow.{pow-pos}
 use Rattle.sets.specs.Bits.{difference}
-use Rattle.sets.proofs.BitLaws.{or-assoc, xor-zero, subset-and}
-use Rattle.report.specs.Tables.{Tables, entryAttribute, entryExpression, comparison, queryCount, report, projectStart}
+use Rattle.sets.proofs.BitLaws.{xor-zero, subset-and}
+use Rattle.report.specs.Tables.{Tables, comparison, queryCount, report, projectStart}
 use Rattle.report.specs.Operands.{queryOperands}
 use Rattle.report.specs.Expressions.{permitted}
-use Rattle.report.specs.Typing.{at, taken, passesOn, leads, reached, listed, present, relationSet, projectSet, namesOf, names, setRule, setOf, faultsOf, faults, fails}
-use Rattle.report.specs.PlainAlgebra.{PlainComparison, PlainQuery, named, setFrom, inSchema, attributesIn, columns, passes}
-use Rattle.report.specs.ConfiguredReport.{plainComparisonOf, plainComparisonAt, keptAttributes, plainQueryOf, plainQueryAt, configuredReport, configuredSchema}
+use Rattle.report.specs.Typing.{at, taken, passesOn, leads, reached, present, relationSet, projectSet, namesOf, names, setRule, setOf, faultsOf, faults, fails}
+use Rattle.report.specs.PlainAlgebra.{PlainComparison, PlainQuery, named, inSchema, attributesIn, columns, passes}
+use Rattle.report.specs.ConfiguredReport.{plainComparisonOf, plainComparisonAt, plainQueryOf, plainQueryAt, configuredReport, configuredSchema}
 use Rattle.report.specs.Formed.{Formed, OperandsBelow}
 use Rattle.report.specs.TypingFaults.{PartOf}
 use Rattle.report.specs.declared.Comparison.{Comparison}
@@ -26,6 +25,7 @@ use Rattle.report.specs.declared.Query.{Query}
 use Rattle.report.proofs.ValueLaws.{strong, value-map}
 use Rattle.report.proofs.FormedFacts.{query-operands, report-in}
 use Rattle.report.proofs.StepLaws.{taken-below, set-in, plain-query-in}
+use Rattle.report.proofs.KeptLists.{kept-joined}
 use Rattle.report.proofs.PassingOn.{passesTo, PassedTo, passed-to, to-passed, or-either}
 use Rattle.report.proofs.LeadLaws.{formAt, passed-lower, leads-self, leads-next, leads-cases, leads-lower, along}
 use Rattle.report.proofs.ReachLaws.{reached-leads, reached-in, reached-report, reached-led}
@@ -57,25 +57,9 @@ module _ (T : Tables) (c x : ℕ) where
       forth true f = ap not (eq-eqb (faults T c x) 0 (f refl))
       forth false f = refl
 
--- ---- lists and comparisons
-
-set-join : (x y : List ℕ) → setFrom (x ++ y) ≡ bitOr (setFrom x) (setFrom y)
-set-join [] y = sym (or-zero-l (setFrom y))
-set-join (a ∷ x) y = ap (bitOr (2 ^ a)) (set-join x y) ∙ sym (or-assoc (2 ^ a) (setFrom x) (setFrom y))
+-- ---- comparisons
 
 module _ (T : Tables) (c : ℕ) where
-  -- the set of a kept list
-  pub kept-listed : (start count : ℕ) → setFrom (keptAttributes T c start count) ≡ listed T c start count
-  unfolding keptAttributes listed
-  kept-listed start zero = refl
-  kept-listed start (suc count) =
-      set-join (keptAttributes T c start count) _
-      ∙ ap₂ bitOr (kept-listed start count) (one (at T c (entryExpression (T .entries) (start + count))) (entryAttribute (T .entries) (start + count)))
-    where
-      one : (t : Bool) (a : ℕ) → setFrom (cond t (a ∷ []) []) ≡ cond t (2 ^ a) 0
-      one true a = or-zero-r (2 ^ a)
-      one false a = refl
-
   named-rule : (f : ℕ → PlainComparison) (x : Comparison) → named (plainComparisonOf T c f x) ≡ namesOf T c (λ k. named (f k)) x
   named-rule f Comparison.Malformed = refl
   named-rule f Comparison.Never = refl
@@ -152,7 +136,7 @@ module _ (T : Tables) (c : ℕ) where
   passes-rule q (Query.Select a b) l ih =
       under-one (treePasses b) _ _ (λ e. ap₂ (λ (x y : ℕ). eqb (difference x y) 0) (named-names T c a) (ih b l e))
   passes-rule q (Query.Project a b) l ih =
-      under-one (treePasses b) _ _ (λ e. ap₂ (λ (x y : ℕ). eqb (difference x y) 0) (kept-listed T c (projectStart T q) a) (ih b l e))
+      under-one (treePasses b) _ _ (λ e. ap₂ (λ (x y : ℕ). eqb (difference x y) 0) (kept-joined T c (projectStart T q) a) (ih b l e))
   passes-rule q (Query.Choice a b d) l ih = sym (and-true _ ∙ Bool·not-not _)
   passes-rule q (Query.Product a b) l ih =
       under-two (treePasses a) (treePasses b) _ _ (λ e f. ap₂ (λ (x y : ℕ). eqb (bitAnd x y) 0) (ih a (l .0) e) (ih b (l .1) f))
@@ -171,7 +155,7 @@ module _ (T : Tables) (c : ℕ) where
   columns-rule q Query.Empty l ih e f = refl
   columns-rule q (Query.Relation a) l ih e f = relation-columns (present T c a) (relationSet T c a)
   columns-rule q (Query.Select a b) l ih e f = ih b l (sym (Bool·not-not (treePasses b)) ∙ e)
-  columns-rule q (Query.Project a b) l ih e f = kept-listed T c (projectStart T q) a ∙ sym (subset-and (projectSet T c q a) (setOf T c b) f)
+  columns-rule q (Query.Project a b) l ih e f = kept-joined T c (projectStart T q) a ∙ sym (subset-and (projectSet T c q a) (setOf T c b) f)
   columns-rule q (Query.Choice a b d) l ih e f = ih _ (taken-below (at T c a) l) (sym (Bool·not-not _) ∙ e)
   columns-rule q (Query.Product a b) l ih e f =
       let p = two-pass (treePasses a) (treePasses b) e in

@@ -30,9 +30,9 @@ use Rattle.report.proofs.LeadLaws.{formAt, operandsAt, passed-lower, ta
 use Rattle.report.proofs.ReachLaws.{both-kept, reached-report, reached-next, operand-reached, kept-count}
 use Rattle.report.proofs.CarriedLists.{carried-attributes}
 use Rattle.report.proofs.WrittenComparisons.{plain-comparison-same}
-use Rattle.report.proofs.WrittenEntries.{entry-holds, new-relation, relation-of, schema-written, schema-end}
+use Rattle.report.proofs.WrittenEntries.{entry-holds, new-relation, relation-of, relations-once, schema-written, schema-end}
 use Rattle.report.proofs.WrittenQueries.{renumberedQuery, queries-count, query-written, project-stands}
-use Rattle.report.proofs.WrittenFormed.{RelationsPresent, written-formed}
+use Rattle.report.proofs.WrittenFormed.{RelationsPresent, queries-once, written-formed}
 
 -- ---- a tree with other numbers for its relations
 
@@ -179,4 +179,5 @@ tables-written {T} F c ok P = record {
   inOrder = λ r s l p. count-lt (present T c) r s l p;
   numbered = new-relation T c;
   onto = relation-of F c;
+  once = record { relations = λ r h f. relations-once F c r h; projects = λ q h f. queries-once F c ok P q h };
 }

@@ -16,16 +16,17 @@ use Rattle.sets.proofs.ListLaws.{kept-yes, kept-no, kept-at}
 use Rattle.report.specs.Tables.{Tables, entryAttribute, entryExpression, relationExpression, relationLength, relationStart, query}
 use Rattle.report.specs.Tables.{expressionCount, entryCount, relationCount, queryCount, projectLength, projectStart}
 use Rattle.report.specs.Expressions.{holds}
-use Rattle.report.specs.Typing.{at, present, listed, relationSet}
+use Rattle.report.specs.Typing.{at, present, joinedSet, relationSet}
 use Rattle.report.specs.Configuring.{keptLength, relationList, relationForm, projectListOf, queryKept, newRelation, configured}
 use Rattle.report.specs.ConfiguredReport.{configuredSchema}
 use Rattle.report.specs.FormChecks.{entryOk, relationOk}
-use Rattle.report.specs.Formed.{Formed, ListIn}
+use Rattle.report.specs.Formed.{Formed}
+use Rattle.report.specs.Repeats.{relationRepeats}
 use Rattle.report.proofs.FitLaws.{list-fits}
 use Rattle.report.proofs.FormedFacts.{relation-list, project-inside}
 use Rattle.report.proofs.KeptForms.{kept-inside, kept-all, forms-length, forms-count, first-word, form-word}
 use Rattle.report.proofs.CarriedLists.{Pairs, pairs-join, pairs-even, pairs-attribute, pairs-expression}
-use Rattle.report.proofs.CarriedLists.{Stands, list-length, list-pairs, carried-in, carried-set}
+use Rattle.report.proofs.CarriedLists.{Stands, list-length, list-pairs, carried-inside, carried-repeats, carried-set}
 
 module _ (T : Tables) (c : ℕ) where
   -- the lists written: those of the relations, and those of the project forms below q
@@ -129,7 +130,7 @@ module _ {T : Tables} (F : Formed T) (c : ℕ) where
       rw (entries-joined T c)
       (pairs-join (T .attributes) (relationLists T c (relationCount T)) (projectLists T c (queryCount T))
       (kept-all (present T c) (relationList T c) (Pairs (T .attributes)) tt (pairs-join (T .attributes)) (relationCount T)
-      (λ r h k. list-pairs T c (relationStart (T .relations) r) (relationLength (T .relations) r) F (relation-list F r h .inside)))
+      (λ r h k. list-pairs T c (relationStart (T .relations) r) (relationLength (T .relations) r) F (relation-list F r h)))
       (kept-all (queryKept T c) (λ q. projectListOf T c q (query (T .queries) q)) (Pairs (T .attributes)) tt (pairs-join (T .attributes))
       (queryCount T)
       (λ q h k. list-pairs T c (projectStart T q) (projectLength (query (T .queries) q)) F (project-inside F q h))))
@@ -153,12 +154,17 @@ module _ {T : Tables} (F : Formed T) (c : ℕ) where
   -- ---- every relation written
 
   module _ (r : ℕ) (p : present T c r ≡ true) where
-    relation-list-written : ListIn (configured T c .entries) (relationStart (configured T c .relations) (newRelation T c r))
-        (relationLength (configured T c .relations) (newRelation T c r))
+    relation-list-written :
+        relationStart (configured T c .relations) (newRelation T c r) + relationLength (configured T c .relations) (newRelation T c r)
+        ≤ entryCount (configured T c)
     relation-list-written =
         rw (relation-length-written T c r p)
-        (carried-in T c (relationStart (T .relations) r) (relationLength (T .relations) r) (configured T c) _ (relation-stands T c r p)
-        (relation-list F r (present-in T c r p)))
+        (carried-inside T c (relationStart (T .relations) r) (relationLength (T .relations) r) (configured T c) _ (relation-stands T c r p))
+
+    relation-once : relationRepeats (configured T c) (newRelation T c r) ≡ false
+    relation-once =
+        rw (relation-length-written T c r p)
+        (carried-repeats T c (relationStart (T .relations) r) (relationLength (T .relations) r) (configured T c) _ (relation-stands T c r p))
 
     relation-ok : relationOk (configured T c) (newRelation T c r) ≡ true
     relation-ok =
@@ -166,12 +172,12 @@ module _ {T : Tables} (F : Formed T) (c : ℕ) where
         ap₂ _&&_
         (lt-ltb (relationExpression (configured T c .relations) (newRelation T c r)) (expressionCount (configured T c))
         (omega (arith, one-expression T c)))
-        (list-fits relation-list-written)
+        (list-fits (configured T c .entries) _ _ relation-list-written)
 
     -- its set is the one that it has at c
     pub relation-set-written : relationSet (configured T c) 0 (newRelation T c r) ≡ relationSet T c r
     relation-set-written =
-        ap (listed (configured T c) 0 (relationStart (configured T c .relations) (newRelation T c r))) (relation-length-written T c r p)
+        ap (joinedSet (configured T c) 0 (relationStart (configured T c .relations) (newRelation T c r))) (relation-length-written T c r p)
         ∙ carried-set T c (relationStart (T .relations) r) (relationLength (T .relations) r) (configured T c) _ (relation-stands T c r p) entry-holds
 
   -- each written relation is one that is present
@@ -181,6 +187,11 @@ module _ {T : Tables} (F : Formed T) (c : ℕ) where
   -- check 6 of the tables written
   pub relations-ok : (k : ℕ) → k < relationCount (configured T c) → relationOk (configured T c) k ≡ true
   relations-ok k h = let n = relation-of k h in subst (λ (x : ℕ). relationOk (configured T c) x ≡ true) (n .number) (relation-ok (n .old) (n .passed))
+
+  -- no list of them has an attribute twice
+  pub relations-once : (k : ℕ) → k < relationCount (configured T c) → relationRepeats (configured T c) k ≡ false
+  relations-once k h =
+      let n = relation-of k h in subst (λ (x : ℕ). relationRepeats (configured T c) x ≡ false) (n .number) (relation-once (n .old) (n .passed))
 
   -- every relation written is present at 0
   pub relation-holds : (k : ℕ) → k < relationCount (configured T c) → at (configured T c) 0 (relationExpression (configured T c .relations) k) ≡ true

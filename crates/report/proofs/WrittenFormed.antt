@@ -16,18 +16,20 @@ use Rattle.report.specs.Expressions.{permitted}
 use Rattle.report.specs.Typing.{present, reached}
 use Rattle.report.specs.FormChecks.{isOperand, takenBelow, expressionOk, queryOk}
 use Rattle.report.specs.Configuring.{queryTarget, comparisonKept, queryKept, newQuery, configured}
+use Rattle.report.specs.Repeats.{repeats, projectRepeats}
 use Rattle.report.specs.Formed.{Sized, Formed, Free, FreePair, QueryLower}
 use Rattle.report.specs.declared.Query.{Query}
 use Rattle.report.specs.declared.Operands.{Operands}
+use Rattle.report.proofs.FormFacts.{Listing, project, unlisted, listing}
 use Rattle.report.proofs.FitLaws.{query-fits}
 use Rattle.report.proofs.FormedFacts.{query-at, operand-lower, operand-once, counts}
 use Rattle.report.proofs.PassingOn.{or-either, or-first, or-second, same-number}
 use Rattle.report.proofs.LeadLaws.{formAt, operandsAt, lead, leads-apart}
 use Rattle.report.proofs.ReachLaws.{Taker, kept-both, operand-reached, target-kept, kept-count, kept-taken}
 use Rattle.report.proofs.WrittenComparisons.{comparisons-length, comparisons-ok, new-comparison}
-use Rattle.report.proofs.CarriedLists.{carried-in}
+use Rattle.report.proofs.CarriedLists.{carried-inside, carried-repeats}
 use Rattle.report.proofs.WrittenEntries.{entries-even, entries-ok, relations-length, relations-ok, new-relation}
-use Rattle.report.proofs.WrittenQueries.{renumberedQuery, queries-length, queries-count, query-written, project-stands, all-used, entries-room}
+use Rattle.report.proofs.WrittenQueries.{renumberedQuery, queries-length, queries-count, query-written, unlisted-written, project-stands, all-used, entries-room}
 
 -- every relation that c reaches is present
 abbrev pub RelationsPresent : Tables → ℕ → Type 0
@@ -130,7 +132,7 @@ module _ {T : Tables} (F : Formed T) (c : ℕ) (ok : permitted T c ≡ true) whe
     renumbered-lower q h k (Query.Relation a) e l = new-relation T c a (P q a (kept-both T c q k .0) e)
     renumbered-lower q h k (Query.Select a b) e l = (new-comparison F c a (l .0), new-free q b h k (ap (isOperand b) e ∙ same-number b))
     renumbered-lower q h k (Query.Project a b) e l = (
-      carried-in T c (projectStart T q) a (configured T c) _ (project-stands F c q a b h k e) (l .0),
+      carried-inside T c (projectStart T q) a (configured T c) _ (project-stands F c q a b h k e),
       new-free q b h k (ap (isOperand b) e ∙ same-number b),
     )
     renumbered-lower q h k (Query.Choice a b d) e l = absurd (false≢true (sym (kept-both T c q k .1) ∙ ap (λ (y : Query). isChoice (queryOperands y)) e))
@@ -150,6 +152,19 @@ module _ {T : Tables} (F : Formed T) (c : ℕ) (ok : permitted T c ≡ true) whe
         (query-fits (configured T c) _ (formAt (configured T c) (countBelow (queryKept T c) (n .old)))
         (rw (query-written F c (n .old) (n .below) (n .passed))
         (renumbered-lower (n .old) (n .below) (n .passed) (formAt T (n .old)) refl (query-at F (n .old) (n .below)))))
+
+    -- no list of them has an attribute twice
+    project-once : (q : ℕ) → q < queryCount T → queryKept T c q ≡ true → Listing (formAt T q)
+        → projectRepeats (configured T c) (countBelow (queryKept T c) q) ≡ false
+    project-once q h k (project a b e) =
+        rw (query-written F c q h k, e) (carried-repeats T c (projectStart T q) a (configured T c) _ (project-stands F c q a b h k e))
+    project-once q h k (unlisted e) =
+        ap (repeats (configured T c .entries) (projectStart (configured T c) (countBelow (queryKept T c) q))) (unlisted-written F c q h k e)
+
+    pub queries-once : (k : ℕ) → k < queryCount (configured T c) → projectRepeats (configured T c) k ≡ false
+    queries-once k h =
+        let n = query-of k h in
+        subst (λ (x : ℕ). projectRepeats (configured T c) x ≡ false) (n .number) (project-once (n .old) (n .below) (n .passed) (listing (formAt T (n .old))))
 
     -- check 9
     queries-taken : (k : ℕ) → k < queryCount (configured T c) - 1 → takenBelow (configured T c .queries) (queryCount (configured T c)) k ≡ true

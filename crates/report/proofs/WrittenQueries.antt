@@ -93,6 +93,15 @@ module _ {T : Tables} (F : Formed T) (c : ℕ) where
 
   -- ---- the lists of project forms
 
+  -- a form that lists no entries lists none when it is written
+  pub unlisted-written : (q : ℕ) → q < queryCount T → queryKept T c q ≡ true → projectLength (formAt T q) ≡ 0
+      → projectLength (formAt (configured T c) (countBelow (queryKept T c) q)) ≡ 0
+  unlisted-written q h k e =
+      let w = ap projectLength (query-written q h k) in
+      let l = form-of q h k .lists in
+      let n = ap (λ (n : ℕ). length (keptList T c (projectStart T q) n)) e in
+      omega arith
+
   -- the list of a kept project form starts where those of the relations and of the kept forms before it end
   pub project-start : (q : ℕ) → q ≤ queryCount T
       → projectStart (configured T c) (countBelow (queryKept T c) q) * 2 ≡ length (relationLists T c (relationCount T)) + length (projectLists T c q)

@@ -5,10 +5,10 @@ use mathlib.Core.List.{List, [], _∷_}
 use lib.Dec.{eqb}
 use Rattle.sets.specs.Search.{seek, lowest, someBelow}
 use Rattle.sets.specs.Bits.{lowestMember}
-use Rattle.report.specs.Tables.{Tables, entryAttribute, entryExpression, relationExpression, relationLength, query}
+use Rattle.report.specs.Tables.{Tables, entryAttribute, relationExpression, relationLength, query}
 use Rattle.report.specs.Tables.{relationCount, queryCount, relationStart}
 use Rattle.report.specs.Expressions.{configurations, permitted}
-use Rattle.report.specs.Typing.{at, faults, fails}
+use Rattle.report.specs.Typing.{at, entryHolds, faults, fails}
 use Rattle.report.specs.Verdicts.{refusal, refuseIf, refuseAt, orElse, firstFrom}
 use Rattle.report.specs.declared.Verdict.{Verdict}
 use Rattle.report.specs.declared.Query.{Query}
@@ -38,9 +38,9 @@ module _ (T : Tables) where
   abbrev pub absentEverywhere : ℕ → Bool
   absentEverywhere r = not (somewhere (λ c. at T c (relationExpression (T .relations) r)))
 
-  -- 14: relation r and entry i hold together at no permitted configuration
+  -- 14: relation r and entry i, looked at by itself, hold together at no permitted configuration
   abbrev pub apartEverywhere : ℕ → ℕ → Bool
-  apartEverywhere r i = not (somewhere (λ c. at T c (relationExpression (T .relations) r) && at T c (entryExpression (T .entries) i)))
+  apartEverywhere r i = not (somewhere (λ c. at T c (relationExpression (T .relations) r) && entryHolds T c i))
 
   -- 13, then 14 in the order of its list, of one relation
   abbrev pub relationCheck : ℕ → Verdict

@@ -29,7 +29,7 @@ module _ (T : Tables) (c : ℕ) where
   unfoldable pub plainComparisonAt : ℕ → PlainComparison
   plainComparisonAt = value PlainComparison.never (λ tree f. plainComparisonOf tree (comparison (T .comparisons) f))
 
-  -- the attributes of the entries that hold, of `count` entries from `start` on, in their order
+  -- the attributes of the entries that are kept, of `count` entries from `start` on, in their order
   unfoldable pub keptAttributes : ℕ → ℕ → List ℕ
   keptAttributes start count = kept (entryKept T c start) (λ i. entryAttribute (T .entries) (start + i) ∷ []) count
 
@@ -52,6 +52,6 @@ module _ (T : Tables) (c : ℕ) where
   abbrev pub configuredReport : PlainQuery
   configuredReport = plainQueryAt (report T)
 
-  -- "configured schema": the relations present at c, each with its entries that hold. One that is absent is lacking
+  -- "configured schema": the relations present at c, each with the attributes of its joined list. One that is absent is lacking
   abbrev pub configuredSchema : Schema
   configuredSchema r = cond (present T c r) (some (relationSet T c r)) none

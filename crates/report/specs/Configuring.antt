@@ -3,13 +3,14 @@ use Prim.Native.Nat.{ℕ, _+_}
 use mathlib.Core.Bool.{Bool, _&&_, not}
 use mathlib.Core.List.{List, [], _∷_, _++_}
 use lib.ListN.{length, drop}
-use Rattle.sets.specs.Search.{countBelow}
+use lib.Dec.{eqb}
+use Rattle.sets.specs.Search.{someBelow, countBelow}
 use Rattle.sets.specs.Lists.{kept}
 use Rattle.report.specs.Values.{value}
-use Rattle.report.specs.Tables.{Tables, tablesOf, entryAttribute, entryExpression, relationLength, comparison, query}
+use Rattle.report.specs.Tables.{Tables, tablesOf, entryAttribute, relationLength, comparison, query}
 use Rattle.report.specs.Tables.{relationCount, comparisonCount, queryCount, relationStart, projectLength, projectStart}
 use Rattle.report.specs.Operands.{comparisonOperands, queryOperands, isChoice}
-use Rattle.report.specs.Typing.{at, taken, reached, present}
+use Rattle.report.specs.Typing.{taken, reached, entryHolds, present}
 use Rattle.report.specs.declared.Comparison.{Comparison}
 use Rattle.report.specs.declared.Query.{Query}
 use Rattle.report.specs.declared.Operands.{Operands}
@@ -76,10 +77,16 @@ module _ (T : Tables) (c : ℕ) where
   abbrev pub newQuery : ℕ → ℕ
   newQuery q = countBelow queryKept (queryTarget q)
 
-  -- ---- lists: the entries that hold, of `count` entries from `start` on, their expression made 0
+  -- ---- lists: of `count` entries from `start` on each attribute's first entry that holds, in the order of the list, its expression made 0
 
-  abbrev pub entryKept : ℕ → ℕ → Bool
-  entryKept start i = at T c (entryExpression (T .entries) (start + i))
+  -- entry j of the list that starts at `start` holds, and has attribute a
+  abbrev pub givesAttribute : ℕ → ℕ → ℕ → Bool
+  givesAttribute start a j = entryHolds T c (start + j) && eqb a (entryAttribute (T .entries) (start + j))
+
+  -- entry i of that list is its attribute's first that holds: it holds, and no entry before it holds and has its attribute
+  unfoldable pub entryKept : ℕ → ℕ → Bool
+  entryKept start i =
+      entryHolds T c (start + i) && not (someBelow (givesAttribute start (entryAttribute (T .entries) (start + i))) i)
 
   abbrev pub keptLength : ℕ → ℕ → ℕ
   keptLength start count = countBelow (entryKept start) count

@@ -1,4 +1,5 @@
--- docs/FORMAT.md, "Worked examples": H1 to H10 and three cases more, as one list. Their theorem is proofs/ExamplesHold.
+-- docs/FORMAT.md, "Worked examples": H1 to H10, three cases more, and those of document 02's second wish, as one list. Their theorem is
+-- proofs/ExamplesHold.
 use Prim.Native.Nat.{ℕ, _+_, _-_, _^_}
 use mathlib.Core.List.{List, [], _∷_, _++_}
 use lib.ListN.{replicate}
@@ -74,6 +75,25 @@ abbrev pub guarded : List ℕ → ℕ → Tables
 guarded entries count =
     tablesOf 1 2 0 (1 ∷ 0 ∷ 0 ∷ 2 ∷ 0 ∷ 0 ∷ 3 ∷ 1 ∷ 0 ∷ []) entries (1 ∷ count ∷ []) [] (1 ∷ 0 ∷ 0 ∷ 0 ∷ 0 ∷ 0 ∷ 0 ∷ 0 ∷ 4 ∷ 1 ∷ 0 ∷ 1 ∷ [])
 
+-- two features, swaps and tide gates; attributes 0, the berth, and 1, the ramp. Expressions true, swaps, tide gates, one of the two, not swaps, swaps
+-- and not swaps
+abbrev pub ramps : List ℕ → List ℕ → List ℕ → Tables
+ramps entries relations queries =
+    tablesOf 2 2 0 (1 ∷ 0 ∷ 0 ∷ 2 ∷ 0 ∷ 0 ∷ 2 ∷ 1 ∷ 0 ∷ 5 ∷ 1 ∷ 2 ∷ 3 ∷ 1 ∷ 0 ∷ 4 ∷ 1 ∷ 4 ∷ []) entries relations [] queries
+
+-- the relation lists the ramp for swaps, the berth, and the ramp again for tide gates; the report is the relation
+abbrev pub rampTwice : Tables
+rampTwice = ramps (1 ∷ 1 ∷ 0 ∷ 0 ∷ 1 ∷ 2 ∷ []) (0 ∷ 3 ∷ []) (1 ∷ 0 ∷ 0 ∷ 0 ∷ [])
+
+-- what is written for it, with such entries
+abbrev pub rampWritten : ℕ → List ℕ → Outcome
+rampWritten n entries = Outcome.counts n 1 0 1 (tablesOf 0 2 0 (1 ∷ 0 ∷ 0 ∷ []) entries (0 ∷ n ∷ []) [] (1 ∷ 0 ∷ 0 ∷ 0 ∷ []))
+
+-- the relation lists the berth and, under expression e, the ramp; the project form lists the ramp for swaps, again for tide gates, and the berth
+abbrev pub rampProjected : ℕ → Tables
+rampProjected e =
+    ramps (0 ∷ 0 ∷ 1 ∷ e ∷ 1 ∷ 1 ∷ 1 ∷ 2 ∷ 0 ∷ 0 ∷ []) (0 ∷ 2 ∷ []) (1 ∷ 0 ∷ 0 ∷ 0 ∷ 3 ∷ 3 ∷ 0 ∷ 0 ∷ [])
+
 abbrev pub checked : Tables → Case
 checked T = Case.checks T 1024
 
@@ -116,4 +136,22 @@ examples =
     (harbour 2 h1Expressions (h1Entries 1 ++ (2 ∷ 0 ∷ []))
     (1 ∷ 0 ∷ 0 ∷ 0 ∷ 1 ∷ 0 ∷ 0 ∷ 0 ∷ 3 ∷ 2 ∷ 0 ∷ 0 ∷ 3 ∷ 1 ∷ 1 ∷ 0 ∷ 5 ∷ 3 ∷ 2 ∷ 0 ∷ []))
     gives Outcome.refused 17 2 2 1)
+    -- An attribute may occur more than once in a list, and is there when any of its entries holds; 6, and in a project form 8, do not cover repeats
+    ∷ (checked rampTwice gives Outcome.rows (15 ∷ replicate 15 0 ++ 14 ∷ replicate 1007 0))
+    ∷ (checked (rampProjected 0) gives Outcome.rows (15 ∷ replicate 15 0 ++ 14 ∷ replicate 1007 0))
+    -- 14 tests each entry by itself: the ramp's second entry holds nowhere, its first does
+    ∷ (checked (ramps (1 ∷ 1 ∷ 0 ∷ 0 ∷ 1 ∷ 5 ∷ []) (0 ∷ 3 ∷ []) (1 ∷ 0 ∷ 0 ∷ 0 ∷ [])) gives Outcome.refused 14 0 1 0)
+    -- configuring keeps each attribute's first entry that holds: with both features the first, with tide gates alone the second, with none neither
+    ∷ (Case.configures rampTwice 3 6 2 0 4 gives rampWritten 2 (1 ∷ 0 ∷ 0 ∷ 0 ∷ []))
+    ∷ (Case.configures rampTwice 2 6 2 0 4 gives rampWritten 2 (0 ∷ 0 ∷ 1 ∷ 0 ∷ []))
+    ∷ (Case.configures rampTwice 0 6 2 0 4 gives rampWritten 1 (0 ∷ 0 ∷ []))
+    ∷ (Case.configures (rampProjected 0) 3 10 2 0 8
+    gives Outcome.counts 4 1 0 2
+    (tablesOf 0 2 0 (1 ∷ 0 ∷ 0 ∷ []) (0 ∷ 0 ∷ 1 ∷ 0 ∷ 1 ∷ 0 ∷ 0 ∷ 0 ∷ []) (0 ∷ 2 ∷ []) [] (1 ∷ 0 ∷ 0 ∷ 0 ∷ 3 ∷ 2 ∷ 0 ∷ 0 ∷ [])))
+    -- acceptance is judged on the joined lists: a union with a relation that lists the ramp where one of the features is on; a project form whose
+    -- second entry of the ramp holds where the relation has none
+    ∷ (checked
+    (ramps (1 ∷ 1 ∷ 0 ∷ 0 ∷ 1 ∷ 2 ∷ 0 ∷ 0 ∷ 1 ∷ 3 ∷ []) (0 ∷ 3 ∷ 0 ∷ 2 ∷ []) (1 ∷ 0 ∷ 0 ∷ 0 ∷ 1 ∷ 1 ∷ 0 ∷ 0 ∷ 6 ∷ 0 ∷ 1 ∷ 0 ∷ []))
+    gives Outcome.rows (15 ∷ replicate 15 0 ++ 14 ∷ replicate 1007 0))
+    ∷ (checked (rampProjected 1) gives Outcome.refused 17 1 1 2)
     ∷ []

@@ -61,14 +61,9 @@ free taken q x = ltb x q && not (taken x)
 abbrev pub freePair : (ℕ → Bool) → ℕ → ℕ → ℕ → Bool
 freePair taken q x y = free taken q x && free taken q y && not (eqb x y)
 
--- of the `count` entries from `start` on, two have one attribute
-abbrev pub repeats : List ℕ → ℕ → ℕ → Bool
-repeats entries start count =
-    someBelow (λ j. someBelow (λ i. eqb (entryAttribute entries (start + i)) (entryAttribute entries (start + j))) j) count
-
--- a list lies in table 1, and no attribute is in it twice
+-- a list lies in table 1. An attribute may be in it more than once
 abbrev pub listFits : List ℕ → ℕ → ℕ → Bool
-listFits entries start count = leb (start + count) (length entries / 2) && not (repeats entries start count)
+listFits entries start count = leb (start + count) (length entries / 2)
 
 -- entry k: an attribute below m, one of e expressions
 abbrev pub entryFits : ℕ → ℕ → List ℕ → ℕ → Bool

@@ -70,11 +70,6 @@ OperandsBelow f (Operands.One a) = a < f
 OperandsBelow f (Operands.Both a b) = (a < f) × (b < f)
 OperandsBelow f (Operands.Choice e a b) = (a < f) × (b < f)
 
--- the `count` entries from `start` on lie in table 1, and no two have one attribute
-pub record ListIn (entries : List ℕ) (start count : ℕ) : Type 0 where
-  pub inside : start + count ≤ length entries / 2
-  pub once : (i j : ℕ) → i < j → j < count → entryAttribute entries (start + i) ≡ entryAttribute entries (start + j) → ⊥
-
 -- `entries` are entries of table 1 of T, from entry `offset` on
 pub record EntriesFrom (T : Tables) (offset : ℕ) (entries : List ℕ) : Type 0 where
   pub inside : offset + length entries / 2 ≤ entryCount T
@@ -106,7 +101,7 @@ module _ (T : Tables) where
   QueryLower q Query.Empty = Unit {0}
   QueryLower q (Query.Relation a) = a < relationCount T
   QueryLower q (Query.Select a b) = (a < comparisonCount T) × Free (T .queries) q b
-  QueryLower q (Query.Project a b) = ListIn (T .entries) (projectStart T q) a × Free (T .queries) q b
+  QueryLower q (Query.Project a b) = (projectStart T q + a ≤ entryCount T) × Free (T .queries) q b
   QueryLower q (Query.Choice a b d) = (a < expressionCount T) × FreePair (T .queries) q b d
   QueryLower q (Query.Product a b) = FreePair (T .queries) q a b
   QueryLower q (Query.Union a b) = FreePair (T .queries) q a b

@@ -45,23 +45,27 @@ module _ (T : Tables) (c : ℕ) where
 
   -- ---- sets of attributes
 
-  -- the attributes of those entries that hold, of the `count` entries from `start` on
-  unfoldable pub listed : ℕ → ℕ → ℕ
-  listed start zero = 0
-  listed start (suc count) =
-      bitOr (listed start count) (cond (at (entryExpression (T .entries) (start + count))) (2 ^ entryAttribute (T .entries) (start + count)) 0)
+  -- entry k of table 1 "holds"
+  abbrev pub entryHolds : ℕ → Bool
+  entryHolds k = at (entryExpression (T .entries) k)
+
+  -- the joined set of a list, the `count` entries from `start` on: an attribute is there when any of its entries holds
+  unfoldable pub joinedSet : ℕ → ℕ → ℕ
+  joinedSet start zero = 0
+  joinedSet start (suc count) =
+      bitOr (joinedSet start count) (cond (entryHolds (start + count)) (2 ^ entryAttribute (T .entries) (start + count)) 0)
 
   -- relation r is in table 2, and "present": its expression holds
   abbrev pub present : ℕ → Bool
   present r = ltb r (relationCount T) && at (relationExpression (T .relations) r)
 
-  -- the attributes of relation r's entries that hold
+  -- the attributes of relation r: those of its joined list
   abbrev pub relationSet : ℕ → ℕ
-  relationSet r = listed (relationStart (T .relations) r) (relationLength (T .relations) r)
+  relationSet r = joinedSet (relationStart (T .relations) r) (relationLength (T .relations) r)
 
-  -- the attributes that the list of the project form q, of `count` entries, names
+  -- the attributes that the list of the project form q, of `count` entries, names: those of the joined list
   abbrev pub projectSet : ℕ → ℕ → ℕ
-  projectSet q count = listed (projectStart T q) count
+  projectSet q count = joinedSet (projectStart T q) count
 
   -- the attributes that a comparison names, its choices taken
   abbrev pub namesOf : (ℕ → ℕ) → Comparison → ℕ

@@ -15,6 +15,7 @@ use Rattle.report.specs.Configuring.{newRelation, configured}
 use Rattle.report.specs.ConfiguredReport.{plainQueryAt, configuredReport, configuredSchema}
 use Rattle.report.specs.FormChecks.{formCheck}
 use Rattle.report.specs.Calls.{answer, Sound, checking}
+use Rattle.report.specs.Repeats.{NoRepeats}
 use Rattle.report.specs.declared.Verdict.{Verdict}
 
 -- a tree with other numbers for its relations
@@ -40,6 +41,8 @@ pub record WrittenTables (T : Tables) (c : ℕ) : Type 0 where
   pub inOrder : (r s : ℕ) → r < s → present T c r ≡ true → newRelation T c r < newRelation T c s
   pub numbered : (r : ℕ) → present T c r ≡ true → newRelation T c r < relationCount (configured T c)
   pub onto : (k : ℕ) → k < relationCount (configured T c) → Nth (present T c) (relationCount T) k
+  -- no list holds an attribute twice
+  pub once : NoRepeats (configured T c)
 
 -- what is written of an accepted report at c
 pub record WrittenAccepted (T : Tables) (c : ℕ) : Type 0 where

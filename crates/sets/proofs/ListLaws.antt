@@ -183,6 +183,11 @@ module _ {S : Type 0} {Reads : S → Type 0} {f : S → ℕ → ℕ} {count : �
 
 -- ---- what is kept of a row of lists, one after another
 
+-- where the tests and the lists are equal
+pub kept-same : {A : Type 0} (n : ℕ) {keep keep′ : ℕ → Bool} {block block′ : ℕ → List A} → ((k : ℕ) → k < n → keep k ≡ keep′ k)
+    → ((k : ℕ) → k < n → block k ≡ block′ k) → kept keep block n ≡ kept keep′ block′ n
+kept-same {A} n e f = concat-same n _ _ (λ k h. ap₂ (λ (t : Bool) (l : List A). cond t l []) (e k h) (f k h))
+
 module _ {A : Type 0} (keep : ℕ → Bool) (block : ℕ → List A) where
   -- the list of k where it is kept, and the empty one where not
   abbrev part : ℕ → List A

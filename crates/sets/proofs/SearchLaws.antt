@@ -2,8 +2,8 @@
 use Prim.Native.Nat.{ℕ, zero, suc, _+_, _<_, _≤_}
 use mathlib.Core.Path.{_≡_, refl, sym, ap, ap₂, _∙_}
 use mathlib.Core.Bool.{Bool, true, false, cond, not, _&&_, _||_, false≢true, Bool·not-not}
-use mathlib.Core.Logic.{⊎-elim}
-use native.Mathlib.Nat.{eq-or-lt-of-le, le-refl, add-zero, not-suc-le-zero, le-of-suc-le-suc}
+use mathlib.Core.Logic.{⊎-elim, _≢_}
+use native.Mathlib.Nat.{eq-or-lt-of-le, le-refl, add-zero, suc-add, not-suc-le-zero, le-of-suc-le-suc}
 use native.Mathlib.Numerals.{add-one}
 use native.Mathlib.Decide.{le-ind, decLt}
 use native.Mathlib.Omega.{arith}
@@ -187,6 +187,20 @@ module _ (f g : ℕ → Bool) where
 pub count-head : (test : ℕ → Bool) (n : ℕ) → countBelow test (suc n) ≡ cond (test 0) 1 0 + countBelow (λ j. test (suc j)) n
 count-head test zero = omega arith
 count-head test (suc n) = omega (arith, count-head test n)
+
+-- g holds where f does, and at a besides
+pub count-besides : (f g : ℕ → Bool) (a n : ℕ) → a < n → f a ≡ false → g a ≡ true → ((i : ℕ) → i ≢ a → g i ≡ f i)
+    → countBelow g n ≡ suc (countBelow f n)
+count-besides f g a zero h p q same = absurd (not-suc-le-zero h)
+count-besides f g a (suc n) h p q same = ⊎-elim last (λ (l : a < n). lower l (count-besides f g a n l p q same)) (eq-or-lt-of-le (le-of-suc-le-suc h))
+  where
+    last : a ≡ n → countBelow g (suc n) ≡ suc (countBelow f (suc n))
+    last e =
+        ap₂ (λ (k : ℕ) (t : Bool). k + cond t 1 0) (count-same g f n (λ k l. same k (λ d. absurd (omega arith)))) (ap g (sym e) ∙ q)
+        ∙ add-one (countBelow f n) ∙ ap suc (sym (ap (λ (t : Bool). countBelow f n + cond t 1 0) (ap f (sym e) ∙ p) ∙ add-zero (countBelow f n)))
+
+    lower : a < n → countBelow g n ≡ suc (countBelow f n) → countBelow g (suc n) ≡ suc (countBelow f (suc n))
+    lower l ih = ap₂ (λ (k : ℕ) (t : Bool). k + cond t 1 0) ih (same n (λ d. absurd (omega arith))) ∙ suc-add (countBelow f n) _
 
 module _ (keep : ℕ → Bool) where
   -- one number more

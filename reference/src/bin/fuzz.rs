@@ -123,7 +123,8 @@ fn generated(seed: u64) -> Vec<u8> {
         35..=59 => Family::Fault,
         60..=69 => Family::Several,
         70..=73 => Family::Full,
-        74..=84 => Family::Small,
+        74..=76 => Family::Repeats,
+        77..=84 => Family::Small,
         _ => return generate::damage(seed, &write_file(&generate::case(seed))),
     };
     write_file(&generate::of_family(family, seed))

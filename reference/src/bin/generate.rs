@@ -1,5 +1,5 @@
 //! Writes a harbour file: arguments are a seed and a family (accepted, fault,
-//! several, full, small, any, damaged).
+//! several, full, small, repeats, any, damaged).
 
 use std::io::{self, Write};
 use std::process::ExitCode;
@@ -12,7 +12,7 @@ fn main() -> ExitCode {
         Some(text) if io::stdout().write_all(&text).is_ok() => ExitCode::SUCCESS,
         Some(_) => ExitCode::FAILURE,
         None => {
-            eprintln!("usage: generate SEED accepted|fault|several|full|small|any|damaged");
+            eprintln!("usage: generate SEED accepted|fault|several|full|small|repeats|any|damaged");
             ExitCode::FAILURE
         }
     }

@@ -6,6 +6,8 @@
 //! At the end the query forms get numbers in a random order in which operands
 //! are lower.
 
+mod repeats;
+
 use crate::random::Random;
 use crate::tables::{
     Tables, CHOICE, EMPTY, INTERSECTION, PRODUCT, PROJECT, RELATION, SELECT, UNION,
@@ -196,7 +198,7 @@ impl<'a> Builder<'a> {
         // About half of the entries are kept for project lists.
         let for_relations = self.size.entries / 2;
         for _ in 0..count {
-            let share = (for_relations - self.entries.min(for_relations)).min(self.size.attributes);
+            let share = for_relations - self.entries.min(for_relations);
             let most = match self.size.full {
                 true => (for_relations / count).min(share),
                 false => share,
@@ -212,6 +214,8 @@ impl<'a> Builder<'a> {
         }
         let mut attributes: Vec<u16> = (0..self.size.attributes as u16).collect();
         self.random.shuffle(&mut attributes);
+        let repeats = self.repeats(most.saturating_sub(1));
+        let most = (most - repeats).min(attributes.len());
         let length = self.random.between(most.min(2), most);
         let mut list = Vec::new();
         for &attribute in &attributes[..length] {
@@ -221,6 +225,9 @@ impl<'a> Builder<'a> {
             };
             list.push((attribute, condition));
         }
+        self.repeat(&mut list, repeats, |builder, entry| {
+            builder.reason_with(expression, entry)
+        });
         self.entries += list.len();
         let sets = self.joined(&list);
         self.relations.push(Relation {
@@ -235,8 +242,7 @@ impl<'a> Builder<'a> {
     fn satisfied_with(&mut self, other: u16) -> u16 {
         for _ in 0..12 {
             let expression = self.some_expression();
-            let together = |&c: &usize| self.holds(expression, c) && self.holds(other, c);
-            if self.permitted.iter().any(together) {
+            if self.together(expression, other) {
                 return expression;
             }
         }
@@ -523,12 +529,7 @@ impl<'a> Builder<'a> {
         if self.random.chance(1, 3) {
             candidates.reverse();
         }
-        let sets = &self.nodes[of].sets;
-        let fits = |&e: &u16| {
-            let kept = |&c: &usize| !self.holds(e, c) || sets[c] >> attribute & 1 == 1;
-            reach.iter().all(kept)
-        };
-        candidates.retain(fits);
+        candidates.retain(|&e| self.fits(reach, of, (attribute, e)));
         let somewhere = |&&e: &&u16| reach.iter().any(|&c| self.holds(e, c));
         let live = candidates.iter().find(somewhere).copied();
         match live {
@@ -559,6 +560,10 @@ impl<'a> Builder<'a> {
                 }
             }
         }
+        let repeats = self.repeats(most - list.len());
+        self.repeat(&mut list, repeats, |builder, entry| {
+            builder.reason_over(reach, of, entry)
+        });
         list
     }
 
@@ -665,7 +670,7 @@ impl<'a> Builder<'a> {
         self.pair(PRODUCT, left, right, sets)
     }
 
-    /// Union or intersection of two queries projected to the same list.
+    /// Union or intersection of two queries projected to the same columns.
     fn same_columns(&mut self, reach: &[usize], budget: usize) -> usize {
         let (first, second) = self.share(budget - 3);
         let left = self.query(reach, first);
@@ -675,14 +680,12 @@ impl<'a> Builder<'a> {
             return self.union_of(left, right);
         }
         let mut list = self.fitting_list(reach, left, u64::MAX);
-        list.retain(|&(attribute, expression)| {
-            let sets = &self.nodes[right].sets;
-            let kept = |&c: &usize| !self.holds(expression, c) || sets[c] >> attribute & 1 == 1;
-            reach.iter().all(kept)
-        });
+        list.retain(|&entry| self.fits(reach, right, entry));
         list.truncate((self.size.entries - self.entries) / 2);
         let left = self.project_to(list.clone(), left);
         self.random.shuffle(&mut list);
+        let room = self.size.entries - self.entries - list.len();
+        self.same_set(&mut list, room);
         let right = self.project_to(list, right);
         self.union_of(left, right)
     }
@@ -758,11 +761,9 @@ impl<'a> Builder<'a> {
         }
         let mut nowhere = self.empty();
         while self.entries < self.size.entries {
-            let mut attributes: Vec<u16> = (0..self.size.attributes as u16).collect();
-            self.random.shuffle(&mut attributes);
-            attributes.truncate(self.size.entries - self.entries);
-            let list = attributes.iter().map(|&a| (a, self.some_expression()));
-            let list = list.collect();
+            let room = self.size.entries - self.entries;
+            let length = self.random.pick(&[64, 64, 200]);
+            let list = self.unreached_list(room.min(length));
             nowhere = self.project_to(list, nowhere);
         }
         root = self.choice_of(self.model, root, nowhere);

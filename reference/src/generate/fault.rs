@@ -262,6 +262,9 @@ fn append_list(random: &mut Random, tables: &mut Tables) -> Option<u16> {
     let mut all: Vec<u16> = (0..attributes as u16).collect();
     random.shuffle(&mut all);
     all.truncate(random.below(attributes.min(3) + 1));
+    if !all.is_empty() && random.chance(1, 4) {
+        all.push(random.pick(&all));
+    }
     for &attribute in &all {
         let expression = any(random, tables, 0)? as u16;
         append(tables, 1, &[attribute, expression])?;
@@ -289,29 +292,69 @@ fn project_list(tables: &Tables, form: usize) -> std::ops::Range<usize> {
     start..start + length(form)
 }
 
-/// Makes the last entry of a list name the attribute of an earlier one.
-fn repeat_attribute(
-    random: &mut Random,
-    tables: &mut Tables,
-    list: std::ops::Range<usize>,
-) -> Option<()> {
-    if list.len() < 2 || list.end > tables.count(1) {
+/// Puts an entry into table 1, which the list that has the place then has too.
+fn insert_entry(tables: &mut Tables, place: usize, list: List, entry: [u16; 2]) -> Option<()> {
+    if tables.count(1) >= RANGES[1].1 || place > tables.count(1) {
         return None;
     }
-    let later = random.between(list.start + 1, list.end - 1);
-    let earlier = random.between(list.start, later - 1);
-    let attribute = tables.entry(earlier)[0];
-    put(tables, 1, later, 0, attribute)
+    tables.entries.splice(2 * place..2 * place, entry);
+    let (table, form) = match list {
+        List::Relation(relation) => (2, relation),
+        List::Project(form) => (4, form),
+    };
+    let length = tables.words(table)[form * WIDTHS[table] + 1].checked_add(1)?;
+    put(tables, table, form, 1, length)
 }
 
-/// Makes the last entry of a list name the attribute of the first, with others
-/// between them.
-fn repeat_at_distance(tables: &mut Tables, list: std::ops::Range<usize>) -> Option<()> {
-    if list.len() < 3 || list.end > tables.count(1) {
+/// A list, by the relation or the project form whose it is.
+#[derive(Clone, Copy)]
+enum List {
+    Relation(usize),
+    Project(usize),
+}
+
+/// Lists some entry of a list once more, behind it: the list's set stays as it
+/// is. Gives the numbers of both, of which the second is the repeat.
+fn list_again(random: &mut Random, tables: &mut Tables, list: List) -> Option<[usize; 2]> {
+    let range = match list {
+        List::Relation(relation) => relation_list(tables, relation),
+        List::Project(form) => project_list(tables, form),
+    };
+    if range.is_empty() || range.end > tables.count(1) {
         return None;
     }
-    let attribute = tables.entry(list.start)[0];
-    put(tables, 1, list.end - 1, 0, attribute)
+    let first = random.between(range.start, range.end - 1);
+    let again = random.between(first + 1, range.end);
+    let entry = tables.entry(first);
+    insert_entry(tables, again, list, entry)?;
+    Some([first, again])
+}
+
+/// The same with a relation's list.
+fn relation_again(random: &mut Random, tables: &mut Tables) -> Option<(usize, [usize; 2])> {
+    let relation = any(random, tables, 2)?;
+    let both = list_again(random, tables, List::Relation(relation))?;
+    Some((relation, both))
+}
+
+/// The same with the list of a project form, or with one put over the report.
+fn project_again(random: &mut Random, tables: &mut Tables) -> Option<[usize; 2]> {
+    let form = form_of(random, tables, 4, &[tables::PROJECT])?;
+    list_again(random, tables, List::Project(form))
+}
+
+/// An attribute is listed again, in a relation or a project, and both of its
+/// reasons are turned.
+fn turn_reasons(random: &mut Random, tables: &mut Tables) -> Option<()> {
+    let both = match random.chance(1, 2) {
+        true => relation_again(random, tables)?.1,
+        false => project_again(random, tables)?,
+    };
+    for entry in both {
+        let expression = any(random, tables, 0)? as u16;
+        put(tables, 1, entry, 1, expression)?;
+    }
+    Some(())
 }
 
 /// Sets an operand word to the form's own number, or to a higher one.
@@ -661,15 +704,13 @@ pub static LIMITS: &[Limit] = &[
         let value = r.pick(&[513, 32768, 65535]);
         put(t, 2, relation, 1, value)
     }),
-    limit(6, "attribute twice", |r, t| {
+    limit(6, "one attribute over and over, past table 1", |r, t| {
         let relation = any(r, t, 2)?;
-        let list = relation_list(t, relation);
-        repeat_attribute(r, t, list)
-    }),
-    limit(6, "attribute twice at a distance", |r, t| {
-        let relation = any(r, t, 2)?;
-        let list = relation_list(t, relation);
-        repeat_at_distance(t, list)
+        let start = relation_list(t, relation).start;
+        let attribute = any_attribute(r, t)?;
+        let end = t.count(1);
+        (start..end).try_for_each(|entry| put(t, 1, entry, 0, attribute))?;
+        put(t, 2, relation, 1, (end.checked_sub(start)? + 1) as u16)
     }),
     limit(7, "unknown kind", |r, t| {
         let form = form_of(r, t, 3, &[0, 1, 2, 3, 4, 5, 6, 7])?;
@@ -798,24 +839,14 @@ pub static LIMITS: &[Limit] = &[
         let value = r.pick(&[513, 32768, 65535]);
         put(t, 4, form, 1, value)
     }),
-    limit(8, "attribute twice", |r, t| {
-        let form = form_of(r, t, 4, &[3])?;
-        let list = project_list(t, form);
-        repeat_attribute(r, t, list)
-    }),
-    limit(8, "attribute twice at a distance", |r, t| {
-        let form = form_of(r, t, 4, &[3])?;
-        let list = project_list(t, form);
-        repeat_at_distance(t, list)
-    }),
-    limit(8, "attribute twice, with a report of its own", |r, t| {
+    limit(8, "one attribute over and over, past table 1", |r, t| {
         let report = (t.count(4) - 1) as u16;
-        let twice = any_attribute(r, t)?;
-        let between = any_attribute(r, t)?;
-        for attribute in [twice, between, twice] {
+        let attribute = any_attribute(r, t)?;
+        let times = r.between(1, 3) as u16;
+        for _ in 0..times {
             append(t, 1, &[attribute, 0])?;
         }
-        append(t, 4, &[3, 3, report, 0]).map(|_| ())
+        append(t, 4, &[3, times + 1, report, 0]).map(|_| ())
     }),
     limit(8, "operand taken twice in one form", |r, t| {
         let form = form_of(r, t, 4, &[4, 5, 6, 7])?;
@@ -862,6 +893,10 @@ pub static LIMITS: &[Limit] = &[
             append(t, 1, &[attribute, 0])?;
         }
         Some(())
+    }),
+    limit(10, "one entry more, as the last one", |_, t| {
+        let last = t.entry(t.count(1).checked_sub(1)?);
+        append(t, 1, &last).map(|_| ())
     }),
     limit(10, "a project's list shorter by one", |r, t| {
         let form = form_of(r, t, 4, &[3])?;
@@ -947,6 +982,41 @@ pub static LIMITS: &[Limit] = &[
         let expression = nowhere(r, t)?;
         put_in_list(r, t, relation, expression)
     }),
+    limit(14, "an attribute's second entry holds nowhere", |r, t| {
+        let (_, [_, again]) = relation_again(r, t)?;
+        let expression = nowhere(r, t)?;
+        put(t, 1, again, 1, expression)
+    }),
+    limit(
+        14,
+        "an attribute's first entry holds nowhere, its second somewhere",
+        |r, t| {
+            let (_, [first, _]) = relation_again(r, t)?;
+            let expression = nowhere(r, t)?;
+            put(t, 1, first, 1, expression)
+        },
+    ),
+    limit(
+        14,
+        "an attribute's second entry holds only where its relation is absent",
+        |r, t| {
+            let relation = partly_present(r, t)?;
+            let [_, again] = list_again(r, t, List::Relation(relation))?;
+            let presence = t.relation(relation)[0];
+            let not = append(t, 0, &[3, presence, 0])? as u16;
+            put(t, 1, again, 1, not)
+        },
+    ),
+    limit(
+        14,
+        "an attribute three times, the last holds nowhere",
+        |r, t| {
+            let (relation, _) = relation_again(r, t)?;
+            let [_, again] = list_again(r, t, List::Relation(relation))?;
+            let expression = nowhere(r, t)?;
+            put(t, 1, again, 1, expression)
+        },
+    ),
     limit(14, "a word turned", turn),
     limit(15, "a relation without its guard", |r, t| {
         let report = (t.count(4) - 1) as u16;
@@ -970,18 +1040,61 @@ pub static LIMITS: &[Limit] = &[
         let form = append_query(r, t, 2)?;
         put(t, 4, form, 1, comparison)
     }),
+    limit(16, "the reasons of an attribute turned", turn_reasons),
     limit(16, "a word turned", turn),
     limit(17, "a project over the report", |r, t| {
         append_query(r, t, 3).map(|_| ())
     }),
+    limit(17, "an attribute's second entry turned", |r, t| {
+        let [_, again] = project_again(r, t)?;
+        let expression = any(r, t, 0)? as u16;
+        put(t, 1, again, 1, expression)
+    }),
+    limit(
+        17,
+        "an attribute's first entry turned, with a second",
+        |r, t| {
+            let [first, _] = project_again(r, t)?;
+            let expression = any(r, t, 0)? as u16;
+            put(t, 1, first, 1, expression)
+        },
+    ),
+    limit(17, "an attribute three times, the last turned", |r, t| {
+        let form = form_of(r, t, 4, &[3])?;
+        list_again(r, t, List::Project(form))?;
+        let [_, again] = list_again(r, t, List::Project(form))?;
+        let expression = any(r, t, 0)? as u16;
+        put(t, 1, again, 1, expression)
+    }),
+    limit(17, "the reasons of an attribute turned", turn_reasons),
     limit(17, "a word turned", turn),
     limit(18, "a product over the report", |r, t| {
         append_query(r, t, 5).map(|_| ())
     }),
+    limit(
+        18,
+        "a product shares by an attribute's second entry",
+        |r, t| {
+            let report = (t.count(4) - 1) as u16;
+            let relation = any(r, t, 2)?;
+            let list = relation_list(t, relation);
+            if list.is_empty() || list.end > t.count(1) {
+                return None;
+            }
+            let entry = t.entry(r.between(list.start, list.end - 1));
+            let never = nowhere(r, t)?;
+            append(t, 1, &[entry[0], never])?;
+            append(t, 1, &entry)?;
+            let leaf = append(t, 4, &[1, relation as u16, 0, 0])? as u16;
+            let project = append(t, 4, &[3, 2, leaf, 0])? as u16;
+            append(t, 4, &[5, report, project, 0]).map(|_| ())
+        },
+    ),
     limit(18, "a word turned", turn),
     limit(19, "a union or intersection over the report", |r, t| {
         let kind = r.pick(&[6, 7]);
         append_query(r, t, kind).map(|_| ())
     }),
+    limit(19, "the reasons of an attribute turned", turn_reasons),
     limit(19, "a word turned", turn),
 ];

@@ -5,12 +5,14 @@ mod build;
 mod damage;
 mod fault;
 mod mutate;
+mod repeat;
 mod wanted;
 
 pub use build::Size;
 pub use damage::{damage, lengthened};
 pub use fault::{is_crossed, lengths_are_sound, more_comparisons, outcome, Limit, LIMITS};
 pub use mutate::mutate;
+pub use repeat::{delay, has_repeat, most_often, without_repeats, Kept};
 pub use wanted::{wanted, wanted_by, Aim, Answer, AIMS};
 
 use crate::random::Random;
@@ -29,6 +31,8 @@ pub enum Family {
     Full,
     /// Small tables, accepted or with a fault.
     Small,
+    /// One attribute over and over, up to 512 entries; accepted or with a fault.
+    Repeats,
 }
 
 /// The family of a name.
@@ -39,6 +43,7 @@ pub fn family_of(name: &str) -> Option<Family> {
         "several" => Some(Family::Several),
         "full" => Some(Family::Full),
         "small" => Some(Family::Small),
+        "repeats" => Some(Family::Repeats),
         _ => None,
     }
 }
@@ -46,10 +51,11 @@ pub fn family_of(name: &str) -> Option<Family> {
 /// A case of a family chosen by the seed.
 pub fn case(seed: u64) -> Tables {
     let family = match Random::new(!seed).below(100) {
-        0..=56 => Family::Accepted,
-        57..=82 => Family::Fault,
-        83..=88 => Family::Several,
-        89..=91 => Family::Full,
+        0..=55 => Family::Accepted,
+        56..=81 => Family::Fault,
+        82..=87 => Family::Several,
+        88..=90 => Family::Full,
+        91..=92 => Family::Repeats,
         _ => Family::Small,
     };
     of_family(family, seed)
@@ -63,6 +69,7 @@ pub fn of_family(family: Family, seed: u64) -> Tables {
         Family::Several => several(seed),
         Family::Full => full(seed),
         Family::Small => small(seed),
+        Family::Repeats => repeats(seed),
     }
 }
 
@@ -115,6 +122,28 @@ pub fn full(seed: u64) -> Tables {
         }
         1 => fault::several_of_typing(&mut random, &sound),
         _ => sound,
+    }
+}
+
+/// Tables that list one attribute over and over, accepted or with a fault. There
+/// is room left for the repeat of a fault.
+pub fn repeats(seed: u64) -> Tables {
+    let mut random = Random::new(seed);
+    let size = match random.below(3) {
+        0 => size_of_one_attribute(&mut random),
+        1 => small_size(&mut random, 2),
+        _ => any_size(&mut random),
+    };
+    let mut tables = build::accepted(&mut random, size);
+    let sound = random.chance(2, 3);
+    let most = if sound { 512 } else { 510 };
+    repeat::fill_up(&mut random, &mut tables, most);
+    match sound {
+        true => tables,
+        false => {
+            let number = random.pick(&[14, 16, 17, 17, 18, 19]);
+            fault::aimed(&mut random, &tables, number)
+        }
     }
 }
 
@@ -195,6 +224,20 @@ fn small_size(random: &mut Random, room: usize) -> Size {
         relations: 3 - room.min(random.below(2)),
         comparisons: 4 - room,
         queries: 7 - room - room.min(random.below(3)),
+        full: false,
+    }
+}
+
+/// A size with one attribute, so that all entries are of it.
+fn size_of_one_attribute(random: &mut Random) -> Size {
+    Size {
+        features: random.between(1, 10),
+        attributes: 1,
+        expressions: random.between(12, 40),
+        entries: 8,
+        relations: 1,
+        comparisons: 1,
+        queries: random.between(1, 4),
         full: false,
     }
 }

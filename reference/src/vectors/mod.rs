@@ -5,6 +5,7 @@
 //! stored to them. They are the same on every machine.
 
 mod berths;
+mod repeats;
 mod reports;
 mod texts;
 
@@ -34,10 +35,11 @@ impl Vector {
     }
 }
 
-/// All cases, their names numbered: worked examples, texts that are read or
-/// unread, generated reports, and the given examples.
+/// All cases, their names numbered: worked examples, repeats, texts that are
+/// read or unread, generated reports, and the given examples.
 pub fn all(examples: &[Vector]) -> Vec<Vector> {
     let mut cases = berths::cases();
+    cases.extend(repeats::cases());
     cases.extend(texts::cases());
     cases.extend(reports::cases());
     cases.extend(examples.iter().cloned());

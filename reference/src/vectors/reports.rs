@@ -3,8 +3,8 @@
 
 use super::{Vector, SEED};
 use crate::expression;
-use crate::file::{print_file, write_file};
-use crate::generate::{self, Family, LIMITS};
+use crate::file::{print_file, print_tables, write_file};
+use crate::generate::{self, Family, Kept, LIMITS};
 use crate::random::Random;
 use crate::tables::{self, Tables, CHOICE, COMPARISON_CHOICE, SELECT};
 use crate::typing;
@@ -23,8 +23,9 @@ const MUCH: [usize; 2] = [30_000, 120_000];
 /// So many seeds are tried for a case, and no more.
 const SEEDS: u64 = 20_000;
 
-/// Cases of each property, of each refusal at larger size, of several faults,
-/// of full size, and of no property in particular.
+/// Cases of each property, of each refusal at larger size, of several faults (and
+/// of one attribute over and over), of full size, and of no property in
+/// particular.
 const EACH: usize = 3;
 const SEVERAL: usize = 12;
 const FULL: usize = 3;
@@ -50,6 +51,10 @@ pub fn cases() -> Vec<Vector> {
     let crossed = (SEED..SEED + SEEDS).map(|seed| generate::of_family(Family::Several, seed));
     let crossed = crossed.filter(generate::is_crossed);
     cases.extend(named("lowest-form-fails-later", SEVERAL, LITTLE, crossed));
+    let over = (SEED..SEED + SEEDS).map(|seed| generate::of_family(Family::Repeats, seed));
+    let over = over.filter(|t| generate::most_often(t) > 400);
+    let size = [MUCH[0], LITTLE[1]];
+    cases.extend(named("one-attribute-over-and-over", SEVERAL, size, over));
     let full = || (SEED..SEED + SEEDS).map(|seed| generate::of_family(Family::Full, seed));
     let accepted = full().filter(|t| generate::outcome(t) == 0);
     cases.extend(named("full-size-accepted", FULL, MUCH, accepted));
@@ -156,11 +161,23 @@ const PROPERTIES: &[Property] = &[
         printed(t, "(has))") && varies(t)
     }),
     ("with-a-relation-absent-somewhere", LITTLE, absent_somewhere),
+    ("with-an-attribute-three-times", LITTLE, |t| {
+        generate::most_often(t) > 2
+    }),
+    ("with-a-column-for-two-reasons", LITTLE, |t| {
+        not_by_one_entry(t, Kept::First) && not_by_one_entry(t, Kept::Last)
+    }),
     ("with-some-configurations-not-permitted", LITTLE, |t| {
         let permitted = expression::permitted(t).len() as u64;
         permitted > 2 && permitted < t.configurations() && varies(t)
     }),
 ];
+
+/// Is another thing printed when of each attribute one entry counts?
+fn not_by_one_entry(tables: &Tables, kept: Kept) -> bool {
+    let fewer = generate::without_repeats(tables, kept);
+    print_tables(&fewer) != print_tables(tables)
+}
 
 /// The forms of a table.
 fn forms(tables: &Tables, table: usize) -> impl Iterator<Item = &[u16]> {

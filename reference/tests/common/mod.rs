@@ -4,7 +4,7 @@
 use reference::check::ROWS;
 use reference::file::read_file;
 use reference::small::H1;
-use reference::{check, configure, Refusal, Tables};
+use reference::{check, configure, expression, form, plain, tables, Refusal, Tables};
 
 /// A word that no answer holds by chance.
 pub const LENT_ROW: u64 = 0xA5A5_5A5A_0FF0_1234;
@@ -61,4 +61,37 @@ pub fn source_room(tables: &Tables) -> [usize; 4] {
 
 pub fn refused(number: u64, place: u64, item: u64, configuration: u64) -> Refusal {
     Refusal::new(number, place, item, configuration)
+}
+
+/// The entries of a list: each one's attribute, and whether it holds.
+pub type Listed = Vec<(u16, bool)>;
+
+/// The lists that configuring at `c` has to do with: of the relations present,
+/// then of the project forms reached.
+pub fn lists_at(tables: &Tables, c: u64) -> Vec<Listed> {
+    let lists = form::check(tables).expect("sound in form");
+    let holds = expression::values(tables, c);
+    let present = |number: &usize| holds[usize::from(tables.relation(*number)[0])];
+    let relations = (0..tables.count(2)).filter(present);
+    let relations = relations.map(|number| lists.relations[number].clone());
+    let is_project = |form: &usize| tables.query(*form)[0] == tables::PROJECT;
+    let projects = plain::reached(tables, c).into_iter().filter(is_project);
+    let projects = projects.map(|form| lists.queries[form].clone());
+    let entry = |number: usize| {
+        let [attribute, expression] = tables.entry(number);
+        (attribute, holds[usize::from(expression)])
+    };
+    let all = relations.chain(projects);
+    all.map(|list| list.map(entry).collect()).collect()
+}
+
+/// "Configuring keeps each attribute's first entry that holds."
+pub fn first_that_hold(list: &Listed) -> Vec<u16> {
+    let mut kept = Vec::new();
+    for &(attribute, holds) in list {
+        if holds && !kept.contains(&attribute) {
+            kept.push(attribute);
+        }
+    }
+    kept
 }

@@ -6,7 +6,7 @@ use Rattle.sets.specs.Bits.{difference}
 use Rattle.report.specs.Tables.{relationsEnd}
 use Rattle.at_configuration.proofs.ListLaws.{form-lower}
 use Rattle.faults_at.proofs.ReadLaws.{both-in, both-are}
-use Rattle.faults_at.proofs.SetLaws.{pair-lower, project-list, project-listed}
+use Rattle.faults_at.proofs.SetLaws.{pair-lower, project-list, project-joined}
 use Rattle.faults_at.proofs.FaultLaws.{form-present, form-relation}
 use Rattle.faults_at.proofs.faults_of.Statement.{statement}
 use Rattle.faults_at.proofs.faults_of.Tie as tie
@@ -32,8 +32,8 @@ set-in-requires-2 c κs =
     let m = R .below .room in
     omega arith
 
-listed-at-requires : tie.Need-listed-at-requires
-listed-at-requires c κs =
+joined-at-requires : tie.Need-joined-at-requires
+joined-at-requires c κs =
     let start = c .before .before .before .before .before .before .before .before in
     let p = start .pre in
     record { tables = p .tables; offset = relationsEnd (p .tables); reads = project-list (p .reads .at) (c .before .x3 .given .1) }
@@ -88,7 +88,7 @@ returns-5 c = λ T q R.
     let e = l .before .before .x3 .given .1 in
     rw e
     (c .minus2 .ensures
-    ∙ ap₂ difference (project-listed (R .at) e (l .listed-at .ensures T (relationsEnd T) (project-list (R .at) e)))
+    ∙ ap₂ difference (project-joined (R .at) e (l .joined-at .ensures T (relationsEnd T) (project-list (R .at) e)))
     (c .before .set-in3 .ensures ∙ R .below .each _ ((rw e at (form-lower (R .at))) .1 .lower)))
 
 returns-7 : tie.Need-returns-7
@@ -121,7 +121,7 @@ faults-of-spec =
     set-in-requires-2
     (λ c κs. search needs)
     (λ c. search needs)
-    listed-at-requires
+    joined-at-requires
     set-in-requires-3
     (λ c κs. search needs)
     (λ c. search needs)

@@ -1,7 +1,7 @@
 use borrow.Author.Needs.{needs}
 use Rattle.report.specs.Typing.{relationSet}
 use Rattle.at_configuration.proofs.ListLaws.{reads-present}
-use Rattle.faults_at.proofs.ListLaws.{if-present, asked-present, asked-list, relation-listed}
+use Rattle.faults_at.proofs.ListLaws.{if-present, asked-present, asked-list, relation-joined}
 use Rattle.faults_at.proofs.relation_set.Statement.{statement}
 use Rattle.faults_at.proofs.relation_set.Tie as tie
 
@@ -15,8 +15,8 @@ is-present-requires c κs = asked-present (c .before .before .before .pre)
 relation-length-requires : tie.Need-relation-length-requires
 relation-length-requires c κs = start (c .before) .pre .inside
 
-listed-at-requires : tie.Need-listed-at-requires
-listed-at-requires c κs =
+joined-at-requires : tie.Need-joined-at-requires
+joined-at-requires c κs =
     let p = start (c .before .before) .pre in
     record { tables = p .tables; offset = 0; reads = asked-list p (p .reads) (c .relation-length .ensures .same) }
 
@@ -27,7 +27,7 @@ returns c = λ T R.
     let e = l .relation-length .ensures .same in
     let s = start h in
     if-present (reads-present R) (s .args .r) (h .is-present .ensures) (l .before .if1 .taken) (relationSet T (s .args .c) (s .args .r)) 0
-    (relation-listed (s .pre) R e (c .listed-at .ensures T 0 (asked-list (s .pre) R e)))
+    (relation-joined (s .pre) R e (c .joined-at .ensures T 0 (asked-list (s .pre) R e)))
 
 returns-2 : tie.Need-returns-2
 returns-2 c = λ T R.
@@ -41,7 +41,7 @@ relation-set-spec =
     (tie.spec
     is-present-requires
     relation-length-requires
-    listed-at-requires
+    joined-at-requires
     returns
     (λ c κs. search needs)
     returns-2)

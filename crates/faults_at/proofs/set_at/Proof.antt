@@ -6,7 +6,7 @@ use Rattle.report.specs.Tables.{relationsEnd}
 use Rattle.at_configuration.proofs.HoldLaws.{rowed}
 use Rattle.at_configuration.proofs.ListLaws.{form-lower}
 use Rattle.faults_at.proofs.ReadLaws.{both-in, both-are, either-in, either-is}
-use Rattle.faults_at.proofs.SetLaws.{pair-lower, project-list, project-listed}
+use Rattle.faults_at.proofs.SetLaws.{pair-lower, project-list, project-joined}
 use Rattle.faults_at.proofs.set_at.Statement.{statement}
 use Rattle.faults_at.proofs.set_at.Tie as tie
 
@@ -26,8 +26,8 @@ set-in-requires-2 c κs =
     let m = A .below .room in
     omega arith
 
-listed-at-requires : tie.Need-listed-at-requires
-listed-at-requires c κs =
+joined-at-requires : tie.Need-joined-at-requires
+joined-at-requires c κs =
     let start = c .before .before .before .before .before .before .before in
     let p = start .pre in
     record { tables = p .tables; offset = relationsEnd (p .tables); reads = project-list (p .at .at) (c .before .x3 .given .1) }
@@ -88,7 +88,7 @@ returns-5 c = λ T q A.
     let e = l .before .before .x3 .given .1 in
     rw e
     (c .intersect .ensures
-    ∙ ap₂ bitAnd (project-listed (A .at) e (l .listed-at .ensures T (relationsEnd T) (project-list (A .at) e)))
+    ∙ ap₂ bitAnd (project-joined (A .at) e (l .joined-at .ensures T (relationsEnd T) (project-list (A .at) e)))
     (c .before .set-in3 .ensures ∙ A .below .each _ ((rw e at (form-lower (A .at))) .1 .lower)))
 
 returns-6 : tie.Need-returns-6
@@ -126,7 +126,7 @@ set-at-spec =
     (λ c. search needs)
     set-in-requires-2
     (λ c. search needs)
-    listed-at-requires
+    joined-at-requires
     set-in-requires-3
     (λ c κs. search needs)
     (λ c. search needs)

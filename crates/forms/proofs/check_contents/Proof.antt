@@ -1,6 +1,5 @@
 use borrow.Author.Needs.{needs}
-use mathlib.Core.Path.{sym, _∙_}
-use Rattle.forms.proofs.Chain.{stops, goes-on, lists-ready}
+use Rattle.forms.proofs.Chain.{stops, goes-on}
 use Rattle.forms.proofs.check_contents.Statement.{statement}
 use Rattle.forms.proofs.check_contents.Tie as tie
 
@@ -23,10 +22,7 @@ returns-3 c =
     (stops _ (c .before .before .check-entries .ensures) (c .enum-told5 .given .1)))
 
 check-lists-requires : tie.Need-check-lists-requires
-check-lists-requires c κs =
-    let w = c .before .before .before in
-    let s = start w in
-    lists-ready _ _ _ _ _ (sym (c .before .before .check-entries .ensures) ∙ c .enum-told6 .given .1) (s .pre)
+check-lists-requires c κs = start (c .before .before .before) .pre
 
 returns-4 : tie.Need-returns-4
 returns-4 c =

@@ -2,7 +2,7 @@ use borrow.Author.Needs.{needs}
 use mathlib.Core.Path.{sym, _∙_}
 use Rattle.report.specs.Tables.{tablesOf}
 use Rattle.report.specs.FormChecks.{formCheck}
-use Rattle.forms.proofs.Chain.{stops, goes-on, contents-ready}
+use Rattle.forms.proofs.Chain.{stops, goes-on, lists-ready}
 use Rattle.forms.proofs.check_forms.Statement.{statement}
 use Rattle.forms.proofs.check_forms.Tie as tie
 
@@ -25,9 +25,9 @@ check-contents-requires : tie.Need-check-contents-requires
 check-contents-requires c κs =
     let d = c .before .before .before in
     let a = start d .args in
-    contents-ready (tablesOf (a .n) (a .m) (a .model) (a .expressions .now) (a .entries .now) (a .relations .now) (a .comparisons .now)
+    lists-ready (tablesOf (a .n) (a .m) (a .model) (a .expressions .now) (a .entries .now) (a .relations .now) (a .comparisons .now)
     (a .queries .now))
-    (sym (d .before .before .check-head .ensures) ∙ d .enum-told2 .given .1) (sym (c .before .before .check-lengths .ensures) ∙ c .enum-told4 .given .1)
+    (sym (c .before .before .check-lengths .ensures) ∙ c .enum-told4 .given .1)
 
 returns-3 : tie.Need-returns-3
 unfolding formCheck

@@ -25,7 +25,7 @@ query-fits-requires c κs =
     let p = l .before .before .before .pre in
     let i = l .loop .inv in
     let z = i .size in
-    record { begun = record { narrow = p .narrow; starts = i .inside }; room = (let f = p .fits in omega arith) }
+    record { starts = i .inside; room = (let f = p .fits in omega arith) }
 
 returns : tie.Need-returns Inv-loop μ-loop
 returns c =

@@ -15,9 +15,7 @@ abbrev μ-loop : tie.MeasureT-loop
 μ-loop e entries relations count start₀ r₀ start r = length relations / 2 - r
 
 list-fits-requires : tie.Need-list-fits-requires Inv-loop μ-loop
-list-fits-requires c κs =
-    let l = c .before .before .before in
-    record { narrow = l .before .before .before .pre; starts = l .loop .inv .inside }
+list-fits-requires c κs = c .before .before .before .loop .inv .inside
 
 returns : tie.Need-returns Inv-loop μ-loop
 unfolding relationsCheck

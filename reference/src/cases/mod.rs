@@ -1,0 +1,114 @@
+//! The hand-aimed cases of the folder `cases`, but for `limits.txt`. The answer
+//! of each was worked out by hand, as its note says, before the reference was
+//! asked.
+//!
+//! `bin/hand_cases.rs` writes them, and `tests/cases.rs` holds what is stored,
+//! and the answers worked out, to the reference.
+
+mod find;
+mod repeats;
+
+use crate::file;
+use crate::small::{self, Case, H1};
+use crate::tables::Tables;
+
+/// A file of cases, and one of their notes.
+pub struct File {
+    pub name: &'static str,
+    /// The number of the first case: a number names one case, whichever file it
+    /// is in, and those of `limits.txt` are lower.
+    first: u64,
+    /// All cases, in the order of their numbers.
+    pub cases: fn() -> Vec<Aimed>,
+}
+
+/// All files.
+pub const FILES: [File; 2] = [
+    File {
+        name: "find",
+        first: 1001,
+        cases: find::cases,
+    },
+    File {
+        name: "repeats",
+        first: 2001,
+        cases: repeats::cases,
+    },
+];
+
+/// A call, with what it is for and its answer.
+pub struct Aimed {
+    pub note: &'static str,
+    /// The answer worked out by hand, as a `gives` line has it.
+    pub answer: &'static str,
+    pub case: Case,
+}
+
+impl File {
+    /// The lines of the cases.
+    pub fn lines(&self) -> String {
+        let cases = (self.first..).zip((self.cases)());
+        cases
+            .map(|(number, aimed)| small::lines(number, &aimed.case))
+            .collect()
+    }
+
+    /// The lines of the notes: one for each case.
+    pub fn notes(&self) -> String {
+        let cases = (self.first..).zip((self.cases)());
+        cases
+            .map(|(number, aimed)| format!("{number}: {}: {}\n", aimed.note, aimed.answer))
+            .collect()
+    }
+}
+
+fn aimed(note: &'static str, answer: &'static str, case: Case) -> Aimed {
+    Aimed { note, answer, case }
+}
+
+// Steps
+
+/// The set of the given attributes.
+fn set(attributes: &[u64]) -> u64 {
+    attributes.iter().fold(0, |all, a| all | 1 << a)
+}
+
+fn h1() -> Tables {
+    file::read_file(H1.as_bytes()).expect("H1 is sound")
+}
+
+/// H1 after a change.
+fn h1_with(change: fn(&mut Tables)) -> Tables {
+    let mut tables = h1();
+    change(&mut tables);
+    tables
+}
+
+/// One relation, always there, is the report. Expression 0 is true, 1 + i is
+/// feature i, and more follow. Entries are attribute, expression.
+fn harbour(features: u16, attributes: u64, more: &[[u16; 3]], entries: &[[u16; 2]]) -> Tables {
+    let mut expressions = vec![[1, 0, 0]];
+    expressions.extend((0..features).map(|feature| [2, feature, 0]));
+    expressions.extend(more);
+    Tables {
+        features: u64::from(features),
+        attributes,
+        model: 0,
+        expressions: expressions.concat(),
+        entries: entries.concat(),
+        relations: vec![0, entries.len() as u16],
+        queries: vec![1, 0, 0, 0],
+        ..Tables::default()
+    }
+}
+
+/// A harbour under another model.
+fn under(model: u64, tables: Tables) -> Tables {
+    Tables { model, ..tables }
+}
+
+/// A harbour with other queries.
+fn asking(queries: &[[u16; 4]], tables: Tables) -> Tables {
+    let queries = queries.concat();
+    Tables { queries, ..tables }
+}
