@@ -1,14 +1,14 @@
-/* The column checker, configuring, and finding a configuration, for C (C99 or
-   later) and C++. Link target/staticlib/libgelvomas.a, which `rt staticlib
-   gelvomas` writes (x86-64 Linux).
+/* The column checker, configuring, finding a configuration, and the wall page, for
+   C (C99 or later) and C++. Link target/staticlib/libgelvomas.a, which `rt
+   staticlib gelvomas` writes (x86-64 Linux).
 
-   gelvomas_check, gelvomas_configure and gelvomas_find are proved: they read and
-   write only what is said here, allocate nothing, keep nothing, end on any input,
-   and may be called from several threads at once. gelvomas_check and gelvomas_find
-   take at most 400 KiB of stack and gelvomas_configure at most 450 KiB, which is
-   measured and not proved. gelvomas_check_tables, gelvomas_configure_tables and
-   gelvomas_find_tables, at the end, call them with the tables in a struct; they
-   are short, and not proved. */
+   gelvomas_check, gelvomas_configure, gelvomas_find and gelvomas_page are proved:
+   they read and write only what is said here, allocate nothing, keep nothing, end
+   on any input, and may be called from several threads at once. gelvomas_configure
+   takes at most 450 KiB of stack and the others at most 400 KiB, which is measured
+   and not proved. gelvomas_check_tables, gelvomas_configure_tables,
+   gelvomas_find_tables and gelvomas_page_tables, at the end, call them with the
+   tables in a struct; they are short, and not proved. */
 
 #ifndef GELVOMAS_H
 #define GELVOMAS_H
@@ -21,9 +21,9 @@ extern "C" {
 #endif
 
 #define GELVOMAS_VERSION_MAJOR 1
-#define GELVOMAS_VERSION_MINOR 2
+#define GELVOMAS_VERSION_MINOR 3
 #define GELVOMAS_VERSION_PATCH 0
-#define GELVOMAS_VERSION "1.2.0"
+#define GELVOMAS_VERSION "1.3.0"
 
 /* The most there may be of each. There is at least one expression and one query;
    of the others there may be none. */
@@ -45,6 +45,11 @@ extern "C" {
 /* The words of the column rows, 64 rows of 16 words, and of one row. */
 #define GELVOMAS_ROWS 1024
 #define GELVOMAS_ROW_WORDS 16
+
+/* The bytes of one line of a page, with its line feed, and of the longest page,
+   1,024 lines. */
+#define GELVOMAS_PAGE_LINE 73
+#define GELVOMAS_MAX_PAGE 74752
 
 /* The set of attribute a alone, a below 64. Sets are joined by |. */
 #define GELVOMAS_ATTRIBUTE(a) ((uint64_t)1 << (a))
@@ -146,10 +151,13 @@ enum gelvomas_refusal_number {
        (table, 1 to 4) */
     GELVOMAS_REFUSED_ROOM = 21,
     /* a wanted attribute is not below `attributes`; gelvomas_find alone (0) */
-    GELVOMAS_REFUSED_WANTED = 22
+    GELVOMAS_REFUSED_WANTED = 22,
+    /* `page` has fewer than 73 bytes for each permitted configuration; gelvomas_page
+       alone (0) */
+    GELVOMAS_REFUSED_PAGE = 23
 };
 
-/* The three functions that are proved. A table is a pointer to its words and then
+/* The four functions that are proved. A table is a pointer to its words and then
    the number of its words, which may be any number: a length or a word that the
    checker does not take is refused. A pointer is never NULL, also where the length
    is 0, and lies as its type asks. What a function writes to, at a pointer without
@@ -245,8 +253,40 @@ uint64_t gelvomas_find(
                                     configuration of the refusal. */
 );
 
-/* The same three with structs. Here the pointer of a table may be NULL where its
-   length is 0, so a struct that is set to 0 holds tables without words. */
+/* Writes the page of the report of these tables, to be pinned up: a line for each
+   permitted configuration, ascending. Returns 0 (written) or 1 (refused).
+
+   A line is 72 characters and a line feed: the configuration, right-aligned in 4; a
+   space; 64 marks, for attributes 0 to 63; a space; the number of columns, which is
+   that of the marks `o`, right-aligned in 2. A mark is `o` where the attribute is in
+   the report at the configuration, as in the column rows, and else `.`, so also at
+   and above `attributes`. The page is no C string: no 0 stands after it. */
+uint64_t gelvomas_page(
+    uint64_t features,           /* the report, as for gelvomas_check */
+    uint64_t attributes,
+    uint64_t model,
+    const uint16_t *expressions,
+    size_t expressions_length,
+    const uint16_t *entries,
+    size_t entries_length,
+    const uint16_t *relations,
+    size_t relations_length,
+    const uint16_t *comparisons,
+    size_t comparisons_length,
+    const uint16_t *queries,
+    size_t queries_length,
+    uint8_t *page,               /* written: the lines, from the first byte on. The bytes after
+                                    them are not changed. Refused: no byte is changed. */
+    size_t page_length,          /* the number of bytes there; fewer than GELVOMAS_PAGE_LINE for
+                                    each line are refused. GELVOMAS_PAGE_LINE * 2^features are
+                                    enough, and GELVOMAS_MAX_PAGE for any report. */
+    uint64_t answer[4]           /* all words are written. Written: the number of lines, 0, 0
+                                    and 0. Refused: number, place, item and configuration of
+                                    the refusal. */
+);
+
+/* The same four with structs. Here the pointer of a table, or of a page, may be NULL
+   where its length is 0, so a struct that is set to 0 holds tables without words. */
 
 /* A report: its head, and tables 0 to 4 with their numbers of words. */
 struct gelvomas_tables {
@@ -293,8 +333,8 @@ struct gelvomas_counts {
     uint64_t queries;
 };
 
-/* What the functions are given for a table without words, in the place of a
-   pointer that may be NULL. It is neither read nor written. */
+/* What the functions are given for a table without words, or a page without bytes,
+   in the place of a pointer that may be NULL. It is neither read nor written. */
 static inline const uint16_t *gelvomas_words(const uint16_t *table, size_t length)
 {
     static const uint16_t none = 0;
@@ -305,6 +345,12 @@ static inline uint16_t *gelvomas_lent_words(uint16_t *table, size_t length)
 {
     static uint16_t none = 0;
     return length == 0 ? &none : table;
+}
+
+static inline uint8_t *gelvomas_lent_bytes(uint8_t *page, size_t length)
+{
+    static uint8_t none = 0;
+    return length == 0 ? &none : page;
 }
 
 static inline void gelvomas_set_refusal(struct gelvomas_refusal *refusal, const uint64_t words[4])
@@ -398,6 +444,32 @@ static inline int gelvomas_find_tables(
     default:
         return 2;
     }
+}
+
+/* gelvomas_page. Returns 0 (written): `page`, and to `lines` the number of its lines,
+   are written, `refusal` is not. Or 1 (refused): `refusal` is written, the others are
+   not. */
+static inline int gelvomas_page_tables(
+    const struct gelvomas_tables *tables,
+    uint8_t *page,
+    size_t page_length,
+    uint64_t *lines,
+    struct gelvomas_refusal *refusal)
+{
+    uint64_t words[4] = {0, 0, 0, 0};
+    if (gelvomas_page(
+            tables->features, tables->attributes, tables->model,
+            gelvomas_words(tables->expressions, tables->expressions_length), tables->expressions_length,
+            gelvomas_words(tables->entries, tables->entries_length), tables->entries_length,
+            gelvomas_words(tables->relations, tables->relations_length), tables->relations_length,
+            gelvomas_words(tables->comparisons, tables->comparisons_length), tables->comparisons_length,
+            gelvomas_words(tables->queries, tables->queries_length), tables->queries_length,
+            gelvomas_lent_bytes(page, page_length), page_length, words) == 0) {
+        *lines = words[0];
+        return 0;
+    }
+    gelvomas_set_refusal(refusal, words);
+    return 1;
 }
 
 #ifdef __cplusplus

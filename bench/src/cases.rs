@@ -30,6 +30,7 @@ pub fn case(seed: u64, number: u64) -> (&'static str, Tables) {
         (Family::Small, ["small", "small, damaged"]),
         (Family::Full, ["full", "full, damaged"]),
         (Family::Repeats, ["repeats", "repeats, damaged"]),
+        (Family::Wall, ["wall", "wall, damaged"]),
     ]);
     let mut tables = generate::of_family(family, seed);
     let damaged = random.chance(1, 5);

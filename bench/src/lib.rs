@@ -127,3 +127,41 @@ pub fn find(tables: &Tables, wanted: u64) -> Found {
         _ => Err((answer, words)),
     }
 }
+
+/// How many lines were written, or the refusal; or a number and words that no
+/// contract allows.
+pub type Paged = Result<Result<usize, Refusal>, (u64, [u64; 4])>;
+
+/// The wall page, by the C function, which writes all four words.
+#[inline]
+pub fn page(tables: &Tables, page: &mut [u8]) -> Paged {
+    let mut words = UNTOUCHED;
+    // The slices are lent for the call, and the lengths are theirs.
+    let answer = unsafe {
+        gelvomas::ffi::gelvomas_page(
+            tables.features,
+            tables.attributes,
+            tables.model,
+            tables.expressions.as_ptr(),
+            tables.expressions.len(),
+            tables.entries.as_ptr(),
+            tables.entries.len(),
+            tables.relations.as_ptr(),
+            tables.relations.len(),
+            tables.comparisons.as_ptr(),
+            tables.comparisons.len(),
+            tables.queries.as_ptr(),
+            tables.queries.len(),
+            page.as_mut_ptr(),
+            page.len(),
+            &mut words,
+        )
+    };
+    match (answer, words) {
+        (0, [lines, 0, 0, 0]) => Ok(Ok(lines as usize)),
+        (1, [number, place, item, configuration]) => {
+            Ok(Err(Refusal::new(number, place, item, configuration)))
+        }
+        _ => Err((answer, words)),
+    }
+}

@@ -1,6 +1,6 @@
 /* include/gelvomas.h as a C program uses it: H1, H2 and H4 of docs/FORMAT.md, which
-   configuration gives H1's columns, tables that are NULL, and the words lent.
-   ../../test compiles and runs it. */
+   configuration gives H1's columns, its page, tables and a page that are NULL, and
+   the words and bytes lent. ../../test compiles and runs it. */
 
 #include <inttypes.h>
 #include <stdio.h>
@@ -201,6 +201,39 @@ static void find_in_h1(const struct gelvomas_tables *h1)
     expect_refusal("no attribute", &refusal, GELVOMAS_REFUSED_WANTED, 0, 0, 0);
 }
 
+/* The page of H1 is written, and the bytes after it are as they were. A page that is
+   a byte too short, or that is NULL, is refused and as it was. */
+static void page_h1(const struct gelvomas_tables *h1)
+{
+    static const char wanted[] =
+        "   0 o...............................................................  1\n"
+        "   1 o...............................................................  1\n"
+        "   2 o.o.............................................................  2\n"
+        "   3 o.o.............................................................  2\n"
+        "and what stood there";
+    const size_t needed = 4 * GELVOMAS_PAGE_LINE;
+    uint8_t page[LENGTH(wanted)];
+    uint64_t lines = STALE;
+    struct gelvomas_refusal refusal = {0, 0, 0, 0};
+    memset(page, '?', needed);
+    memcpy(page + needed, wanted + needed, sizeof wanted - needed);
+
+    expect("too short", (uint64_t)gelvomas_page_tables(h1, page, needed - 1, &lines, &refusal), 1);
+    expect_refusal("too short", &refusal, GELVOMAS_REFUSED_PAGE, 0, 0, 0);
+    expect("too short, lines", lines, STALE);
+    for (size_t at = 0; at < needed; at++) {
+        expect("too short, a byte of the page", page[at], '?');
+    }
+    refusal.number = 0;
+    expect("no page", (uint64_t)gelvomas_page_tables(h1, NULL, 0, &lines, &refusal), 1);
+    expect_refusal("no page", &refusal, GELVOMAS_REFUSED_PAGE, 0, 0, 0);
+
+    expect("page", (uint64_t)gelvomas_page_tables(h1, page, sizeof page, &lines, &refusal), 0);
+    expect_refusal("page, refusal of before", &refusal, GELVOMAS_REFUSED_PAGE, 0, 0, 0);
+    expect("page, lines", lines, 4);
+    expect("page, its bytes", (uint64_t)memcmp(page, wanted, sizeof wanted), 0);
+}
+
 int main(void)
 {
     struct gelvomas_tables h1 = with_entries(h1_entries, LENGTH(h1_entries));
@@ -210,6 +243,7 @@ int main(void)
     struct gelvomas_counts counts;
     struct gelvomas_refusal refusal = {0, 0, 0, 0};
     uint64_t configuration;
+    uint64_t lines;
 
     check_h1(&h1);
     check_refused("H2", &h2, GELVOMAS_REFUSED_PROJECTED_MISSING, 1, RAMP, 1);
@@ -220,5 +254,8 @@ int main(void)
     find_in_h1(&h1);
     expect("in no tables", (uint64_t)gelvomas_find_tables(&none, 0, &configuration, &refusal), 1);
     expect_refusal("in no tables", &refusal, GELVOMAS_REFUSED_LENGTH, 0, 0, 0);
+    page_h1(&h1);
+    expect("page of no tables", (uint64_t)gelvomas_page_tables(&none, NULL, 0, &lines, &refusal), 1);
+    expect_refusal("page of no tables", &refusal, GELVOMAS_REFUSED_LENGTH, 0, 0, 0);
     return differences == 0 ? 0 : 1;
 }

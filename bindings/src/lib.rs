@@ -1,5 +1,6 @@
-//! The proved column checker of harbour reports, configuring, and finding a
-//! configuration, as safe functions. See README.md, and ../include/gelvomas.h for C.
+//! The proved column checker of harbour reports, configuring, finding a
+//! configuration, and the wall page, as safe functions. See README.md, and
+//! ../include/gelvomas.h for C.
 
 #![no_std]
 
@@ -30,6 +31,11 @@ pub const QUERY_WORDS: usize = 4;
 pub const ROWS: usize = 1024;
 /// The words of one row.
 pub const ROW_WORDS: usize = 16;
+
+/// The bytes of one line of a page, with its line feed; see [`page`].
+pub const PAGE_LINE: usize = 73;
+/// The bytes of the longest page, 1,024 lines.
+pub const MAX_PAGE: usize = 74_752;
 
 /// The head and the words of tables 0 to 4. The words may be anything: what the
 /// checker does not take is refused.
@@ -144,6 +150,25 @@ pub mod ffi {
             queries: *const u16,
             queries_length: usize,
             wanted: u64,
+            answer: *mut [u64; 4],
+        ) -> u64;
+
+        pub fn gelvomas_page(
+            features: u64,
+            attributes: u64,
+            model: u64,
+            expressions: *const u16,
+            expressions_length: usize,
+            entries: *const u16,
+            entries_length: usize,
+            relations: *const u16,
+            relations_length: usize,
+            comparisons: *const u16,
+            comparisons_length: usize,
+            queries: *const u16,
+            queries_length: usize,
+            page: *mut u8,
+            page_length: usize,
             answer: *mut [u64; 4],
         ) -> u64;
     }
@@ -262,6 +287,44 @@ pub fn find(tables: &Tables, wanted: u64) -> Result<Option<u64>, Refusal> {
     match answer {
         0 => Ok(Some(words[0])),
         2 => Ok(None),
+        _ => Err(words.into()),
+    }
+}
+
+/// Writes the page of the report of these tables, to be pinned up, and gives its
+/// number of lines: one for each permitted configuration, ascending. A line is 72
+/// characters and a line feed: the configuration, right-aligned in 4; a space; 64
+/// marks, for attributes 0 to 63, `o` where the attribute is in the report at the
+/// configuration and `.` where it is not; a space; the number of columns,
+/// right-aligned in 2. The page is written from the first byte on, and the bytes
+/// after it are not changed. Refused, no byte is changed. A page with fewer than
+/// [`PAGE_LINE`] bytes for each line is refused; [`MAX_PAGE`] bytes are always enough.
+pub fn page(tables: &Tables, page: &mut [u8]) -> Result<u64, Refusal> {
+    let mut words = [0; 4];
+    // The slices are lent for the call, and the lengths are theirs; the function
+    // asks nothing else.
+    let answer = unsafe {
+        ffi::gelvomas_page(
+            tables.features,
+            tables.attributes,
+            tables.model,
+            tables.expressions.as_ptr(),
+            tables.expressions.len(),
+            tables.entries.as_ptr(),
+            tables.entries.len(),
+            tables.relations.as_ptr(),
+            tables.relations.len(),
+            tables.comparisons.as_ptr(),
+            tables.comparisons.len(),
+            tables.queries.as_ptr(),
+            tables.queries.len(),
+            page.as_mut_ptr(),
+            page.len(),
+            &mut words,
+        )
+    };
+    match answer {
+        0 => Ok(words[0]),
         _ => Err(words.into()),
     }
 }

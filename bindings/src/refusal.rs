@@ -3,7 +3,7 @@
 use core::error::Error;
 use core::fmt::{self, Display, Formatter};
 
-use crate::{MAX_ATTRIBUTES, MAX_FEATURES, ROWS};
+use crate::{MAX_ATTRIBUTES, MAX_FEATURES, PAGE_LINE, ROWS};
 
 /// Why a report is refused: the number of the check, and what it names. What
 /// the check does not name is 0. `Display` says it in words.
@@ -40,6 +40,7 @@ impl Refusal {
     pub const CONFIGURATION: u64 = 20;
     pub const ROOM: u64 = 21;
     pub const WANTED: u64 = 22;
+    pub const PAGE: u64 = 23;
 }
 
 impl From<[u64; 4]> for Refusal {
@@ -149,6 +150,10 @@ impl Display for Refusal {
                 write!(f, "table {place} lent for writing is shorter than its source")
             }
             (Refusal::WANTED, _) => write!(f, "a wanted attribute is past the head's number"),
+            (Refusal::PAGE, _) => write!(
+                f,
+                "the page lent has fewer than {PAGE_LINE} bytes for each permitted configuration"
+            ),
             _ => write!(f, "refused {number} {place} {item} {configuration}"),
         }
     }

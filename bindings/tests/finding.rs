@@ -3,7 +3,7 @@
 
 mod common;
 
-use common::{raw_find, refused, H1};
+use common::{raw_find, refused, shown, H1};
 use gelvomas::{check, find, Refusal, Tables, ROWS};
 
 const VESSEL: u64 = 1 << 0;
@@ -25,12 +25,6 @@ fn expect_none(tables: &Tables, wanted: u64) {
 
 fn expect_refused(tables: &Tables, wanted: u64, refusal: Refusal) {
     assert_eq!(find(tables, wanted), Err(refusal), "{wanted:b}");
-}
-
-/// The attributes below 64 that the rows show at a configuration, as a set.
-fn shown(rows: &[u64; ROWS], configuration: usize) -> u64 {
-    let has = |a: usize| rows[16 * a + configuration / 64] >> (configuration % 64) & 1;
-    (0..64).fold(0, |set, a| set | has(a) << a)
 }
 
 #[test]

@@ -39,6 +39,7 @@ fn each_refusal_is_said_in_words() {
         ([20, 0, 0, u64::MAX], "configuration 18446744073709551615 is 2^features or more, or is not permitted"),
         ([21, 4, 0, 0], "table 4 lent for writing is shorter than its source"),
         ([22, 0, 0, 0], "a wanted attribute is past the head's number"),
+        ([23, 0, 0, 0], "the page lent has fewer than 73 bytes for each permitted configuration"),
     ] {
         let [number, place, item, configuration] = refusal;
         assert_eq!(said(number, place, item, configuration), wanted);
@@ -49,7 +50,7 @@ fn each_refusal_is_said_in_words() {
 fn other_numbers_are_given_as_they_are() {
     assert_eq!(said(0, 0, 0, 0), "refused 0 0 0 0");
     assert_eq!(said(1, 2, 0, 0), "refused 1 2 0 0");
-    assert_eq!(said(23, 1, 2, 3), "refused 23 1 2 3");
+    assert_eq!(said(24, 1, 2, 3), "refused 24 1 2 3");
     assert_eq!(
         said(u64::MAX, 1, 2, 3),
         "refused 18446744073709551615 1 2 3"
@@ -92,7 +93,8 @@ fn numbers_of_package() -> BTreeMap<String, u64> {
         } else if let Some(constant) = line.trim_start().strip_prefix("pub const ") {
             let (name, number) = constant.split_once(": ").expect("a type");
             let (_, number) = number.split_once(" = ").expect("a number");
-            let number = number.trim_end_matches(';').parse().expect("a number");
+            let number = number.trim_end_matches(';').replace('_', "");
+            let number = number.parse().expect("a number");
             numbers.insert(format!("GELVOMAS_{group}{name}"), number);
         }
     }
@@ -122,7 +124,8 @@ fn numbers_of_header() -> BTreeMap<String, u64> {
 #[test]
 fn the_numbers_are_those_of_the_header() {
     let numbers = numbers_of_header();
-    assert_eq!(numbers.get("GELVOMAS_REFUSED_WANTED"), Some(&22));
+    assert_eq!(numbers.get("GELVOMAS_REFUSED_PAGE"), Some(&23));
+    assert_eq!(numbers.get("GELVOMAS_MAX_PAGE"), Some(&74_752));
     assert_eq!(numbers_of_package(), numbers);
 }
 

@@ -4,14 +4,17 @@
 
 use std::thread;
 
-use gelvomas::{check, comparison, configure, expression, find, query};
+use gelvomas::{check, comparison, configure, expression, find, page, query};
 use gelvomas::{Counts, Lent, Refusal, Tables};
-use gelvomas::{MAX_ATTRIBUTES, MAX_COMPARISONS, MAX_EXPRESSIONS, MAX_FEATURES, MAX_QUERIES, ROWS};
+use gelvomas::{MAX_ATTRIBUTES, MAX_COMPARISONS, MAX_EXPRESSIONS, MAX_FEATURES};
+use gelvomas::{MAX_PAGE, MAX_QUERIES, ROWS};
 
 /// What is stated, in bytes. The least that was enough: 367 KiB for a check and for
-/// finding, 369 KiB for configuring, of which the thread needs some itself.
+/// finding, 368 KiB for the page, 370 KiB for configuring, of which the thread needs
+/// some itself.
 const STACK_OF_CHECK: usize = 400 << 10;
 const STACK_OF_FIND: usize = 400 << 10;
+const STACK_OF_PAGE: usize = 400 << 10;
 const STACK_OF_CONFIGURE: usize = 450 << 10;
 
 const FEATURES: u16 = MAX_FEATURES as u16;
@@ -108,6 +111,11 @@ fn found(tables: &Tables, wanted: u64) -> Result<Option<u64>, Refusal> {
     with_stack(STACK_OF_FIND, || find(tables, wanted))
 }
 
+fn paged(tables: &Tables) -> Result<u64, Refusal> {
+    let mut bytes = vec![0; MAX_PAGE];
+    with_stack(STACK_OF_PAGE, || page(tables, &mut bytes))
+}
+
 fn configured(tables: &Tables, configuration: u64) -> Result<Counts, Refusal> {
     let mut entries = tables.entries.to_vec();
     let mut relations = tables.relations.to_vec();
@@ -165,6 +173,9 @@ fn the_stated_stack_is_enough() {
 
     assert_eq!(found(&deep, u64::MAX), Ok(Some(0)));
     assert_eq!(found(&deep_refused, u64::MAX), Err(refusal));
+
+    assert_eq!(paged(&deep), Ok(1024));
+    assert_eq!(paged(&deep_refused), Err(refusal));
 
     let kept = comparisons
         .chunks(5)

@@ -9,12 +9,13 @@ use std::fmt::Display;
 use std::fs;
 use std::path::Path;
 
-use common::{raw_check, raw_find, refused, UNWRITTEN};
-use gelvomas::{configure, find, Lent, Refusal, Tables};
-use gelvomas::{COMPARISON_WORDS, ENTRY_WORDS, QUERY_WORDS, RELATION_WORDS};
+use common::{raw_check, raw_find, raw_page, refused, UNWRITTEN};
+use gelvomas::{configure, find, page, Lent, Refusal, Tables};
+use gelvomas::{COMPARISON_WORDS, ENTRY_WORDS, PAGE_LINE, QUERY_WORDS, RELATION_WORDS};
 
-/// What the words lent are before a call.
+/// What the words and the bytes lent are before a call.
 const STALE: u16 = 0xBEEF;
+const STALE_BYTE: u8 = 0xA5;
 
 fn numbers<T: std::str::FromStr>(line: &str) -> Vec<T> {
     let number = |word: &str| word.parse().unwrap_or_else(|_| panic!("no number: {word}"));
@@ -103,13 +104,47 @@ fn found(tables: &Tables, wanted: u64) -> String {
     line
 }
 
+/// The lines of a page that was written, each after the word `line`. The bytes after
+/// them are as they were.
+fn page_lines(bytes: &[u8], count: u64) -> String {
+    let (page, rest) = bytes.split_at(PAGE_LINE * count as usize);
+    assert!(rest.iter().all(|&byte| byte == STALE_BYTE));
+    let line = |bytes: &[u8]| match bytes {
+        [text @ .., b'\n'] => format!("\nline {}", String::from_utf8_lossy(text)),
+        other => panic!("no line feed after {other:?}"),
+    };
+    page.chunks(PAGE_LINE).map(line).collect()
+}
+
+/// What a page gives, with so many bytes lent, by the C function and by the safe
+/// one. Refused, the bytes are as they were.
+fn paged(tables: &Tables, room: usize) -> String {
+    let lent = vec![STALE_BYTE; room];
+    let [mut bytes, mut safe] = [lent.clone(), lent.clone()];
+    let (answer, text) = match raw_page(tables, &mut bytes) {
+        (0, [lines, 0, 0, 0]) => {
+            let page = page_lines(&bytes, lines);
+            (Ok(lines), format!("page {lines}{page}"))
+        }
+        (1, [number, place, item, configuration]) => {
+            assert_eq!(bytes, lent);
+            let refusal = refused(number, place, item, configuration);
+            (Err(refusal), refused_line(refusal))
+        }
+        other => panic!("no answer: {other:?}"),
+    };
+    assert_eq!(page(tables, &mut safe), answer);
+    assert_eq!(safe, bytes);
+    text
+}
+
 /// Runs a case, given as its lines without the first and the last, and gives the
 /// name of its call.
 fn run<'a>(lines: &[&'a str]) -> &'a str {
     if lines[0].starts_with("text") {
         return "text";
     }
-    let [head, t0, t1, t2, t3, t4, call, gives] = lines else {
+    let [head, t0, t1, t2, t3, t4, call, gives @ ..] = lines else {
         panic!("a case has a head, five tables, a call and an answer");
     };
     let head: Vec<u64> = numbers(head.strip_prefix("head").expect("a head"));
@@ -133,9 +168,10 @@ fn run<'a>(lines: &[&'a str]) -> &'a str {
             configured(&tables, at, [r1, r2, r3, r4].map(|room| room as usize))
         }
         ("find", &[wanted]) => found(&tables, wanted),
+        ("page", &[room]) => paged(&tables, room as usize),
         _ => panic!("no call of the library: {call}"),
     };
-    assert_eq!(format!("gives {answer}"), *gives);
+    assert_eq!(format!("gives {answer}"), gives.join("\n"));
     name
 }
 
@@ -161,6 +197,7 @@ fn every_stored_case_has_its_answer() {
         ("check", 158),
         ("configure", 33),
         ("find", 57),
+        ("page", 98),
         ("text", 27),
     ];
     assert_eq!(

@@ -1,7 +1,10 @@
-//! The harbour file and its print.
+//! The harbour file, its print and its page.
+
+use std::io::{self, Read};
 
 use crate::check::{self, ROWS};
 use crate::expression;
+use crate::page::{self, LINE, MOST_LINES};
 use crate::refusal::Refusal;
 use crate::tables::{Tables, RANGES, WIDTHS};
 
@@ -18,12 +21,33 @@ const WORDS: [&[u8]; 6] = [
     b"query",
 ];
 
-/// What the program prints for what it read. Of a file longer than 65,536 bytes
-/// it is enough to give the first 65,537.
+/// What a program reads of its standard input: one byte more than a file may
+/// have is enough to see that it is longer. An error of reading counts as the
+/// end of the input.
+pub fn standard_input() -> Vec<u8> {
+    let mut text = Vec::new();
+    let most = MOST_BYTES as u64 + 1;
+    let _ = io::stdin().lock().take(most).read_to_end(&mut text);
+    text
+}
+
+/// What the program `columns` prints for what it read. Of a file longer than
+/// 65,536 bytes it is enough to give the first 65,537.
 pub fn print_file(text: &[u8]) -> Vec<u8> {
+    unread_or(text, print_tables)
+}
+
+/// What the program `page` prints for what it read: where there is no page, the
+/// line that `columns` prints.
+pub fn page_file(text: &[u8]) -> Vec<u8> {
+    unread_or(text, page_tables)
+}
+
+/// What is printed for the tables of a file, or that it is unread.
+fn unread_or(text: &[u8], print: fn(&Tables) -> Vec<u8>) -> Vec<u8> {
     match read_file(text) {
         Err(line) => format!("(unread {line})\n").into_bytes(),
-        Ok(tables) => print_tables(&tables),
+        Ok(tables) => print(&tables),
     }
 }
 
@@ -107,7 +131,7 @@ fn read_number(digits: &[u8]) -> Option<u16> {
     Some(number)
 }
 
-/// What the program prints for tables.
+/// What the program `columns` prints for tables.
 pub fn print_tables(tables: &Tables) -> Vec<u8> {
     let mut rows = [0; ROWS];
     let text = match check::check(tables, &mut rows) {
@@ -115,6 +139,18 @@ pub fn print_tables(tables: &Tables) -> Vec<u8> {
         Ok(()) => accepted_lines(tables, &rows),
     };
     text.into_bytes()
+}
+
+/// What the program `page` prints for tables. It has room for every page.
+fn page_tables(tables: &Tables) -> Vec<u8> {
+    let mut text = vec![0; LINE * MOST_LINES];
+    match page::page(tables, &mut text) {
+        Err(refusal) => refused_line(refusal).into_bytes(),
+        Ok(lines) => {
+            text.truncate(LINE * lines);
+            text
+        }
+    }
 }
 
 fn refused_line(refusal: Refusal) -> String {

@@ -6,6 +6,7 @@ use crate::configure;
 use crate::file;
 use crate::find;
 use crate::generate::{self, LIMITS};
+use crate::page::{self, LINE};
 use crate::random::Random;
 use crate::refusal::Refusal;
 use crate::tables::Tables;
@@ -24,6 +25,8 @@ pub enum Case {
     },
     /// Finding a configuration with the wanted attributes.
     Find { tables: Tables, wanted: u64 },
+    /// The wall page, with so many bytes lent.
+    Page { tables: Tables, room: usize },
     /// The program, given a text.
     Text(Vec<u8>),
 }
@@ -49,21 +52,24 @@ const REFUSALS: [u64; 25] = [
     4, 5, 6, 8, 9, 10, 11, 11, 11, 12, 13, 15, 15, 15, 16, 17, 17, 17, 18, 18, 18, 18, 19, 19, 19,
 ];
 
+/// What a lent page is before the call: a byte that no line has.
+const LENT_BYTE: u8 = 0xA5;
+
 /// The small case of a seed.
 pub fn case(seed: u64) -> Case {
     let mut random = Random::new(seed ^ 0x0073_6D61_6C6C);
     match random.below(100) {
-        0..=22 => {
+        0..=19 => {
             let tables = varied(&mut random);
             Case::Check { tables, room: ROWS }
         }
-        23..=42 => {
+        20..=36 => {
             // Neighbouring seeds go through all limits.
             let limit = &LIMITS[(seed % LIMITS.len() as u64) as usize];
             let tables = generate::small_limit(&mut random, limit);
             refused_check(&mut random, tables, limit.number)
         }
-        43..=55 => {
+        37..=47 => {
             let number = random.pick(&REFUSALS);
             let tables = match number {
                 11 => generate::small_accepted(&mut random),
@@ -71,8 +77,9 @@ pub fn case(seed: u64) -> Case {
             };
             refused_check(&mut random, tables, number)
         }
-        56..=71 => configuring(&mut random),
-        72..=91 => finding(&mut random),
+        48..=60 => configuring(&mut random),
+        61..=77 => finding(&mut random),
+        78..=92 => paging(&mut random),
         _ => text(&mut random),
     }
 }
@@ -152,14 +159,26 @@ fn refused_by_typing(random: &mut Random) -> Tables {
     generate::small_refused(random, number)
 }
 
-fn finding(random: &mut Random) -> Case {
-    let tables = match random.below(10) {
+/// Accepted tables in eight of ten cases, for a call whose own check comes after
+/// 19.
+fn mostly_accepted(random: &mut Random) -> Tables {
+    match random.below(10) {
         0 => refused_early(random),
         1 => refused_by_typing(random),
         _ => varied(random),
-    };
+    }
+}
+
+fn finding(random: &mut Random) -> Case {
+    let tables = mostly_accepted(random);
     let wanted = generate::wanted(random, &tables);
     Case::Find { tables, wanted }
+}
+
+fn paging(random: &mut Random) -> Case {
+    let tables = mostly_accepted(random);
+    let room = generate::page_room(random, &tables);
+    Case::Page { tables, room }
 }
 
 /// A short harbour file, sound or damaged, whose print is short too.
@@ -182,7 +201,8 @@ fn text(random: &mut Random) -> Case {
     }
 }
 
-/// What the case gives, as its line without the word `gives`.
+/// What the case gives, as its lines without the word `gives`. All are one line,
+/// but for a page.
 pub fn answer(case: &Case) -> String {
     match case {
         Case::Check { tables, room } => {
@@ -205,6 +225,16 @@ pub fn answer(case: &Case) -> String {
             Ok(None) => String::from("none"),
             Err(refusal) => refused_line(refusal),
         },
+        Case::Page { tables, room } => {
+            let mut page = vec![LENT_BYTE; *room];
+            match page::page(tables, &mut page) {
+                Ok(lines) => page_lines(&page, lines),
+                Err(refusal) => {
+                    assert_unchanged(&page);
+                    refused_line(refusal)
+                }
+            }
+        }
         Case::Text(text) => format!("print{}", spaced(&file::print_file(text))),
     }
 }
@@ -235,6 +265,23 @@ fn written_line(out: &[Vec<u16>; 4], counts: [usize; 4]) -> String {
     line
 }
 
+/// The number of lines, and each line without its line feed.
+fn page_lines(page: &[u8], lines: usize) -> String {
+    let (written, after) = page.split_at(LINE * lines);
+    assert_unchanged(after);
+    let mut text = format!("page {lines}");
+    for line in written.chunks(LINE) {
+        let line = line.strip_suffix(b"\n").expect("a line feed ends it");
+        text += &format!("\nline {}", String::from_utf8_lossy(line));
+    }
+    text
+}
+
+/// The format has no place for bytes that a call left as they were.
+fn assert_unchanged(bytes: &[u8]) {
+    assert!(bytes.iter().all(|&byte| byte == LENT_BYTE));
+}
+
 /// Numbers, each after a space.
 fn spaced<T: std::fmt::Display>(numbers: &[T]) -> String {
     numbers.iter().map(|number| format!(" {number}")).collect()
@@ -249,6 +296,7 @@ pub fn lines(number: u64, case: &Case) -> String {
             format!("{tables}call configure {c}{}\n", spaced(room))
         }
         Case::Find { tables, wanted } => format!("{}call find {wanted}\n", tables_lines(tables)),
+        Case::Page { tables, room } => format!("{}call page {room}\n", tables_lines(tables)),
         Case::Text(text) => format!("text{}\n", spaced(text)),
     };
     format!("case {number}\n{given}gives {}\nend\n", answer(case))

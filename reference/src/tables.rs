@@ -92,6 +92,12 @@ impl Tables {
         form(&self.queries, number)
     }
 
+    /// Adds an expression, and gives its number.
+    pub fn add_expression(&mut self, form: [u16; 3]) -> u16 {
+        self.expressions.extend(form);
+        self.count(0) as u16 - 1
+    }
+
     /// Number of configurations: "they run from 0 to 2^n - 1". To be asked
     /// only when check 1 has passed.
     pub fn configurations(&self) -> u64 {

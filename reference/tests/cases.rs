@@ -30,10 +30,12 @@ fn read_cases(text: &str) -> Vec<Stored> {
     while let Some(first) = lines.next() {
         let number = first.strip_prefix("case ").expect("a case starts");
         let inner: Vec<&str> = lines.by_ref().take_while(|&line| line != "end").collect();
-        let (gives, given) = inner.split_last().expect("a case gives something");
+        let is_answer = |line: &&str| line.starts_with("gives ");
+        let at = inner.iter().position(is_answer);
+        let (given, gives) = inner.split_at(at.expect("a case gives something"));
         cases.push(Stored {
             number: number.parse().expect("a case has a number"),
-            gives: gives.strip_prefix("gives ").expect("gives").to_string(),
+            gives: gives.join("\n")["gives ".len()..].to_string(),
             case: read_case(given),
         });
     }
@@ -61,7 +63,12 @@ fn read_case(lines: &[&str]) -> Case {
         comparisons: words(t3),
         queries: words(t4),
     };
-    let (name, asked) = call
+    read_call(call, tables)
+}
+
+/// The call of such tables, from its line.
+fn read_call(line: &str, tables: Tables) -> Case {
+    let (name, asked) = line
         .strip_prefix("call ")
         .and_then(|call| call.split_once(' '))
         .expect("a call");
@@ -77,7 +84,11 @@ fn read_case(lines: &[&str]) -> Case {
             room: [r1, r2, r3, r4].map(|words| words as usize),
         },
         ("find", &[wanted]) => Case::Find { tables, wanted },
-        _ => panic!("no such call: {call}"),
+        ("page", &[room]) => Case::Page {
+            tables,
+            room: room as usize,
+        },
+        _ => panic!("no such call: {line}"),
     }
 }
 
@@ -139,6 +150,29 @@ fn numbers_and_notes_are_one_to_one() {
             assert!(all.insert(number), "{number} twice");
         }
     }
+}
+
+/// Every number that comes before 23 is tried with a page of no bytes, and the
+/// lines are as long as they have to be.
+#[test]
+fn the_cases_of_the_page_are_complete() {
+    let cases = read_cases(&stored("page.txt"));
+    let mut without_bytes = BTreeSet::new();
+    for Stored { gives, case, .. } in &cases {
+        let Case::Page { room, .. } = case else {
+            panic!("page.txt has calls of page only");
+        };
+        let words: Vec<&str> = gives.split(' ').collect();
+        match words[..] {
+            ["refused", number, ..] if *room == 0 => {
+                without_bytes.insert(number.parse::<u64>().expect("a number"));
+            }
+            ["refused", ..] => {}
+            _ => assert!(gives.lines().skip(1).all(|line| line.len() == 77)),
+        }
+    }
+    let all = (1..=19).filter(|&number| number != 11).chain([23]);
+    assert_eq!(without_bytes, all.collect());
 }
 
 /// What is written reads back, so a case that is stored is the case that was

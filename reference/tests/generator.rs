@@ -4,10 +4,10 @@ mod common;
 
 use std::collections::{BTreeMap, BTreeSet};
 
-use common::{checked, first_that_hold, lists_at, Listed};
-use reference::check::shown;
+use common::{checked, first_that_hold, lists_at, paged_with, Listed};
+use reference::check::{self, shown};
 use reference::generate::{self, is_crossed, is_small, outcome};
-use reference::generate::{Answer, Family, Kept, AIMS, LIMITS};
+use reference::generate::{Answer, Family, Kept, AIMS, DIGITS, LIMITS, ROOMS};
 use reference::random::Random;
 use reference::small::{self, Case};
 use reference::tables::{operands, RANGES};
@@ -153,9 +153,10 @@ fn has_guarded_relation(tables: &Tables) -> bool {
 /// The tables that a small case's call is given.
 fn tables_of(case: &Case) -> Option<&Tables> {
     match case {
-        Case::Check { tables, .. } | Case::Configure { tables, .. } | Case::Find { tables, .. } => {
-            Some(tables)
-        }
+        Case::Check { tables, .. }
+        | Case::Configure { tables, .. }
+        | Case::Find { tables, .. }
+        | Case::Page { tables, .. } => Some(tables),
         Case::Text(_) => None,
     }
 }
@@ -400,17 +401,166 @@ fn no_answer_of_find_is_rare() {
     assert!(!answers.contains_key("22") && answers.len() >= 3);
 }
 
-/// Small cases: all numbers from 1 to 22, the mixture, and the bounds.
+/// Each sort of lent page is enough or too short, as it says, and there are
+/// occasions for it.
+#[test]
+fn every_room_is_hit() {
+    let mut random = Random::new(6);
+    let tables: Vec<Tables> = (0..40)
+        .map(generate::wall)
+        .chain((0..40).map(generate::small))
+        .filter(|tables| outcome(tables) == 0)
+        .collect();
+    for room in ROOMS {
+        let bytes = |tables| generate::page_room_by(&mut random, tables, room);
+        let lent: Vec<Option<usize>> = tables.iter().map(bytes).collect();
+        for (tables, bytes) in tables.iter().zip(&lent) {
+            if let Some(bytes) = *bytes {
+                let answer = paged_with(tables, bytes);
+                assert_eq!(answer.is_ok(), room.enough, "{}: {bytes}", room.words);
+            }
+        }
+        let times = lent.iter().flatten().count();
+        println!("{}: {times} of {}", room.words, tables.len());
+        assert!(times >= 5, "{}", room.words);
+    }
+}
+
+/// The lines of accepted tables' page: configuration, set, number of columns.
+type Lines = Vec<(u64, u64, u32)>;
+
+fn lines_of(tables: &Tables) -> Lines {
+    let accepted = check::accepted(tables).expect("accepted");
+    let columns = accepted.permitted.iter().zip(&accepted.columns);
+    columns
+        .map(|(at, &set)| (at.configuration, set, set.count_ones()))
+        .collect()
+}
+
+fn pages_of_walls() -> Vec<Lines> {
+    (0..500)
+        .map(|seed| lines_of(&generate::wall(seed)))
+        .collect()
+}
+
+fn count_pages(pages: &[Lines], is: impl Fn(&Lines) -> bool) -> usize {
+    pages.iter().filter(|page| is(page)).count()
+}
+
+/// Which lines the pages of walls have.
+#[test]
+fn walls_have_few_lines_and_many() {
+    let pages = pages_of_walls();
+    let lengths: BTreeSet<usize> = pages.iter().map(Vec::len).collect();
+    println!("lengths {lengths:?}");
+    // 897 lines have fewer than 65,536 bytes, and 898 have more.
+    let wanted = [1, 2, 9, 10, 99, 100, 897, 898, 999, 1000, 1023, 1024];
+    assert!(wanted.iter().all(|length| lengths.contains(length)));
+    for c in DIGITS.map(u64::from) {
+        let has = |page: &Lines| page.iter().any(|line| line.0 == c);
+        let alone = count_pages(&pages, |page| page.len() == 1 && has(page));
+        let lacking = count_pages(&pages, |page| page.len() > 100 && !has(page));
+        println!("{c}: {alone} alone, {lacking} lacking");
+        assert!(alone >= 3 && lacking >= 1, "{c}");
+    }
+    let far_apart = |page: &Lines| (3..9).contains(&page.len()) && page[page.len() - 1].0 > 900;
+    assert!(count_pages(&pages, far_apart) >= 10);
+}
+
+/// Which marks, and how many columns, the lines of walls have.
+#[test]
+fn walls_have_no_columns_and_all() {
+    let attributes: BTreeSet<u64> = (0..500).map(|s| generate::wall(s).attributes).collect();
+    assert!([0, 1, 63, 64].iter().all(|m| attributes.contains(m)));
+    let pages = pages_of_walls();
+    let somewhere = |page: &Lines, count| page.iter().any(|line| line.2 == count);
+    for count in [0, 1, 9, 10, 63, 64] {
+        let some = count_pages(&pages, |page| somewhere(page, count));
+        let all = count_pages(&pages, |page| page.iter().all(|line| line.2 == count));
+        println!("{count} columns: {some} somewhere, {all} everywhere");
+        assert!(all >= 3 && some > all, "{count} columns");
+    }
+    for [one, other] in [[0, 64], [9, 10], [63, 64]] {
+        let both = |page: &Lines| somewhere(page, one) && somewhere(page, other);
+        assert!(count_pages(&pages, both) >= 3, "{one} and {other}");
+    }
+    let last_alone = |line: &(u64, u64, u32)| line.1 >> 63 == 1 && line.1 & 1 == 0;
+    let last_alone = |page: &Lines| page.iter().any(last_alone);
+    assert!(count_pages(&pages, last_alone) >= 10);
+}
+
+/// Pages, of which each wrong way to make one would be told.
+#[test]
+fn pages_show_how_they_are_made() {
+    let walls = wrong_pages((0..200).map(generate::wall));
+    assert!(walls.values().all(|&times| times >= 30), "{walls:?}");
+    let small = (0..3530).filter_map(|seed| match small::case(seed) {
+        Case::Page { tables, room } => paged_with(&tables, room).is_ok().then_some(tables),
+        _ => None,
+    });
+    let small = wrong_pages(small);
+    assert!(small.values().all(|&times| times >= 30), "{small:?}");
+}
+
+/// How many of the accepted tables tell each wrong way from the right one.
+fn wrong_pages(cases: impl Iterator<Item = Tables>) -> BTreeMap<&'static str, u64> {
+    let mut told = BTreeMap::new();
+    for tables in cases {
+        let lines = lines_of(&tables);
+        for (name, wrong) in WRONG_LINES {
+            *told.entry(*name).or_default() += u64::from(wrong(&tables, &lines) != lines);
+        }
+    }
+    println!("{told:?}");
+    told
+}
+
+type WrongLines = (&'static str, fn(&Tables, &Lines) -> Lines);
+
+const WRONG_LINES: &[WrongLines] = &[
+    ("marks from 63 down", |_, lines| {
+        let turned = |&(c, set, count): &_| (c, u64::reverse_bits(set), count);
+        lines.iter().map(turned).collect()
+    }),
+    ("marks of the first line on each", |_, lines| {
+        let first = lines[0].1;
+        lines.iter().map(|line| (line.0, first, line.2)).collect()
+    }),
+    ("number of columns of the first line on each", |_, lines| {
+        let first = lines[0].2;
+        lines.iter().map(|line| (line.0, line.1, first)).collect()
+    }),
+    (
+        "number of attributes for number of columns",
+        |tables, lines| {
+            let m = tables.attributes as u32;
+            lines.iter().map(|line| (line.0, line.1, m)).collect()
+        },
+    ),
+    ("lines counted for configurations", |_, lines| {
+        let counted = (0..).zip(lines);
+        counted.map(|(c, line)| (c, line.1, line.2)).collect()
+    }),
+    ("a line for each configuration", |tables, lines| {
+        let line = |c| lines.iter().find(|line| line.0 == c).copied();
+        let all = 0..tables.configurations();
+        all.map(|c| line(c).unwrap_or((c, 0, 0))).collect()
+    }),
+];
+
+/// Small cases: all numbers from 1 to 23, the mixture, and the bounds. They are
+/// so many that some 3,000 are other calls than of the page.
 #[test]
 fn small_cases_cover_everything() {
     let mut outcomes: BTreeMap<(&str, String), u64> = BTreeMap::new();
-    for seed in 0..3000 {
+    for seed in 0..3530 {
         let case = small::case(seed);
         assert!(tables_of(&case).is_none_or(is_small));
         let call = match &case {
             Case::Check { .. } => "check",
             Case::Configure { .. } => "configure",
             Case::Find { .. } => "find",
+            Case::Page { .. } => "page",
             Case::Text(text) => {
                 assert!(text.len() <= 320);
                 "text"
@@ -444,9 +594,15 @@ fn small_cases_cover_everything() {
     }
     for number in [15, 16, 17, 18, 19] {
         assert!(times("find", &number.to_string()) >= 3, "find {number}");
+        assert!(times("page", &number.to_string()) >= 3, "page {number}");
     }
-    let finds = outcomes.iter().filter(|((call, _), _)| *call == "find");
-    assert!((540..660).contains(&finds.map(|(_, times)| times).sum::<u64>()));
+    let calls = |name| {
+        let calls = outcomes.iter().filter(|((call, _), _)| *call == name);
+        calls.map(|(_, times)| times).sum::<u64>()
+    };
+    assert!((540..660).contains(&calls("find")));
+    assert!((480..580).contains(&calls("page")));
+    assert!(times("page", "page") >= 200 && times("page", "23") >= 80);
     assert!((590..790).contains(&times("check", "rows")));
     assert!(times("configure", "written") >= 200);
     assert!((200..400).contains(&times("text", "print")));

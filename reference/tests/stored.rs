@@ -4,8 +4,10 @@
 use std::collections::BTreeSet;
 use std::fs;
 use std::path::{Path, PathBuf};
+use std::sync::OnceLock;
 
-use reference::file::print_file;
+use reference::file::{page_file, print_file};
+use reference::generate::DIGITS;
 use reference::small::H1;
 use reference::vectors::{self, Vector, REFUSALS};
 
@@ -21,13 +23,19 @@ fn examples() -> Vec<Vector> {
     vectors::examples(&root()).expect("there is a folder examples")
 }
 
+/// All stored cases, made once for all tests.
+fn cases() -> &'static [Vector] {
+    static CASES: OnceLock<Vec<Vector>> = OnceLock::new();
+    CASES.get_or_init(|| vectors::all(&examples()))
+}
+
 /// `make_vectors` writes them; it is to be run again when this fails.
 #[test]
 fn the_vectors_are_what_the_command_makes() {
-    let cases = vectors::all(&examples());
-    assert_eq!(stored("crates/vectors/args"), vectors::arguments(&cases));
-    assert!(stored("crates/vectors/stdout") == vectors::output(&cases));
-    for case in &cases {
+    let cases = cases();
+    assert_eq!(stored("crates/vectors/args"), vectors::arguments(cases));
+    assert!(stored("crates/vectors/stdout") == vectors::output(cases));
+    for case in cases {
         let path = format!("crates/vectors/data/{}", case.name);
         assert!(stored(&path) == case.text, "{path}");
     }
@@ -37,7 +45,7 @@ fn the_vectors_are_what_the_command_makes() {
 
 #[test]
 fn the_vectors_have_names_of_their_own_and_every_outcome() {
-    let cases = vectors::all(&examples());
+    let cases = cases();
     let without_number = |case: &Vector| case.name[4..].to_string();
     let names: BTreeSet<String> = cases.iter().map(without_number).collect();
     assert_eq!(names.len(), cases.len());
@@ -55,18 +63,42 @@ fn the_vectors_have_names_of_their_own_and_every_outcome() {
     assert!(prints.iter().any(|print| print.len() == 201_653));
 }
 
+/// Pages of one line and of 1,024, and lines of no column and of 64.
 #[test]
-fn the_examples_print_what_stands_beside_them() {
+fn the_vectors_have_pages_at_every_limit() {
+    let pages: Vec<Vec<u8>> = cases().iter().map(|case| page_file(&case.text)).collect();
+    let pages = || pages.iter().filter(|page| !page.starts_with(b"("));
+    for lines in [1, 2, 1023, 1024] {
+        assert!(pages().any(|page| page.len() == 73 * lines), "{lines}");
+    }
+    for columns in [" 0\n", " 1\n", " 9\n", "10\n", "63\n", "64\n"] {
+        let ends = |line: &[u8]| line.ends_with(columns.as_bytes());
+        assert!(pages().any(|page| page.chunks(73).any(ends)), "{columns}");
+    }
+    for configuration in DIGITS {
+        let start = format!("{configuration:4} ");
+        let alone = |page: &&Vec<u8>| page.len() == 73 && page.starts_with(start.as_bytes());
+        assert!(pages().any(|page| alone(&page)), "{configuration}");
+    }
+}
+
+#[test]
+fn the_examples_have_their_print_and_their_page_beside_them() {
     let examples = examples();
     assert!(examples.len() >= 6);
     for Vector { name, text } in &examples {
         let print = stored(&format!("examples/{name}.print"));
         assert_eq!(print, print_file(text), "{name}");
+        let page = stored(&format!("examples/{name}.page"));
+        assert_eq!(page, page_file(text), "{name}");
     }
 }
 
 #[test]
-fn the_program_is_run_on_h1() {
-    assert_eq!(stored("crates/columns/stdin"), H1.as_bytes());
-    assert_eq!(stored("crates/columns/stdout"), print_file(H1.as_bytes()));
+fn the_programs_are_run_on_h1() {
+    let h1 = H1.as_bytes();
+    assert_eq!(stored("crates/columns/stdin"), h1);
+    assert_eq!(stored("crates/columns/stdout"), print_file(h1));
+    assert_eq!(stored("crates/page/stdin"), h1);
+    assert_eq!(stored("crates/page/stdout"), page_file(h1));
 }

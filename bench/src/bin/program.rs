@@ -1,5 +1,5 @@
-//! The time of the whole program, from its start to its end, ours and the
-//! reference's in turn in one run: on a file of full size with the largest
+//! The time of the whole programs `columns` and `page`, from start to end, ours and
+//! the reference's in turn in one run: on a file of full size with the largest
 //! print, on a short file with the same print, and on H1, which is all start-up.
 
 use std::fs::{self, File};
@@ -8,7 +8,7 @@ use std::path::{Path, PathBuf};
 use std::process::{Command, ExitCode, Stdio};
 use std::time::Instant;
 
-use reference::file::{print_file, write_file};
+use reference::file::{page_file, print_file, write_file};
 use reference::small::H1;
 use reference::Tables;
 
@@ -19,49 +19,64 @@ const FEATURES: u16 = 10;
 const ATTRIBUTES: u16 = 64;
 const FORMS: u16 = 256;
 
+/// What a program must print for a file.
+type Print = fn(&[u8]) -> Vec<u8>;
+
+const PROGRAMS: [(&str, Print); 2] = [("columns", print_file), ("page", page_file)];
+
 fn main() -> ExitCode {
     let arguments: Vec<PathBuf> = std::env::args_os().skip(1).map(PathBuf::from).collect();
-    let here = Path::new(env!("CARGO_MANIFEST_DIR"));
-    let programs = match &arguments[..] {
-        [] => [
-            here.join("../target/bin/columns"),
-            here.join("../reference/target/release/columns_reference"),
-        ],
-        [ours, theirs] => [ours.clone(), theirs.clone()],
+    let paths = match arguments.len() {
+        0 => PROGRAMS.map(|(name, _)| built(name)).concat(),
+        2 | 4 => arguments,
         _ => {
-            eprintln!("usage: program [COLUMNS COLUMNS_REFERENCE]");
+            eprintln!("usage: program [COLUMNS COLUMNS_REFERENCE [PAGE PAGE_REFERENCE]]");
             return ExitCode::FAILURE;
         }
     };
-    match measure(&programs) {
-        Ok(true) => ExitCode::SUCCESS,
-        Ok(false) => ExitCode::FAILURE,
-        Err(error) => {
-            eprintln!("program: {error}");
-            ExitCode::FAILURE
+    for ((name, print), pair) in PROGRAMS.into_iter().zip(paths.chunks(2)) {
+        match measure(name, pair, print) {
+            Ok(true) => {}
+            Ok(false) => return ExitCode::FAILURE,
+            Err(error) => {
+                eprintln!("program: {error}");
+                return ExitCode::FAILURE;
+            }
         }
     }
+    ExitCode::SUCCESS
 }
 
-/// Measures all workloads; false where a program does not print what it must.
-fn measure(programs: &[PathBuf; 2]) -> io::Result<bool> {
+/// Where a program and its reference are built.
+fn built(name: &str) -> [PathBuf; 2] {
+    let root = Path::new(env!("CARGO_MANIFEST_DIR")).join("..");
+    [
+        root.join("target/bin").join(name),
+        root.join("reference/target/release")
+            .join(format!("{name}_reference")),
+    ]
+}
+
+/// Measures a program on all workloads; false where it, or the reference's, does not
+/// print what it must.
+fn measure(program: &str, pair: &[PathBuf], print: Print) -> io::Result<bool> {
     let workloads = [
         ("full size", write_file(&full_size())),
         ("largest print", write_file(&largest_print())),
         ("start-up (H1)", H1.as_bytes().to_vec()),
     ];
-    println!("medians of {TIMES} runs, ours and the reference's in turn; µs from start to end");
+    println!("{program}: medians of {TIMES} runs, ours and the reference's in turn; µs from start to end");
     println!(
         "{:<14} {:>8} {:>8} {:>8} {:>10} {:>7}",
         "workload", "file", "print", "ours", "reference", "ratio"
     );
-    let input = std::env::temp_dir().join(format!("columns-bench-{}", std::process::id()));
+    let input = std::env::temp_dir().join(format!("{program}-bench-{}", std::process::id()));
     for (name, text) in &workloads {
         fs::write(&input, text)?;
-        let print = print_file(text);
-        let medians = in_turn(programs, &input, &print)?;
+        let print = print(text);
+        let medians = in_turn(pair, &input, &print);
         fs::remove_file(&input)?;
-        let Some([ours, theirs]) = medians else {
+        let Some([ours, theirs]) = medians? else {
             println!("{name}: a program failed, or its print is not the reference's");
             return Ok(false);
         };
@@ -76,10 +91,10 @@ fn measure(programs: &[PathBuf; 2]) -> io::Result<bool> {
 }
 
 /// Medians in µs of runs that take turns, so that both meet the same machine.
-fn in_turn(programs: &[PathBuf; 2], input: &Path, print: &[u8]) -> io::Result<Option<[f64; 2]>> {
+fn in_turn(pair: &[PathBuf], input: &Path, print: &[u8]) -> io::Result<Option<[f64; 2]>> {
     let mut times = [const { Vec::new() }; 2];
     for _ in 0..TIMES {
-        for (program, times) in programs.iter().zip(&mut times) {
+        for (program, times) in pair.iter().zip(&mut times) {
             let mut command = Command::new(program);
             command.stdin(File::open(input)?).stderr(Stdio::null());
             let start = Instant::now();

@@ -1,7 +1,8 @@
 //! The time of the whole check at full size, ours and the reference's, which goes
 //! configuration by configuration, in one run and in a thread with a stack of
 //! 1 MiB; on three workloads also that of all configurations at once
-//! (`bench::parallel`); the time of configuring; and that of finding, to our check's.
+//! (`bench::parallel`); the time of configuring; that of finding, to our check's; and
+//! that of the page.
 
 use std::collections::BTreeMap;
 use std::hint::black_box;
@@ -12,6 +13,7 @@ use std::time::Instant;
 use bench::parallel;
 use reference::check::ROWS;
 use reference::generate;
+use reference::page::{LINE, MOST_LINES};
 use reference::random::Random;
 use reference::{expression, Refusal, Tables};
 
@@ -61,7 +63,8 @@ fn run() -> Result<(), String> {
     println!("(e) configuring at {MIDDLE}, ours and the reference's in turn:");
     time_configuring(&workloads[..2])?;
     time_configuring(&[("one attribute, 512 times", one_attribute())])?;
-    time_finding(&workloads[..2])
+    time_finding(&workloads[..2])?;
+    time_paging(&workloads[..2])
 }
 
 fn say_goal(goal: f64, met: bool) {
@@ -211,6 +214,37 @@ fn same_found(tables: &Tables, wanted: u64) -> Option<u64> {
     found.ok().flatten().filter(|_| same)
 }
 
+/// Each workload's page takes turns with the reference's, and then with our check
+/// alone: after the reference's call ours takes longer, be it a check or a page.
+fn time_paging(workloads: &[Workload]) -> Result<(), String> {
+    println!("(g) our page and the reference's in turn, and then our check and our page in turn:");
+    println!(
+        "{:<26} {:>8} {:>10} {:>7} {:>8} {:>8} {:>7}  lines",
+        "workload", "ours", "reference", "ratio", "check", "page", "ratio"
+    );
+    for (name, tables) in workloads {
+        let lines =
+            same_page(tables).ok_or_else(|| format!("{name}: no page, or the bytes differ"))?;
+        let [ours, theirs] = in_turn(TIMES, [tables; 2], [Call::Page, Call::ReferencePage]);
+        let [check, page] = in_turn(TIMES, [tables; 2], [Call::Check, Call::Page]);
+        println!(
+            "{name:<26} {ours:>8.1} {theirs:>10.1} {:>7.3} {check:>8.1} {page:>8.1} {:>7.3}  {lines}",
+            ours / theirs,
+            page / check
+        );
+    }
+    Ok(())
+}
+
+/// The number of lines that both write, where every byte is the same.
+fn same_page(tables: &Tables) -> Option<usize> {
+    let lent = vec![7; LINE * MOST_LINES];
+    let [mut mine, mut theirs] = [lent.clone(), lent];
+    let lines = reference::page(tables, &mut theirs);
+    let same = bench::page(tables, &mut mine) == Ok(lines) && mine == theirs;
+    lines.ok().filter(|_| same)
+}
+
 /// The configuration of (e): every other feature is on.
 const MIDDLE: u64 = 0b10_1010_1010;
 
@@ -272,15 +306,27 @@ enum Call {
     ParallelCheck,
     /// Our finding, of this set.
     Find(u64),
+    /// Our page.
+    Page,
+    /// The reference's.
+    ReferencePage,
+}
+
+/// What is lent to them.
+struct Lent {
+    rows: Vec<u64>,
+    page: Vec<u8>,
 }
 
 impl Call {
-    fn run(self, tables: &Tables, rows: &mut [u64]) {
+    fn run(self, tables: &Tables, Lent { rows, page }: &mut Lent) {
         match self {
             Call::Check => drop(black_box(bench::check(tables, rows))),
             Call::ReferenceCheck => drop(black_box(reference::check(tables, rows))),
             Call::ParallelCheck => drop(black_box(parallel::check(tables, rows))),
             Call::Find(wanted) => drop(black_box(bench::find(tables, wanted))),
+            Call::Page => drop(black_box(bench::page(tables, page))),
+            Call::ReferencePage => drop(black_box(reference::page(tables, page))),
         }
     }
 }
@@ -288,12 +334,15 @@ impl Call {
 /// Medians in µs of calls that take turns, so that all meet the same machine.
 fn in_turn<const N: usize>(count: usize, tables: [&Tables; N], calls: [Call; N]) -> [f64; N] {
     let mut times = [const { Vec::new() }; N];
-    let mut rows = vec![0; ROWS];
+    let mut lent = Lent {
+        rows: vec![0; ROWS],
+        page: vec![0; LINE * MOST_LINES],
+    };
     for _ in 0..count {
         for (number, times) in times.iter_mut().enumerate() {
             let tables = black_box(tables[number]);
             let start = Instant::now();
-            calls[number].run(tables, black_box(&mut rows));
+            calls[number].run(tables, black_box(&mut lent));
             times.push(start.elapsed().as_nanos() as f64 / 1000.0);
         }
     }

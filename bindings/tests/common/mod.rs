@@ -2,7 +2,7 @@
 
 #![allow(dead_code)]
 
-use gelvomas::{ffi, Refusal, Tables};
+use gelvomas::{ffi, Refusal, Tables, ROWS};
 
 pub const H1: Tables = Tables {
     features: 2,
@@ -22,6 +22,12 @@ pub fn refused(number: u64, place: u64, item: u64, configuration: u64) -> Refusa
         item,
         configuration,
     }
+}
+
+/// The attributes below 64 that the rows show at a configuration, as a set.
+pub fn shown(rows: &[u64; ROWS], configuration: usize) -> u64 {
+    let has = |a: usize| rows[16 * a + configuration / 64] >> (configuration % 64) & 1;
+    (0..64).fold(0, |set, a| set | has(a) << a)
 }
 
 /// What the four words of an answer are before a call of a C function.
@@ -73,6 +79,32 @@ pub fn raw_find(tables: &Tables, wanted: u64) -> (u64, [u64; 4]) {
             tables.queries.as_ptr(),
             tables.queries.len(),
             wanted,
+            &mut words,
+        )
+    };
+    (answer, words)
+}
+
+/// What the C function returns, and the answer's four words afterwards.
+pub fn raw_page(tables: &Tables, page: &mut [u8]) -> (u64, [u64; 4]) {
+    let mut words = UNWRITTEN;
+    let answer = unsafe {
+        ffi::gelvomas_page(
+            tables.features,
+            tables.attributes,
+            tables.model,
+            tables.expressions.as_ptr(),
+            tables.expressions.len(),
+            tables.entries.as_ptr(),
+            tables.entries.len(),
+            tables.relations.as_ptr(),
+            tables.relations.len(),
+            tables.comparisons.as_ptr(),
+            tables.comparisons.len(),
+            tables.queries.as_ptr(),
+            tables.queries.len(),
+            page.as_mut_ptr(),
+            page.len(),
             &mut words,
         )
     };

@@ -4,11 +4,12 @@ use mathlib.Core.Path.{_≡_, refl, sym, ap}
 use mathlib.Core.Bool.{true, false}
 use mathlib.Core.List.{List, [], _∷_}
 use native.Mathlib.Omega.{arith}
-use lib.ListN.{replicate}
+use lib.ListN.{replicate, getD}
 use lib.Dec.{lit≤}
 use Rattle.report.specs.Tables.{tablesOf, query, relationLength, relationStart, projectLength, projectStart}
 use Rattle.report.specs.Expressions.{permitted}
 use Rattle.report.specs.ColumnRows.{columnRows}
+use Rattle.report.specs.ConfiguredReport.{plainQueryAt, keptAttributes}
 use Rattle.report.specs.Verdicts.{refusal, after}
 use Rattle.report.specs.FormChecks.{listFits}
 use Rattle.report.specs.Calls.{configuring}
@@ -22,11 +23,15 @@ use Rattle.configuring.specs.declared.Configured.{Configured}
 use Rattle.configuring.specs.Promises.{Rooms, Leaves, Configures}
 use Rattle.finding.specs.declared.FindAnswer.{FindAnswer}
 use Rattle.finding.specs.Finding.{lowestWanted, Finds}
+use Rattle.wall_page.specs.declared.PageAnswer.{PageAnswer}
+use Rattle.wall_page.specs.Page.{lineCount, pageAfter, PageWritten}
 use Rattle.demands.specs.FoundWritten.{FoundWritten}
 use Rattle.demands.specs.FoundConfiguration.{columnsAt, HoldsAll, LowestWith, NoneWith}
+use Rattle.demands.specs.PageLines.{lineOf, lineAt, LineShows}
 use Rattle.demands.proofs.Demands.{found-written}
 use Rattle.demands.proofs.Finding.{find-found, find-none}
 use Rattle.demands.proofs.Joined.{configure-once, configure-before}
+use Rattle.demands.proofs.WallPage.{page-shows}
 
 -- tables lent with other words in them, table 1 with two words more than its source
 abbrev lent1 : List ℕ
@@ -119,3 +124,28 @@ berth-finds = refl
 
 pub berth-nowhere : NoneWith (h1 2) (columnsAt (h1 2)) 2
 berth-nowhere = find-none (h1 2) 2 FindAnswer.None berth-finds refl
+
+-- `write_page` on H1, with room for two bytes more: four lines. That of 2 has a mark for the ramp, attribute 2, and none for the berth, attribute 1
+abbrev lentPage : List ℕ
+lentPage = replicate 294 63
+
+h1-page : PageWritten (h1 2) lentPage (PageAnswer.Lines 4) (pageAfter (h1 2) lentPage)
+unfolding computed lineCount
+h1-page = record { answers = refl; stored = refl }
+
+h1-permits : permitted (h1 2) 2 ≡ true
+unfolding computed
+h1-permits = refl
+
+h1-columns : columnsAt (h1 2) 2 ≡ 5
+unfolding computed plainQueryAt keptAttributes
+h1-columns = refl
+
+h1-line : LineShows 2 5 (lineAt (pageAfter (h1 2) lentPage) (lineOf (h1 2) 2))
+h1-line = rw h1-columns at (page-shows (h1 2) lentPage (PageAnswer.Lines 4) _ h1-page refl .line 2 h1-permits .1)
+
+pub ramp-marked : getD (lineAt (pageAfter (h1 2) lentPage) (lineOf (h1 2) 2)) 7 0 ≡ 111
+ramp-marked = h1-line .present 2 (lit≤ tt) .1 refl
+
+pub berth-absent : getD (lineAt (pageAfter (h1 2) lentPage) (lineOf (h1 2) 2)) 6 0 ≡ 46
+berth-absent = h1-line .absent 1 (lit≤ tt) .1 refl

@@ -1,4 +1,5 @@
 pub mod Demands
 pub mod Finding
 pub mod Joined
+pub mod WallPage
 pub mod CallGuards

@@ -1,2 +1,3 @@
 pub mod FoundWritten
 pub mod FoundConfiguration
+pub mod PageLines

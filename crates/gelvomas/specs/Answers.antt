@@ -11,6 +11,7 @@ use Rattle.configuring.specs.Promises.{configuredAnswer}
 use Rattle.configuring.specs.declared.Configured.{Configured}
 use Rattle.finding.specs.Finding.{finding, lowestWanted, foundAnswer}
 use Rattle.finding.specs.declared.FindAnswer.{FindAnswer}
+use Rattle.wall_page.specs.declared.PageAnswer.{PageAnswer}
 
 -- number, place, item and configuration
 abbrev pub refusalWords : Refusal → List ℕ
@@ -66,3 +67,15 @@ abbrev pub foundWords : FindAnswer → List ℕ
 foundWords (FindAnswer.At c) = c ∷ 0 ∷ 0 ∷ 0 ∷ []
 foundWords FindAnswer.None = 0 ∷ 0 ∷ 0 ∷ 0 ∷ []
 foundWords (FindAnswer.Refused r) = refusalWords r
+
+-- ---- the page
+
+-- the number that is returned
+abbrev pub pageNumber : PageAnswer → ℕ
+pageNumber (PageAnswer.Lines lines) = 0
+pageNumber (PageAnswer.Refused r) = 1
+
+-- the four lent words afterwards: the number of lines, or those of a refusal; a word that the answer does not use is 0
+abbrev pub pageWords : PageAnswer → List ℕ
+pageWords (PageAnswer.Lines lines) = lines ∷ 0 ∷ 0 ∷ 0 ∷ []
+pageWords (PageAnswer.Refused r) = refusalWords r

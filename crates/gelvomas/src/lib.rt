@@ -1,4 +1,4 @@
-// Checking, configuring and finding as C functions.
+// Checking, configuring, finding and the page as C functions.
 use checking::check;
 use configuring::Configured;
 use configuring::configure;
@@ -6,15 +6,18 @@ use finding::FindAnswer;
 use finding::find;
 use report::Refusal;
 use report::Verdict;
+use wall_page::PageAnswer;
+use wall_page::write_page;
 ghost use mathlib.Core.Path.{_≡_};
 ghost use Rattle.report.specs.Tables.{tablesOf};
 ghost use Rattle.checking.specs.Promises.{Checks};
 ghost use Rattle.configuring.specs.Promises.{Configures};
 ghost use Rattle.gelvomas.specs.Answers.{refusalWords, checkAnswer, answerNumber, answerWords, configureAnswer, configuredNumber, configuredWords};
-ghost use Rattle.gelvomas.specs.Answers.{findAnswer, foundNumber, foundWords};
+ghost use Rattle.wall_page.specs.Page.{pageGives, pageAfter};
+ghost use Rattle.gelvomas.specs.Answers.{findAnswer, foundNumber, foundWords, pageNumber, pageWords};
 
-// Number, place, item and configuration of a refusal; how many forms tables 1 to 4 have; a configuration and three words that are 0; or, for none,
-// four such words.
+// Number, place, item and configuration of a refusal; how many forms tables 1 to 4 have; a configuration, or a number of lines, and three words that
+// are 0; or, for none, four such words.
 pub type AnswerWords = [u64; 4];
 
 // Tells a refusal: 1, and its words in those lent for the answer.
@@ -201,5 +204,59 @@ pub extern "C" fn gelvomas_find(
             2
         }
         FindAnswer::Refused(r) => tell_refusal(r, answer),
+    }
+}
+
+// Answers 0 where the page of the report is written: `answer` begins with the number of its lines, and the bytes after them are as they were. Else
+// answers 1: `answer` holds number, place, item and configuration, and `page` is as it was.
+#[no_mangle]
+pub extern "C" fn gelvomas_page(
+    features: u64,
+    attributes: u64,
+    model: u64,
+    expressions: &[u16],
+    entries: &[u16],
+    relations: &[u16],
+    comparisons: &[u16],
+    queries: &[u16],
+    page: &mut [u8],
+    answer: &mut AnswerWords,
+) -> u64
+    ensures { λ r.
+        ⌜ r
+        ≡ pageNumber (pageGives
+        (tablesOf features attributes model (now (expressions .entry)) (now (entries .entry)) (now (relations .entry)) (now (comparisons .entry))
+        (now (queries .entry)))
+        (now (page .entry))) ⌝ }
+    ensures { λ _.
+        ⌜ now (answer .exit)
+        ≡ pageWords (pageGives
+        (tablesOf features attributes model (now (expressions .entry)) (now (entries .entry)) (now (relations .entry)) (now (comparisons .entry))
+        (now (queries .entry)))
+        (now (page .entry))) ⌝ }
+    ensures { λ _.
+        ⌜ now (page .exit)
+        ≡ pageAfter
+        (tablesOf features attributes model (now (expressions .entry)) (now (entries .entry)) (now (relations .entry)) (now (comparisons .entry))
+        (now (queries .entry)))
+        (now (page .entry)) ⌝ }
+{
+    let written = write_page(
+        features,
+        attributes,
+        model,
+        expressions,
+        entries,
+        relations,
+        comparisons,
+        queries,
+        page,
+    );
+    match written {
+        PageAnswer::Lines(lines) => {
+            *answer = [lines as u64, 0, 0, 0];
+            0
+        }
+        PageAnswer::Refused(r) => tell_refusal(r, answer),
     }
 }

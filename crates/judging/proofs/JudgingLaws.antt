@@ -1,14 +1,16 @@
 -- How the parts of judging make its answer, what each part leaves for the next, and what a caller has of tables that pass.
-use Prim.Native.Nat.{ℕ, _-_, _*_, _/_, _≤_, max}
+use Prim.Native.Nat.{ℕ, _-_, _*_, _/_, _%_, _^_, _≤_, max}
 use mathlib.Core.Path.{_≡_, refl, sym, ap, _∙_}
 use mathlib.Core.Bool.{true}
 use mathlib.Core.List.{List}
 use native.Mathlib.Nat.{le-refl, le-max-left, le-max-right, max-le}
 use native.Mathlib.Omega.{arith}
 use lib.ListN.{length, take, drop, replicate}
+use lib.Pow.{pow-mono}
 use Rattle.sets.specs.Rows.{rowOf, rowIn, rowIsEmpty, within}
+use Rattle.sets.proofs.BitLaws.{shl-one}
 use Rattle.report.specs.Tables.{Tables, expressionCount, relationCount, queryCount, relationsEnd}
-use Rattle.report.specs.Expressions.{permitted}
+use Rattle.report.specs.Expressions.{configurations, permitted}
 use Rattle.report.specs.ColumnRows.{columnRows}
 use Rattle.report.specs.Configuring.{written}
 use Rattle.report.specs.Verdicts.{refusal, refuseIf, orElse, firstOf, after}
@@ -219,3 +221,11 @@ typed-rows {T} {v} {lentConditions} {lentReach} {lentColumns} L J e = record {
 pub own-rows : {T : Tables} {v : Verdict} {conditions reach columns : List ℕ}
     → Typed T v (replicate 4096 0) (replicate 4096 0) (replicate 1024 0) conditions reach columns → v ≡ Verdict.Accepted → Rows T conditions reach columns
 own-rows = typed-rows (record { expressions = le-refl 4096; forms = le-refl 4096; attributes = refl })
+
+module _ {T : Tables} (F : Formed T) where
+  -- 1 << n is the number of configurations
+  pub shifted-configurations : {n : ℕ} → n ≡ T .features → (1 * 2 ^ n) % 2 ^ 64 ≡ configurations T
+  shifted-configurations {n} e = shl-one 64 n (let f = F .few in omega arith) ∙ ap (λ (k : ℕ). 2 ^ k) e
+
+  pub shifted-few : {n : ℕ} → n ≡ T .features → (1 * 2 ^ n) % 2 ^ 64 ≤ 1024
+  shifted-few e = let s = shifted-configurations e in let p = pow-mono {i = T .features} {j = 10} (F .few) in omega arith

@@ -10,8 +10,8 @@ use lib.ListN.{length, length-append}
 use lib.Pow.{pow-mono}
 use Rattle.sets.specs.Bits.{bit}
 use Rattle.sets.specs.Rows.{rowOf, rowBit}
-use Rattle.sets.specs.Lists.{concat}
-use Rattle.sets.proofs.ListLaws.{concat-same, concat-grows}
+use Rattle.sets.specs.Lists.{concat, kept}
+use Rattle.sets.proofs.ListLaws.{concat-same, concat-grows, kept-same}
 use Rattle.sets.proofs.RowLaws.{rowBit-rowOf}
 use Rattle.report.specs.Tables.{Tables, report}
 use Rattle.report.specs.Expressions.{configurations, permitted}
@@ -32,26 +32,30 @@ use Rattle.printing.proofs.ColumnLaws.{configuration-yes, configuration
 -- ---- the print of an accepted report
 
 module _ {T : Tables} (F : Formed T) {permits rows : List ℕ} (permitting : permits ≡ rowOf 16 (permitted T)) (columns : rows ≡ columnRows T) where
-  -- what is printed of one configuration
-  line-print : (c : ℕ) → c < configurations T
-      → cond (rowBit permits c) (configurationLine c (shown rows c)) [] ≡ cond (permitted T c) (atLine c (setOf T c (report T))) []
-  line-print c h =
-      ap (λ (t : Bool). cond t (configurationLine c (shown rows c)) [])
-      (ap (λ (l : List ℕ). rowBit l c) permitting ∙ rowBit-rowOf 16 (permitted T) c (lt-of-lt-of-le h (pow-mono (F .few))))
-      ∙ go (permitted T c) refl
+  -- the row has what is permitted
+  pub permits-bit : (c : ℕ) → c < configurations T → rowBit permits c ≡ permitted T c
+  permits-bit c h =
+      ap (λ (l : List ℕ). rowBit l c) permitting ∙ rowBit-rowOf 16 (permitted T) c (lt-of-lt-of-le h (pow-mono (F .few)))
+
+  -- lines of the permitted configurations, whatever the line of a configuration and its set is: by the rows, and by the definitions
+  pub shown-lines : (text : ℕ → ℕ → List ℕ)
+      → kept (rowBit permits) (λ c. text c (shown rows c)) (configurations T)
+      ≡ kept (permitted T) (λ c. text c (setOf T c (report T))) (configurations T)
+  shown-lines text =
+      concat-same (configurations T) (λ c. cond (rowBit permits c) (text c (shown rows c)) []) (λ c. cond (permitted T c) (text c (setOf T c (report T))) [])
+      (λ c h. ap (λ (t : Bool). cond t (text c (shown rows c)) []) (permits-bit c h) ∙ go c (permitted T c) refl)
     where
-      go : (t : Bool) → permitted T c ≡ t → cond t (configurationLine c (shown rows c)) [] ≡ cond t (atLine c (setOf T c (report T))) []
-      go true e =
-          ap (configurationLine c) (ap (λ (l : List ℕ). shown l c) columns ∙ shown-columns F c e)
-          ∙ sym (configuration-print c (setOf T c (report T)))
-      go false e = refl
+      go : (c : ℕ) (t : Bool) → permitted T c ≡ t → cond t (text c (shown rows c)) [] ≡ cond t (text c (setOf T c (report T))) []
+      go c true e = ap (text c) (ap (λ (l : List ℕ). shown l c) columns ∙ shown-columns F c e)
+      go c false e = refl
 
   pub accepted-print : acceptedText permits (configurations T) rows ≡ printAnswer T Verdict.Accepted
   unfolding acceptedText
   accepted-print =
       ap (λ (l : List ℕ). line (bytes "accepted") [] ++ l)
-      (concat-same (configurations T) (λ c. cond (rowBit permits c) (configurationLine c (shown rows c)) [])
-      (λ c. cond (permitted T c) (atLine c (setOf T c (report T))) []) line-print)
+      (kept-same (configurations T) {keep = rowBit permits} {keep′ = rowBit permits} {block = λ c. configurationLine c (shown rows c)}
+      {block′ = λ c. atLine c (shown rows c)} (λ c h. refl) (λ c h. sym (configuration-print c (shown rows c)))
+      ∙ shown-lines atLine)
 
 -- ---- how long a print is at most
 

@@ -9,7 +9,7 @@ ghost use Rattle.report.specs.ColumnRows.{shown};
 ghost use Rattle.printing.specs.Lines.{configurationText, acceptedText, RowsRead, ConfigurationRead, AcceptedRead};
 
 // The attributes that the rows show at configuration c.
-fn shown_at(rows: &[u64], c: usize) -> AttributeSet
+pub fn shown_at(rows: &[u64], c: usize) -> AttributeSet
     requires { ⌜ RowsRead (now rows) c ⌝ }
     ensures { λ r. ⌜ r .bits ≡ shown (now (rows .entry)) c ⌝ }
 {

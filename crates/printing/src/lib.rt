@@ -2,6 +2,7 @@
 mod columns;
 
 pub use columns::put_accepted;
+pub use columns::shown_at;
 use report::Refusal;
 use sets::AttributeSet;
 ghost use Prim.Native.Nat.{_<_};
@@ -11,7 +12,7 @@ ghost use Rattle.report.specs.Text.{decimal};
 ghost use Rattle.printing.specs.Lines.{refusalLine, unreadLine, memberText, membersText, configurationLine};
 
 // A text.
-fn put_bytes(out: &mut [u8], at: usize, text: &[u8]) -> usize
+pub fn put_bytes(out: &mut [u8], at: usize, text: &[u8]) -> usize
     requires { ⌜ Room (now text) (now out) at ⌝ }
     ensures { λ r. ⌜ WrittenAt (now (text .entry)) (now (out .entry)) at (now (out .exit)) r ⌝ }
 {
@@ -24,7 +25,7 @@ fn put_bytes(out: &mut [u8], at: usize, text: &[u8]) -> usize
 }
 
 // A number in decimal.
-fn put_decimal(out: &mut [u8], at: usize, n: u64) -> usize
+pub fn put_decimal(out: &mut [u8], at: usize, n: u64) -> usize
     requires { ⌜ Room (decimal n) (now out) at ⌝ }
     ensures { λ r. ⌜ WrittenAt (decimal n) (now (out .entry)) at (now (out .exit)) r ⌝ }
 {

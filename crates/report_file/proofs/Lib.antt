@@ -5,3 +5,4 @@ pub mod GroupParts
 pub mod FirstBadLine
 pub mod PrintedLaws
 pub mod CountLaws
+pub mod LayoutLaws

@@ -1,3 +1,4 @@
 pub mod Reading
 pub mod Filing
+pub mod Layouts
 pub mod Printing

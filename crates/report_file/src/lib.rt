@@ -10,9 +10,9 @@ ghost use mathlib.Core.Path.{_≡_};
 ghost use Prim.Native.Nat.{_+_};
 ghost use Rattle.report.specs.Tables.{Tables};
 ghost use Rattle.report.specs.HarbourFile.{File};
-ghost use Rattle.report.specs.Print.{print, printFile};
 ghost use Rattle.report_file.specs.Reading.{groupLinesFrom, fileParts, fileFrom, readFile};
 ghost use Rattle.report_file.specs.Filing.{GroupRoom, GroupTaken, Lent, Held, HeldReadable, Filed};
+ghost use Rattle.report_file.specs.Layouts.{fileAs, textAs};
 ghost use Rattle.report_file.specs.Printing.{Prints};
 ghost use Rattle.report_file.specs.declared.Outcome.{Outcome};
 
@@ -21,6 +21,12 @@ struct Place {
     at: usize,
     line: usize,
     end: usize,
+}
+
+// How the columns of an accepted report are printed: as lists, or as the wall page.
+pub enum Layout {
+    Columns,
+    Page,
 }
 
 // How many words each table has, or the number of the first bad line.
@@ -183,6 +189,7 @@ fn print_read(
     relation_words: usize,
     comparison_words: usize,
     query_words: usize,
+    layout: Layout,
     out: &mut [u8],
 ) -> usize
     requires { ⌜ HeldReadable (Outcome.Read «expression_words» «entry_words» «relation_words» «comparison_words» «query_words»)
@@ -191,7 +198,7 @@ fn print_read(
         ⌜ ((T : Tables)
         → Held T (Outcome.Read «expression_words» «entry_words» «relation_words» «comparison_words» «query_words») (now (head .entry))
         (now (expressions .entry)) (now (entries .entry)) (now (relations .entry)) (now (comparisons .entry)) (now (queries .entry))
-        → Prints (printFile (File.holds T)) (now (out .entry)) (now (out .exit)) r) ⌝ }
+        → Prints (fileAs layout (File.holds T)) (now (out .entry)) (now (out .exit)) r) ⌝ }
 {
     print_tables(
         wide(head[0]),
@@ -202,13 +209,14 @@ fn print_read(
         &relations[..relation_words],
         &comparisons[..comparison_words],
         &queries[..query_words],
+        layout,
         out,
     )
 }
 
-// Prints what the report of a harbour file has, or that the file cannot be read, to the start of `out`. Answers how many bytes that are.
-pub fn print_file(text: &[u8], out: &mut PrintRoom) -> usize
-    ensures { λ r. ⌜ Prints (print (now (text .entry))) (now (out .entry)) (now (out .exit)) r ⌝ }
+// Prints what the report of a harbour file has, in the layout, or that the file cannot be read, to the start of `out`. Answers how many bytes that are.
+pub fn print_file(text: &[u8], layout: Layout, out: &mut PrintRoom) -> usize
+    ensures { λ r. ⌜ Prints (textAs layout (now (text .entry))) (now (out .entry)) (now (out .exit)) r ⌝ }
 {
     let mut head = [0; 3];
     let mut expressions = [0; AttributeSet::MOST_EXPRESSIONS * 3];
@@ -240,6 +248,7 @@ pub fn print_file(text: &[u8], out: &mut PrintRoom) -> usize
                 r,
                 c,
                 q,
+                layout,
                 out,
             )
         }

@@ -1,4 +1,5 @@
 // The print of the answer for tables, written into lent bytes.
+use crate::Layout;
 use judging::COLUMN_WORDS;
 use judging::EXPRESSION_WORDS;
 use judging::REACH_WORDS;
@@ -7,12 +8,12 @@ use printing::put_accepted;
 use printing::put_refused;
 use report::Verdict;
 use sets::Row;
+use wall_page::put_page;
 ghost use Prim.Native.Nat.{_≤_};
 ghost use lib.ListN.{length};
 ghost use Rattle.report.specs.Tables.{Tables, tablesOf};
 ghost use Rattle.report.specs.HarbourFile.{File};
-ghost use Rattle.report.specs.Print.{printAnswer, printFile};
-ghost use Rattle.report.specs.declared.Verdict.{Verdict};
+ghost use Rattle.report_file.specs.Layouts.{acceptedAs, fileAs};
 ghost use Rattle.report_file.specs.Printing.{ColumnReads, ColumnReadable, Prints};
 
 // The print of an accepted report of n features, whose column rows are `columns` and whose expression rows `conditions` starts with. Its feature
@@ -22,18 +23,22 @@ fn print_columns(
     model: usize,
     conditions: &[u64],
     columns: &[u64],
+    layout: Layout,
     out: &mut [u8],
 ) -> usize
     requires { ⌜ ColumnReadable n model (now conditions) (now columns) (now out) ⌝ }
     ensures { λ r.
         ⌜ ((T : Tables) → ColumnReads T n model (now (conditions .entry)) (now (columns .entry))
-        → Prints (printAnswer T Verdict.Accepted) (now (out .entry)) (now (out .exit)) r) ⌝ }
+        → Prints (acceptedAs layout T) (now (out .entry)) (now (out .exit)) r) ⌝ }
 {
     let permitted = Row::load(conditions, model);
-    put_accepted(out, 0, permitted, 1 << n, columns)
+    match layout {
+        Layout::Columns => put_accepted(out, 0, permitted, 1 << n, columns),
+        Layout::Page => put_page(out, 0, permitted, 1 << n, columns),
+    }
 }
 
-// The print of the answer for these tables: a refusal, or the columns of each permitted configuration.
+// The print of the answer for these tables: a refusal, or the columns of each permitted configuration, in the layout.
 pub fn print_tables(
     features: u64,
     attributes: u64,
@@ -43,12 +48,13 @@ pub fn print_tables(
     relations: &[u16],
     comparisons: &[u16],
     queries: &[u16],
+    layout: Layout,
     out: &mut [u8],
 ) -> usize
     requires { ⌜ 201653 ≤ length (now out) ⌝ }
     ensures { λ r.
         ⌜ Prints
-        (printFile (File.holds (tablesOf features attributes model (now (expressions .entry)) (now (entries .entry)) (now (relations .entry))
+        (fileAs layout (File.holds (tablesOf features attributes model (now (expressions .entry)) (now (entries .entry)) (now (relations .entry))
         (now (comparisons .entry))
         (now (queries .entry)))))
         (now (out .entry)) (now (out .exit)) r ⌝ }
@@ -74,5 +80,5 @@ pub fn print_tables(
     if let Verdict::Refused(r) = v {
         return put_refused(out, 0, r);
     }
-    print_columns(n, model, &conditions, &columns, out)
+    print_columns(n, model, &conditions, &columns, layout, out)
 }

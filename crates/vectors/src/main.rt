@@ -1,23 +1,30 @@
-// Runs the stored cases: for each argument, which names a harbour file, the name and then the print of that file. The file `stdout` beside src/
-// has what the reference gives for them (reference/src/bin/make_vectors.rs writes all three).
+// Runs the stored cases: for each argument, which names a harbour file, the name, then the print of that file, then its page. The file `stdout` beside
+// src/ has what the reference gives for them (reference/src/bin/make_vectors.rs writes all three).
 use libc::STDOUT_FILENO;
 use report_file::LONGEST_FILE;
 use report_file::LONGEST_PRINT;
+use report_file::Layout;
 use report_file::PrintRoom;
 
 // One byte more than a harbour file may have.
 const READ_ROOM: usize = LONGEST_FILE + 1;
 
-// The print of the open file.
-fn show_print(fd: i32) {
-    let mut text = [0u8; READ_ROOM];
-    let length = io::read_full(fd, &mut text);
+// The print of a file's text in a layout.
+fn show_print(text: &[u8], layout: Layout) {
     let mut out: PrintRoom = [0; LONGEST_PRINT];
-    let printed = report_file::print_file(&text[..length], &mut out);
+    let printed = report_file::print_file(text, layout, &mut out);
     io::write_all(STDOUT_FILENO, &out[..printed]);
 }
 
-// Case i: a line with the name, then the print. A file that cannot be opened gives a line that no print has, so that the comparison fails.
+// The print of the open file, and its page.
+fn show_file(fd: i32) {
+    let mut text = [0u8; READ_ROOM];
+    let length = io::read_full(fd, &mut text);
+    show_print(&text[..length], Layout::Columns);
+    show_print(&text[..length], Layout::Page);
+}
+
+// Case i: a line with the name, then the print and the page. A file that cannot be opened gives a line that no print has, so that the comparison fails.
 fn show_case(i: usize) {
     let mut name = io::buffer();
     let length = os::arg(i, &mut name);
@@ -28,7 +35,7 @@ fn show_case(i: usize) {
         io::write_all(STDOUT_FILENO, b"(missing)\n");
         return;
     }
-    show_print(fd);
+    show_file(fd);
     libc::close(fd);
 }
 

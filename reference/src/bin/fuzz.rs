@@ -1,6 +1,6 @@
 //! Gives harbour files to a program and compares what it prints with the
-//! reference's print: generated files, sound and damaged, and byte-level
-//! mutations of such files.
+//! reference's print, or with its page: generated files, sound and damaged, and
+//! byte-level mutations of such files.
 
 use std::collections::BTreeMap;
 use std::fs;
@@ -9,19 +9,25 @@ use std::path::{Path, PathBuf};
 use std::process::{Command, ExitCode, Output, Stdio};
 use std::thread;
 
-use reference::file::{print_file, write_file};
+use reference::file::{page_file, print_file, write_file};
 use reference::generate::{self, Family};
 use reference::random::Random;
 use reference::small::H1;
 
-const USAGE: &str = "usage: fuzz PROGRAM SEED COUNT MUTATIONS [DIR]
+const USAGE: &str = "usage: fuzz columns|page PROGRAM SEED COUNT MUTATIONS [DIR]
 Gives COUNT generated harbour files and MUTATIONS byte-level mutations of such files to PROGRAM, on standard input,
-and compares its output with the reference's print. At the first difference it stops, with the file and both outputs
-in DIR (default: the current folder) as fuzz-SEED-NUMBER.harbour, .program and .reference. Prints the number of files
-by outcome. Exit status: 0 no difference; 1 a difference; 2 PROGRAM could not be run, or bad usage. A seed gives the
-same files everywhere.";
+and compares its output with the reference's print (columns) or with its page (page). At the first difference it stops,
+with the file and both outputs in DIR (default: the current folder) as fuzz-columns-SEED-NUMBER.harbour, .program and
+.reference, or fuzz-page-... Prints the number of files by outcome. Exit status: 0 no difference; 1 a difference;
+2 PROGRAM could not be run, or bad usage. A seed gives the same files everywhere, and to both.";
+
+/// What the reference prints for a file.
+type Print = fn(&[u8]) -> Vec<u8>;
 
 struct Run {
+    /// Which print is compared: `columns` or `page`.
+    name: String,
+    print: Print,
     program: PathBuf,
     seed: u64,
     count: u64,
@@ -46,8 +52,13 @@ fn main() -> ExitCode {
 }
 
 fn run_of(arguments: &[String]) -> Option<Run> {
-    let [program, seed, count, mutations, folder @ ..] = arguments else {
+    let [name, program, seed, count, mutations, folder @ ..] = arguments else {
         return None;
+    };
+    let print: Print = match name.as_str() {
+        "columns" => print_file,
+        "page" => page_file,
+        _ => return None,
     };
     let folder = match folder {
         [] => ".",
@@ -55,6 +66,8 @@ fn run_of(arguments: &[String]) -> Option<Run> {
         _ => return None,
     };
     Some(Run {
+        name: name.clone(),
+        print,
         program: PathBuf::from(program),
         seed: seed.parse().ok()?,
         count: count.parse().ok()?,
@@ -75,7 +88,7 @@ impl Run {
                 true => generated(seed),
                 false => mutated(seed),
             };
-            let wanted = print_file(&text);
+            let wanted = (self.print)(&text);
             let output = given(&self.program, &text)?;
             *outcomes.entry(outcome(&wanted)).or_default() += 1;
             if !output.status.success() || output.stdout != wanted {
@@ -99,7 +112,7 @@ impl Run {
     fn keep(&self, number: u64, text: &[u8], output: &Output, wanted: &[u8]) -> io::Result<()> {
         fs::create_dir_all(&self.folder)?;
         let file = |end: &str| {
-            let name = format!("fuzz-{}-{number}.{end}", self.seed);
+            let name = format!("fuzz-{}-{}-{number}.{end}", self.name, self.seed);
             self.folder.join(name)
         };
         fs::write(file("harbour"), text)?;
@@ -119,11 +132,12 @@ impl Run {
 /// A generated file of any family, sound or damaged.
 fn generated(seed: u64) -> Vec<u8> {
     let family = match Random::new(!seed).below(100) {
-        0..=34 => Family::Accepted,
-        35..=59 => Family::Fault,
-        60..=69 => Family::Several,
-        70..=73 => Family::Full,
-        74..=76 => Family::Repeats,
+        0..=32 => Family::Accepted,
+        33..=56 => Family::Fault,
+        57..=65 => Family::Several,
+        66..=69 => Family::Full,
+        70..=72 => Family::Repeats,
+        73..=76 => Family::Wall,
         77..=84 => Family::Small,
         _ => return generate::damage(seed, &write_file(&generate::case(seed))),
     };
@@ -160,9 +174,12 @@ fn given(program: &Path, text: &[u8]) -> io::Result<Output> {
     })
 }
 
-/// Accepted, refused by number, unread, or unread for its length.
+/// Accepted, a page, refused by number, unread, or unread for its length.
 fn outcome(print: &[u8]) -> String {
     let line = first_line(print);
+    if !line.starts_with('(') {
+        return "page".to_string();
+    }
     let words: Vec<&str> = line.trim_matches(['(', ')']).split(' ').collect();
     match words[..] {
         ["refused", number, ..] => format!("refused {number:>2}"),

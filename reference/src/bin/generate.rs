@@ -1,10 +1,13 @@
 //! Writes a harbour file: arguments are a seed and a family (accepted, fault,
-//! several, full, small, repeats, any, damaged).
+//! several, full, small, repeats, wall, any, damaged).
 
 use std::io::{self, Write};
 use std::process::ExitCode;
 
 use reference::{file, generate};
+
+const USAGE: &str =
+    "usage: generate SEED accepted|fault|several|full|small|repeats|wall|any|damaged";
 
 fn main() -> ExitCode {
     let arguments: Vec<String> = std::env::args().skip(1).collect();
@@ -12,7 +15,7 @@ fn main() -> ExitCode {
         Some(text) if io::stdout().write_all(&text).is_ok() => ExitCode::SUCCESS,
         Some(_) => ExitCode::FAILURE,
         None => {
-            eprintln!("usage: generate SEED accepted|fault|several|full|small|repeats|any|damaged");
+            eprintln!("{USAGE}");
             ExitCode::FAILURE
         }
     }

@@ -1,5 +1,5 @@
-//! Writes the stored cases of the program `vectors`, and the prints of the
-//! examples.
+//! Writes the stored cases of the program `vectors`, and the prints and the pages
+//! of the examples.
 
 use std::ffi::OsStr;
 use std::fs;
@@ -7,7 +7,7 @@ use std::io;
 use std::path::Path;
 use std::process::ExitCode;
 
-use reference::file::print_file;
+use reference::file::{page_file, print_file};
 use reference::vectors::{self, Vector, SEED};
 
 fn main() -> ExitCode {
@@ -15,7 +15,9 @@ fn main() -> ExitCode {
     let [root] = &arguments[..] else {
         eprintln!("usage: make_vectors ROOT");
         eprintln!("ROOT is the repository. Writes crates/vectors/args, data/ and stdout there, from the seed {SEED},");
-        eprintln!("and beside each file of examples/ its print, NAME.print.");
+        eprintln!(
+            "and beside each file of examples/ its print and its page, NAME.print and NAME.page."
+        );
         return ExitCode::FAILURE;
     };
     match write_all(Path::new(root)) {
@@ -33,8 +35,9 @@ fn main() -> ExitCode {
 fn write_all(root: &Path) -> io::Result<usize> {
     let examples = vectors::examples(root)?;
     for Vector { name, text } in &examples {
-        let print = root.join("examples").join(format!("{name}.print"));
-        fs::write(print, print_file(text))?;
+        let beside = |end: &str| root.join("examples").join(format!("{name}.{end}"));
+        fs::write(beside("print"), print_file(text))?;
+        fs::write(beside("page"), page_file(text))?;
     }
     let cases = vectors::all(&examples);
     let folder = root.join("crates/vectors");

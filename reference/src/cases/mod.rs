@@ -6,6 +6,7 @@
 //! and the answers worked out, to the reference.
 
 mod find;
+pub(crate) mod page;
 mod repeats;
 
 use crate::file;
@@ -23,7 +24,7 @@ pub struct File {
 }
 
 /// All files.
-pub const FILES: [File; 2] = [
+pub const FILES: [File; 3] = [
     File {
         name: "find",
         first: 1001,
@@ -34,13 +35,18 @@ pub const FILES: [File; 2] = [
         first: 2001,
         cases: repeats::cases,
     },
+    File {
+        name: "page",
+        first: 3001,
+        cases: page::cases,
+    },
 ];
 
 /// A call, with what it is for and its answer.
 pub struct Aimed {
     pub note: &'static str,
-    /// The answer worked out by hand, as a `gives` line has it.
-    pub answer: &'static str,
+    /// The answer worked out by hand, as the lines from `gives` on have it.
+    pub answer: String,
     pub case: Case,
 }
 
@@ -53,16 +59,20 @@ impl File {
             .collect()
     }
 
-    /// The lines of the notes: one for each case.
+    /// The lines of the notes: one for each case, with the first line of its
+    /// answer.
     pub fn notes(&self) -> String {
         let cases = (self.first..).zip((self.cases)());
-        cases
-            .map(|(number, aimed)| format!("{number}: {}: {}\n", aimed.note, aimed.answer))
-            .collect()
+        let line = |(number, Aimed { note, answer, .. })| {
+            let answer: String = answer.lines().take(1).collect();
+            format!("{number}: {note}: {answer}\n")
+        };
+        cases.map(line).collect()
     }
 }
 
-fn aimed(note: &'static str, answer: &'static str, case: Case) -> Aimed {
+fn aimed(note: &'static str, answer: impl Into<String>, case: Case) -> Aimed {
+    let answer = answer.into();
     Aimed { note, answer, case }
 }
 

@@ -6,6 +6,8 @@ mod damage;
 mod fault;
 mod mutate;
 mod repeat;
+mod room;
+mod wall;
 mod wanted;
 
 pub use build::Size;
@@ -13,6 +15,8 @@ pub use damage::{damage, lengthened};
 pub use fault::{is_crossed, lengths_are_sound, more_comparisons, outcome, Limit, LIMITS};
 pub use mutate::mutate;
 pub use repeat::{delay, has_repeat, most_often, without_repeats, Kept};
+pub use room::{page_room, page_room_by, Room, ROOMS};
+pub use wall::DIGITS;
 pub use wanted::{wanted, wanted_by, Aim, Answer, AIMS};
 
 use crate::random::Random;
@@ -33,6 +37,8 @@ pub enum Family {
     Small,
     /// One attribute over and over, up to 512 entries; accepted or with a fault.
     Repeats,
+    /// Accepted, aimed at the limits of the wall page.
+    Wall,
 }
 
 /// The family of a name.
@@ -44,6 +50,7 @@ pub fn family_of(name: &str) -> Option<Family> {
         "full" => Some(Family::Full),
         "small" => Some(Family::Small),
         "repeats" => Some(Family::Repeats),
+        "wall" => Some(Family::Wall),
         _ => None,
     }
 }
@@ -51,7 +58,8 @@ pub fn family_of(name: &str) -> Option<Family> {
 /// A case of a family chosen by the seed.
 pub fn case(seed: u64) -> Tables {
     let family = match Random::new(!seed).below(100) {
-        0..=55 => Family::Accepted,
+        0..=53 => Family::Accepted,
+        54..=55 => Family::Wall,
         56..=81 => Family::Fault,
         82..=87 => Family::Several,
         88..=90 => Family::Full,
@@ -70,6 +78,7 @@ pub fn of_family(family: Family, seed: u64) -> Tables {
         Family::Full => full(seed),
         Family::Small => small(seed),
         Family::Repeats => repeats(seed),
+        Family::Wall => wall(seed),
     }
 }
 
@@ -145,6 +154,11 @@ pub fn repeats(seed: u64) -> Tables {
             fault::aimed(&mut random, &tables, number)
         }
     }
+}
+
+/// Tables aimed at the limits of the wall page. All are accepted.
+pub fn wall(seed: u64) -> Tables {
+    wall::tables(&mut Random::new(seed))
 }
 
 /// Small tables, accepted or refused.

@@ -1,10 +1,12 @@
 //! The stored cases of the program `vectors` (`../crates/vectors`): harbour
-//! files with names that say what they are, and what is printed for them.
+//! files with names that say what they are, what is printed for them, and their
+//! pages.
 //!
 //! `bin/make_vectors.rs` writes them, and `tests/stored.rs` holds what is
 //! stored to them. They are the same on every machine.
 
 mod berths;
+mod page;
 mod repeats;
 mod reports;
 mod texts;
@@ -13,7 +15,7 @@ use std::fs;
 use std::io;
 use std::path::Path;
 
-use crate::file::print_file;
+use crate::file::{page_file, print_file};
 pub use reports::REFUSALS;
 
 /// The seed of all generated cases.
@@ -35,11 +37,12 @@ impl Vector {
     }
 }
 
-/// All cases, their names numbered: worked examples, repeats, texts that are
-/// read or unread, generated reports, and the given examples.
+/// All cases, their names numbered: worked examples, repeats, pages, texts that
+/// are read or unread, generated reports, and the given examples.
 pub fn all(examples: &[Vector]) -> Vec<Vector> {
     let mut cases = berths::cases();
     cases.extend(repeats::cases());
+    cases.extend(page::cases());
     cases.extend(texts::cases());
     cases.extend(reports::cases());
     cases.extend(examples.iter().cloned());
@@ -69,13 +72,15 @@ pub fn arguments(cases: &[Vector]) -> Vec<u8> {
     names.collect::<String>().into_bytes()
 }
 
-/// What the program writes: for each case a line with its name, and its print.
+/// What the program writes: for each case a line with its name, its print, and
+/// its page.
 pub fn output(cases: &[Vector]) -> Vec<u8> {
     let mut output = Vec::new();
     for case in cases {
         output.extend_from_slice(case.name.as_bytes());
         output.push(b'\n');
         output.extend(print_file(&case.text));
+        output.extend(page_file(&case.text));
     }
     output
 }

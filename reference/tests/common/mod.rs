@@ -3,12 +3,14 @@
 
 use reference::check::ROWS;
 use reference::file::read_file;
+use reference::page::LINE;
 use reference::small::H1;
-use reference::{check, configure, expression, form, plain, tables, Refusal, Tables};
+use reference::{check, configure, expression, form, page, plain, tables, Refusal, Tables};
 
 /// A word that no answer holds by chance.
 pub const LENT_ROW: u64 = 0xA5A5_5A5A_0FF0_1234;
 pub const LENT_WORD: u16 = 0xBEEF;
+pub const LENT_BYTE: u8 = 0xC3;
 
 /// The tables of H1, read from its text.
 pub fn h1() -> Tables {
@@ -52,6 +54,17 @@ pub fn configured_with(
         assert!(out.iter().flatten().all(|&word| word == LENT_WORD));
     }
     answer.map(|counts| (counts, out))
+}
+
+/// The page, written to so many bytes; a refused call must leave all of them, and
+/// any call those after the lines. The answer is the bytes of the lines.
+pub fn paged_with(tables: &Tables, room: usize) -> Result<Vec<u8>, Refusal> {
+    let mut lent = vec![LENT_BYTE; room];
+    let answer = page(tables, &mut lent);
+    let written = answer.map_or(0, |lines| LINE * lines);
+    assert!(lent[written..].iter().all(|&byte| byte == LENT_BYTE));
+    lent.truncate(written);
+    answer.map(|_| lent)
 }
 
 /// The words of tables 1 to 4.

@@ -36,7 +36,7 @@ returns : tie.Need-returns
 returns c =
     let k = c .before .before .before in
     let f = read-file (k .before .before) in
-    unread-printed (now (start f .args .text)) refl (bad-told _ _ _ _ _ _ _ (f .read-file .ensures) (k .file .given .1))
+    unread-printed (start f .args .layout) (now (start f .args .text)) refl (bad-told _ _ _ _ _ _ _ (f .read-file .ensures) (k .file .given .1))
     (prints (short (c .before)) (omega arith) (c .put-unread .ensures))
 
 -- the tables that were read
@@ -60,7 +60,7 @@ returns-2 c =
     let k = file2 (c .before .before) in
     let f = read-file (k .before .before) in
     let t = told k in
-    text-printed (now (start f .args .text)) (t .1) (c .print-read .ensures (t .0) (t .2))
+    text-printed (start f .args .layout) (now (start f .args .text)) (t .1) (c .print-read .ensures (t .0) (t .2))
 
 pub print-file-spec : {M : Type 1} → statement M
 print-file-spec =

@@ -19,7 +19,7 @@ returns c T H =
     let w3 = wide3 (put .before .before .before) in
     let w2 = w3 .before .before in
     let w1 = w2 .before .before in
-    held-printed H (w1 .wide .ensures) (w2 .wide2 .ensures) (w3 .wide3 .ensures) (put .print-tables .ensures)
+    held-printed (start w3 .args .layout) H (w1 .wide .ensures) (w2 .wide2 .ensures) (w3 .wide3 .ensures) (put .print-tables .ensures)
 
 pub print-read-spec : {M : Type 1} → statement M
 print-read-spec =

@@ -1,4 +1,4 @@
--- `vectors::show_print` is safe: what it hands on of each array is as long as the count says.
+-- `vectors::show_print` is safe: what it hands on of the print is as long as the count says.
 use borrow.Author.Needs.{needs}
 use Rattle.report_file.proofs.CountLaws.{prints-within, prints-counted}
 use Rattle.vectors.proofs.show_print.Statement.{statement}
@@ -14,10 +14,6 @@ pub show-print-spec : {M : Type 1} → statement M
 show-print-spec =
     tie.close
     (tie.spec
-    (λ c. search needs)
-    (λ c κs. search needs)
-    (λ c. search needs)
-    (λ c. search needs)
     (λ c κs. search needs)
     array-share-prefix-out
     slice-aggregate-write-all

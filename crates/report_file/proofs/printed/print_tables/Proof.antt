@@ -42,7 +42,7 @@ returns c =
     let put = c .before .before in
     let v = put .before .before .before in
     let y = refused v in
-    refusal-printed (tables y) (y .typed .ensures .answers) (v .v .given .1) (prints (short (put .before)) (start y .pre) (put .put-refused .ensures))
+    refusal-printed (start y .args .layout) (tables y) (y .typed .ensures .answers) (v .v .given .1) (prints (short (put .before)) (start y .pre) (put .put-refused .ensures))
 
 print-columns-requires : tie.Need-print-columns-requires
 print-columns-requires c κs =
@@ -55,7 +55,7 @@ returns-2 c =
     let put = c .before .before in
     let t = told put in
     let y = typed t in
-    acceptance-printed (tables y) (y .typed .ensures .answers) (t .enum-told .given .1)
+    acceptance-printed (start y .args .layout) (tables y) (y .typed .ensures .answers) (t .enum-told .given .1)
     (put .print-columns .ensures (tables y) (accepted-reads (own-rows (y .typed .ensures) (t .enum-told .given .1))))
 
 pub print-tables-spec : {M : Type 1} → statement M

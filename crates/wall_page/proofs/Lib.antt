@@ -1,0 +1,4 @@
+pub mod LineLaws
+pub mod LineBytes
+pub mod PageLaws
+pub mod PageExamplesHold

@@ -1,0 +1,3 @@
+pub mod Page
+pub mod Steps
+pub mod PageExamples

@@ -1,0 +1,120 @@
+// The entry point `write_page`: the wall page, a line for each permitted configuration with a mark for each attribute.
+mod line;
+
+use judging::COLUMN_WORDS;
+use judging::EXPRESSION_WORDS;
+use judging::REACH_WORDS;
+use judging::typed;
+use line::put_page_line;
+use printing::shown_at;
+use report::Refusal;
+use report::Verdict;
+use sets::Row;
+use table_checks::refuse_if;
+ghost use mathlib.Core.Path.{_≡_};
+ghost use Prim.Native.Nat.{_≤_};
+ghost use Rattle.sets.specs.Writing.{WrittenAt};
+ghost use Rattle.report.specs.Tables.{tablesOf};
+ghost use Rattle.wall_page.specs.Page.{pageAnswer, PageWritten};
+ghost use Rattle.wall_page.specs.Steps.{pageText, permittedCount, PageRead};
+
+// What writing a page answers: the number of its lines, or the refusal.
+pub enum PageAnswer {
+    Lines(usize),
+    Refused(Refusal),
+}
+
+// The bytes of a line: 72 characters and a line feed.
+const LINE_BYTES: usize = 73;
+
+// How many of the configurations below `count` the row has.
+fn permitted_count(row: Row, count: usize) -> usize
+    requires { ⌜ count ≤ 1024 ⌝ }
+    ensures { λ r. ⌜ r ≡ permittedCount (row .words) count ⌝ }
+{
+    let mut found = 0;
+    let mut c = 0;
+    while c < count {
+        if row.has(c) {
+            found += 1;
+        }
+        c += 1;
+    }
+    found
+}
+
+// The line of each permitted configuration below `count`, with the marks that the column rows show.
+pub fn put_page(out: &mut [u8], at: usize, permitted: Row, count: usize, rows: &[u64]) -> usize
+    requires { ⌜ PageRead (permitted .words) count (now rows) (now out) at ⌝ }
+    ensures { λ r. ⌜ WrittenAt (pageText (permitted .words) count (now (rows .entry))) (now (out .entry)) at (now (out .exit)) r ⌝ }
+{
+    let mut p = at;
+    let mut c = 0;
+    while c < count {
+        if permitted.has(c) {
+            let s = shown_at(rows, c);
+            p = put_page_line(out, p, c as u64, s);
+        }
+        c += 1;
+    }
+    p
+}
+
+// The answer, by what the checks say.
+fn page_answer(verdict: Verdict, lines: usize) -> PageAnswer
+    ensures { λ r. ⌜ r ≡ pageAnswer verdict lines ⌝ }
+{
+    match verdict {
+        Verdict::Accepted => PageAnswer::Lines(lines),
+        Verdict::Refused(r) => PageAnswer::Refused(r),
+    }
+}
+
+// Writes the page of the report of these tables to the start of `page`.
+pub fn write_page(
+    features: u64,
+    attributes: u64,
+    model: u64,
+    expressions: &[u16],
+    entries: &[u16],
+    relations: &[u16],
+    comparisons: &[u16],
+    queries: &[u16],
+    page: &mut [u8],
+) -> PageAnswer
+    ensures { λ r.
+        ⌜ PageWritten
+        (tablesOf features attributes model (now (expressions .entry)) (now (entries .entry)) (now (relations .entry)) (now (comparisons .entry))
+        (now (queries .entry))) (now (page .entry)) r (now (page .exit)) ⌝ }
+{
+    let n = features as usize;
+    let model = model as usize;
+    let mut conditions = [0; EXPRESSION_WORDS];
+    let mut reach = [0; REACH_WORDS];
+    let mut columns = [0; COLUMN_WORDS];
+    let checked = typed(
+        n,
+        attributes as usize,
+        model,
+        expressions,
+        entries,
+        relations,
+        comparisons,
+        queries,
+        &mut conditions,
+        &mut reach,
+        &mut columns,
+    );
+    if let Verdict::Refused(r) = checked {
+        return PageAnswer::Refused(r);
+    }
+    let permitted = Row::load(&conditions, model);
+    let count = 1 << n;
+    // The lines are counted before any is written: a refused call changes no byte.
+    let lines = permitted_count(permitted, count);
+    let late = refuse_if(page.len() < LINE_BYTES * lines, 23, 0);
+    if let Verdict::Accepted = late {
+        put_page(page, 0, permitted, count, &columns);
+    }
+    page_answer(late, lines)
+}
