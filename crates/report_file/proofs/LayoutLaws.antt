@@ -2,7 +2,6 @@
 use Prim.Native.Nat.{ℕ, zero, suc}
 use mathlib.Core.Path.{_≡_, refl, sym, ap, ap₂, _∙_}
 use mathlib.Core.Bool.{Bool, true, false, cond}
-use mathlib.Core.Logic.{inl, inr}
 use mathlib.Core.List.{List, [], _∷_, _++_, append-assoc, append-nil}
 use Rattle.sets.specs.Lists.{kept}
 use Rattle.report.specs.Tables.{Tables, report}
@@ -15,7 +14,7 @@ use Rattle.report.specs.Print.{atLine, printAnswer, printFile, print}
 use Rattle.report.specs.declared.Verdict.{Verdict}
 use Rattle.wall_page.specs.Page.{pageLine, page}
 use Rattle.report_file.specs.declared.Layout.{Layout}
-use Rattle.report_file.specs.Layouts.{answerAs, fileAs, textAs, ShownAt, shownSets, textsOf, Agree}
+use Rattle.report_file.specs.Layouts.{answerAs, fileAs, textAs, ShownAt, shownSets, textsOf, AnswersAgree, Agree}
 
 answer-columns : (T : Tables) (v : Verdict) → answerAs Layout.Columns T v ≡ printAnswer T v
 answer-columns T Verdict.Accepted = refl
@@ -62,17 +61,15 @@ module _ (T : Tables) where
   columns-texts =
       ap (λ (l : List ℕ). line (bytes "accepted") [] ++ l) (sym (texts-kept atLine (permitted T) (λ c. setOf T c (report T)) (configurations T)))
 
--- either both print one line, or the report is accepted and their lines agree
-answers-agree : (T : Tables) (v : Verdict) → answer T (checking 1024) ≡ v
-    → Agree (File.holds T) (answerAs Layout.Columns T v) (answerAs Layout.Page T v)
-answers-agree T Verdict.Accepted e = inr (T, refl, e, columns-texts T, page-texts T)
-answers-agree T (Verdict.Refused r) e = inl refl
+answers-agree : (T : Tables) (v : Verdict) → AnswersAgree T v (answerAs Layout.Columns T v) (answerAs Layout.Page T v)
+answers-agree T Verdict.Accepted = (columns-texts T, page-texts T)
+answers-agree T (Verdict.Refused r) = (refl, refl)
 
 files-agree : (f : File) → Agree f (fileAs Layout.Columns f) (fileAs Layout.Page f)
-files-agree (File.unread n) = inl refl
-files-agree (File.holds T) = answers-agree T (answer T (checking 1024)) refl
+files-agree (File.unread n) = (refl, refl)
+files-agree (File.holds T) = answers-agree T (answer T (checking 1024))
 
--- so of what the programs print for any text
+-- what the two programs print for any text, by what it holds: the same line, or lines that agree
 pub programs-agree : (text : List ℕ) → Agree (fileOf text) (textAs Layout.Columns text) (textAs Layout.Page text)
 unfolding textAs
 programs-agree text = files-agree (fileOf text)

@@ -2,7 +2,6 @@
 use Prim.Native.Nat.{ℕ}
 use mathlib.Core.Path.{_≡_}
 use mathlib.Core.List.{List, [], _∷_, _++_}
-use mathlib.Core.Logic.{_⊎_}
 use Rattle.sets.specs.Lists.{kept}
 use Rattle.report.specs.Tables.{Tables, report}
 use Rattle.report.specs.Expressions.{configurations, permitted}
@@ -49,10 +48,14 @@ abbrev pub textsOf : (ℕ → ℕ → List ℕ) → List ShownAt → List ℕ
 textsOf text [] = []
 textsOf text (x ∷ xs) = text (x .configuration) (x .set) ++ textsOf text xs
 
--- of what a file holds: either both layouts print one line, the same; or the report is accepted, and the lines of both are those of the same
--- configurations with the same attributes, in the same order
+-- What both layouts print of an answer: refused, its line; accepted, lines of the same configurations with the same attributes, in the same order
+abbrev pub AnswersAgree : Tables → Verdict → List ℕ → List ℕ → Type 0
+AnswersAgree T Verdict.Accepted columns page =
+    (columns ≡ line (bytes "accepted") [] ++ textsOf atLine (shownSets T)) × (page ≡ textsOf pageLine (shownSets T))
+AnswersAgree T (Verdict.Refused r) columns page =
+    (columns ≡ line (bytes "refused") (r .number ∷ r .place ∷ r .item ∷ r .configuration ∷ [])) × (page ≡ columns)
+
+-- and of a file: unread, its line
 abbrev pub Agree : File → List ℕ → List ℕ → Type 0
-Agree f columns page =
-    (page ≡ columns)
-    ⊎ ((T : Tables) × (f ≡ File.holds T) × (answer T (checking 1024) ≡ Verdict.Accepted)
-    × (columns ≡ line (bytes "accepted") [] ++ textsOf atLine (shownSets T)) × (page ≡ textsOf pageLine (shownSets T)))
+Agree (File.unread n) columns page = (columns ≡ line (bytes "unread") (n ∷ [])) × (page ≡ columns)
+Agree (File.holds T) columns page = AnswersAgree T (answer T (checking 1024)) columns page

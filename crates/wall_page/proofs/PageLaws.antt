@@ -129,6 +129,10 @@ page-room permits count rows h = omega (arith, text-length permits count rows h,
 
 -- ---- the answer
 
+-- a refused call leaves what was lent
+pub refused-left : {v : Verdict} {r : Refusal} (new lent : List ℕ) → v ≡ Verdict.Refused r → lent ≡ after v new lent
+refused-left new lent f = ap (λ (x : Verdict). after x new lent) (sym f)
+
 module _ (T : Tables) {checked : Verdict} (before : checked ≡ reportCheck T) (lent : List ℕ) where
   -- what is promised, where the call's answer is known
   answered : {v : Verdict} → v ≡ answer T (writingPage (length lent)) → {r : PageAnswer} {now : List ℕ} → r ≡ pageAnswer v (lineCount T)
@@ -163,10 +167,6 @@ module _ (T : Tables) {checked : Verdict} (before : checked ≡ reportCheck T) (
       -- the answer, where the bytes are what the verdict leaves
       pub late-answers : {r : PageAnswer} {now : List ℕ} → r ≡ pageAnswer late lines → now ≡ after late (written (page T) lent) lent → PageWritten T lent r now
       late-answers e g = answered verdict (e ∙ ap (pageAnswer late) lines-are) g
-
-      -- 23
-      pub short-left : {r : Refusal} → late ≡ Verdict.Refused r → lent ≡ after late (written (page T) lent) lent
-      short-left f = ap (λ (v : Verdict). after v (written (page T) lent) lent) (sym f)
 
       module _ (f : late ≡ Verdict.Accepted) where
         room : Room (pageText permits ((1 * 2 ^ T .features) % 2 ^ 64) columns) lent 0

@@ -9,7 +9,7 @@ use Rattle.sets.proofs.WritingLaws.{same-length}
 use Rattle.report.specs.Tables.{Tables, tablesOf}
 use Rattle.conditions.proofs.PermittedLaws.{model-room}
 use Rattle.judging.proofs.JudgingLaws.{Rows, own-rows, shifted-few}
-use Rattle.wall_page.proofs.PageLaws.{refused-answers, lines-few, late-answers, short-left, page-read, page-left}
+use Rattle.wall_page.proofs.PageLaws.{refused-answers, lines-few, late-answers, refused-left, page-read, page-left}
 use Rattle.wall_page.proofs.write_page.Statement.{statement}
 use Rattle.wall_page.proofs.write_page.Tie as tie
 
@@ -86,8 +86,7 @@ returns-2 c =
     yes .7
     ∙ page-left (tables y) a lent f (rows t) (l .load .ensures) (p .permitted-count .ensures) (n .refuse-if .ensures) (yes .1 .given .1)
     (yes .4 .ensures))
-    (λ no.
-    no .2 ∙ short-left (tables y) a lent f (rows t) (l .load .ensures) (p .permitted-count .ensures) (n .refuse-if .ensures) (no .1 .given .1))
+    (λ no. no .2 ∙ refused-left _ lent (no .1 .given .1))
     (c .before .match2 .came))
 
 pub write-page-spec : {M : Type 1} → statement M
