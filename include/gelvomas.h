@@ -21,9 +21,9 @@ extern "C" {
 #endif
 
 #define GELVOMAS_VERSION_MAJOR 1
-#define GELVOMAS_VERSION_MINOR 3
+#define GELVOMAS_VERSION_MINOR 4
 #define GELVOMAS_VERSION_PATCH 0
-#define GELVOMAS_VERSION "1.3.0"
+#define GELVOMAS_VERSION "1.4.0"
 
 /* The most there may be of each. There is at least one expression and one query;
    of the others there may be none. */
@@ -58,10 +58,11 @@ extern "C" {
 enum gelvomas_expression {
     GELVOMAS_EXPRESSION_FALSE = 0,
     GELVOMAS_EXPRESSION_TRUE = 1,
-    GELVOMAS_EXPRESSION_FEATURE = 2, /* feature a */
-    GELVOMAS_EXPRESSION_NOT = 3,     /* not expression a */
-    GELVOMAS_EXPRESSION_AND = 4,     /* expressions a and b */
-    GELVOMAS_EXPRESSION_OR = 5       /* expression a or b */
+    GELVOMAS_EXPRESSION_FEATURE = 2,    /* feature a */
+    GELVOMAS_EXPRESSION_NOT = 3,        /* not expression a */
+    GELVOMAS_EXPRESSION_AND = 4,        /* expressions a and b */
+    GELVOMAS_EXPRESSION_OR = 5,         /* expression a or b */
+    GELVOMAS_EXPRESSION_EXACTLY_ONE = 6 /* exactly one of the b features from feature a on is on */
 };
 
 /* Kinds of comparisons. */
@@ -106,7 +107,8 @@ enum gelvomas_refusal_number {
     /* a table's words make no whole forms, or too few or too many (table, 0 to 4) */
     GELVOMAS_REFUSED_LENGTH = 2,
     /* unknown kind, unused word not 0, feature not below `features`, operand not
-       lower (expression) */
+       lower; of GELVOMAS_EXPRESSION_EXACTLY_ONE: b not 1 to 10, a + b over `features`
+       (expression) */
     GELVOMAS_REFUSED_EXPRESSION = 3,
     /* `model` is no expression of table 0 (0) */
     GELVOMAS_REFUSED_MODEL = 4,

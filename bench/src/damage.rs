@@ -1,12 +1,12 @@
 //! Raw damage to tables: words and lengths that no writer of tables would give.
 
 use reference::random::Random;
-use reference::tables::{Tables, PROJECT, RANGES, WIDTHS};
+use reference::tables::{Tables, EXACTLY_ONE, PROJECT, RANGES, WIDTHS};
 
 /// One to three damages. Some of them leave the tables sound.
 pub fn damage(random: &mut Random, tables: &mut Tables) {
     for _ in 0..random.pick(&[1, 1, 1, 1, 2, 3]) {
-        match random.below(16) {
+        match random.below(18) {
             0..=3 => change_words(random, tables),
             4..=6 => change_forms(random, tables),
             7 | 8 => change_reference(random, tables),
@@ -14,6 +14,7 @@ pub fn damage(random: &mut Random, tables: &mut Tables) {
             10 | 11 => change_length(random, tables),
             12 => fill_up(random, tables),
             13 => lengthen(random, tables),
+            14 | 15 => change_range(random, tables),
             _ => pass_16_bits(random, tables),
         }
     }
@@ -84,6 +85,24 @@ fn change_reference(random: &mut Random, tables: &mut Tables) {
             .saturating_sub(random.below(2)),
     };
     tables.words_mut(table)[form * width + word] = number as u16;
+}
+
+/// An expression becomes exactly one of a range of features at its limits: of none,
+/// of all, of 10, of 11, of 65535; up to n, past it by one, or past 65535.
+fn change_range(random: &mut Random, tables: &mut Tables) {
+    let forms = tables.count(0);
+    if forms == 0 {
+        return;
+    }
+    let form = random.below(forms);
+    let features = tables.features as u16;
+    let more = features.wrapping_add(1);
+    let count = random.pick(&[0, 1, 2, features, more, 10, 11, 65535]);
+    let small = random.below(12) as u16;
+    let end = random.pick(&[features, features, more, more, small]);
+    // A count that is higher than the end starts it below 0, so near 65535.
+    let first = end.wrapping_sub(count);
+    tables.expressions[3 * form..3 * form + 3].copy_from_slice(&[EXACTLY_ONE, first, count]);
 }
 
 fn change_head(random: &mut Random, tables: &mut Tables) {

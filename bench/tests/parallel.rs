@@ -56,6 +56,30 @@ fn full_reports_are_the_same() {
     assert!(answers.contains_key(&0));
 }
 
+/// Every range of every number of features, each the condition of an attribute.
+#[test]
+fn ranges_are_the_same() {
+    for features in 1..=10 {
+        let from = |first: u16| (1..=features - first).map(move |count| [6, first, count]);
+        let mut expressions = vec![[1, 0, 0]];
+        expressions.extend((0..features).flat_map(from));
+        let entries = (1..expressions.len() as u16).map(|e| [e - 1, e]);
+        let entries: Vec<[u16; 2]> = entries.collect();
+        let tables = Tables {
+            features: features.into(),
+            attributes: 64,
+            model: 0,
+            expressions: expressions.concat(),
+            entries: entries.concat(),
+            relations: vec![0, entries.len() as u16],
+            queries: vec![1, 0, 0, 0],
+            ..Tables::default()
+        };
+        let number = compared(&tables, ROWS, &format!("ranges of {features}"));
+        assert_eq!(number, 0);
+    }
+}
+
 #[test]
 fn rows_of_another_length_are_refused() {
     for length in [0, 1, ROWS - 1, ROWS + 1] {

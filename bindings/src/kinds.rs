@@ -13,6 +13,25 @@ pub mod expression {
     pub const AND: u16 = 4;
     /// Expression a or b.
     pub const OR: u16 = 5;
+    /// Exactly one of the b features from feature a on is on. b is 1 to 10, and a + b
+    /// at most the number of features.
+    ///
+    /// ```
+    /// use gelvomas::{expression, query, Tables};
+    ///
+    /// // The model: a quay is tidal (feature 0), locked (1) or floating (2), never two.
+    /// let quay = Tables {
+    ///     features: 3,
+    ///     model: 0,
+    ///     expressions: &[expression::EXACTLY_ONE, 0, 3],
+    ///     queries: &[query::EMPTY, 0, 0, 0],
+    ///     ..Tables::default()
+    /// };
+    /// let mut bytes = [0; gelvomas::MAX_PAGE];
+    /// let lines = gelvomas::page(&quay, &mut bytes);
+    /// assert_eq!(lines, Ok(3)); // of configurations 1, 2 and 4
+    /// ```
+    pub const EXACTLY_ONE: u16 = 6;
 }
 
 /// Kinds of comparisons: word 0 of a form of table 3.

@@ -74,7 +74,9 @@ impl Display for Refusal {
             (Refusal::EXPRESSION, _) => write!(
                 f,
                 "expression {place} has an unknown kind, an unused word that is not 0, \
-                 a feature past the head's number, or an operand that is not lower"
+                 a feature or a range of features past the head's number, \
+                 a range that is not of 1 to 10 features, \
+                 or an operand that is not lower"
             ),
             (Refusal::MODEL, _) => write!(f, "the model is not in table 0"),
             (Refusal::ENTRY, _) => write!(

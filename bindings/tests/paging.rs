@@ -262,7 +262,7 @@ fn the_form_is_checked_before_the_page() {
         ..H1
     };
     let unknown = Tables {
-        expressions: &[1, 0, 0, 2, 0, 0, 6, 1, 0],
+        expressions: &[1, 0, 0, 2, 0, 0, 7, 1, 0],
         ..H1
     };
     let attribute = Tables {

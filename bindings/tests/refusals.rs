@@ -19,7 +19,7 @@ fn each_refusal_is_said_in_words() {
         ([1, 0, 0, 0], "the head has over 10 features"),
         ([1, 1, 0, 0], "the head has over 64 attributes"),
         ([2, 3, 0, 0], "table 3 has words that make no whole forms, or has too few or too many forms"),
-        ([3, 4, 0, 0], "expression 4 has an unknown kind, an unused word that is not 0, a feature past the head's number, or an operand that is not lower"),
+        ([3, 4, 0, 0], "expression 4 has an unknown kind, an unused word that is not 0, a feature or a range of features past the head's number, a range that is not of 1 to 10 features, or an operand that is not lower"),
         ([4, 0, 0, 0], "the model is not in table 0"),
         ([5, 6, 0, 0], "entry 6 has an attribute past the head's number, or an expression that is not in table 0"),
         ([6, 7, 0, 0], "relation 7 has an expression that is not in table 0, or a list past table 1"),

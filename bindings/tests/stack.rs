@@ -35,10 +35,11 @@ fn expressions() -> Vec<u16> {
     forms.extend((3..=FEATURES).map(|form| [expression::AND, form + FEATURES - 2, form]));
     forms.push([expression::NOT, NOT_LAST - 1, 0]);
     for form in NOT_LAST + 1..MAX_EXPRESSIONS as u16 {
-        forms.push(match form % 3 {
+        forms.push(match form % 4 {
             0 => [expression::NOT, form - 1, 0],
             1 => [expression::AND, form - 1, form - 2],
-            _ => [expression::OR, form - 1, form - 2],
+            2 => [expression::OR, form - 1, form - 2],
+            _ => [expression::EXACTLY_ONE, 0, FEATURES],
         });
     }
     forms.concat()

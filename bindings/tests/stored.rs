@@ -194,10 +194,10 @@ fn every_stored_case_has_its_answer() {
     }
     // How many there are of each. After a case more or fewer, it is to be changed.
     let wanted = [
-        ("check", 158),
-        ("configure", 33),
-        ("find", 57),
-        ("page", 98),
+        ("check", 215),
+        ("configure", 40),
+        ("find", 63),
+        ("page", 101),
         ("text", 27),
     ];
     assert_eq!(

@@ -22,11 +22,18 @@ pub fn values(tables: &Tables, configuration: u64) -> Vec<bool> {
             3 => !holds[a],
             4 => holds[a] && holds[b],
             5 => holds[a] || holds[b],
+            6 => on_in_range(configuration, a, b) == 1,
             _ => panic!("check 3 lets no other kind pass"),
         };
         holds.push(value);
     }
     holds
+}
+
+/// How many of the `count` features from `first` on are on.
+fn on_in_range(configuration: u64, first: usize, count: usize) -> usize {
+    let features = first..first + count;
+    features.filter(|f| configuration >> f & 1 == 1).count()
 }
 
 /// The permitted configurations, ascending: those where the model holds.

@@ -5,7 +5,8 @@
 use std::ops::Range;
 
 use crate::refusal::Refusal;
-use crate::tables::{self, Tables, MOST_ATTRIBUTES, MOST_FEATURES, RANGES, WIDTHS};
+use crate::tables::{self, Tables, MOST_ATTRIBUTES, MOST_FEATURES, MOST_IN_RANGE};
+use crate::tables::{RANGES, WIDTHS};
 
 /// Where each list lies in table 1: "relation 0's, relation 1's and so on,
 /// then each project form's in query order". A query that is no project has an
@@ -58,7 +59,8 @@ fn lengths(tables: &Tables) -> Result<(), Refusal> {
     Ok(())
 }
 
-/// 3: unknown kind, unused word not 0, feature >= n, operand not lower.
+/// 3: unknown kind, unused word not 0, feature >= n, operand not lower, count
+/// outside 1 to 10, range that passes n.
 fn expressions(tables: &Tables) -> Result<(), Refusal> {
     for form in 0..tables.count(0) {
         if !expression_is_sound(tables, form) {
@@ -76,8 +78,16 @@ fn expression_is_sound(tables: &Tables, form: usize) -> bool {
         2 => u64::from(a) < tables.features && b == 0,
         3 => lower(a) && b == 0,
         4 | 5 => lower(a) && lower(b),
+        6 => range_is_sound(tables, a, b),
         _ => false,
     }
+}
+
+/// Is the count 1 to 10, and does the range end at n or before? Where it ends may
+/// be past 65535, so it is counted in 64 bits.
+fn range_is_sound(tables: &Tables, first: u16, count: u16) -> bool {
+    let end = u64::from(first) + u64::from(count);
+    (1..=MOST_IN_RANGE).contains(&count) && end <= tables.features
 }
 
 /// 4: model not in table 0.

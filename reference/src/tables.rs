@@ -10,6 +10,13 @@ pub const RANGES: [(usize, usize); 5] = [(1, 256), (0, 512), (0, 32), (0, 256), 
 pub const MOST_FEATURES: u64 = 10;
 pub const MOST_ATTRIBUTES: u64 = 64;
 
+/// The kind of table 0 that holds when exactly one of a range of features is on:
+/// a is the first of them, b how many.
+pub const EXACTLY_ONE: u16 = 6;
+
+/// A range has "1 to 10" features.
+pub const MOST_IN_RANGE: u16 = 10;
+
 /// Kinds of table 4 that the code names.
 pub const EMPTY: u16 = 0;
 pub const RELATION: u16 = 1;

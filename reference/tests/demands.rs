@@ -2,12 +2,11 @@
 
 mod common;
 
-use common::{checked, checked_with, configured_with, source_room, LENT_WORD};
+use common::{checked, checked_with, configured_with, source_room, written};
 use reference::check::shown;
 use reference::generate::{self, Family};
 use reference::plain::{self, Attributes};
 use reference::random::Random;
-use reference::tables::WIDTHS;
 use reference::{expression, form, Refusal, Tables};
 
 /// Cases of all families, the full ones being rare.
@@ -122,21 +121,6 @@ fn all_other_bits_are_0() {
     }
 }
 
-/// The plain tables that the call wrote, with their fixed head and expression.
-fn written(tables: &Tables, counts: [usize; 4], out: &[Vec<u16>; 4]) -> Tables {
-    let words = |table: usize| out[table - 1][..counts[table - 1] * WIDTHS[table]].to_vec();
-    Tables {
-        features: 0,
-        attributes: tables.attributes,
-        model: 0,
-        expressions: vec![1, 0, 0],
-        entries: words(1),
-        relations: words(2),
-        comparisons: words(3),
-        queries: words(4),
-    }
-}
-
 #[test]
 fn configured_tables_are_accepted_and_show_the_same() {
     let mut random = Random::new(5);
@@ -146,17 +130,13 @@ fn configured_tables_are_accepted_and_show_the_same() {
         for _ in 0..3 {
             let c = permitted[random.below(permitted.len())].configuration;
             let longer = source_room(&tables).map(|words| words + random.below(3));
-            let (counts, out) = configured_with(&tables, c, longer).expect("room is there");
-            let plain = written(&tables, counts, &out);
+            let lent = configured_with(&tables, c, longer).expect("room is there");
+            let plain = written(&tables, lent);
             let plain_rows = checked(&plain).expect("plain tables are accepted");
             assert_eq!(shown(&plain_rows, 0), shown(&rows, c));
-            for table in 1..=4 {
-                let end = counts[table - 1] * WIDTHS[table];
-                assert!(out[table - 1][end..].iter().all(|&w| w == LENT_WORD));
-            }
             // Configured once more, they stay as they are.
             let again = configured_with(&plain, 0, source_room(&plain)).expect("accepted");
-            assert_eq!(written(&plain, again.0, &again.1), plain);
+            assert_eq!(written(&plain, again), plain);
         }
     }
 }

@@ -4,13 +4,14 @@ mod common;
 
 use std::collections::{BTreeMap, BTreeSet};
 
+use common::readings::{self, WRONG};
 use common::{checked, first_that_hold, lists_at, paged_with, Listed};
-use reference::check::{self, shown};
+use reference::check::{self, shown, ROWS};
 use reference::generate::{self, is_crossed, is_small, outcome};
 use reference::generate::{Answer, Family, Kept, AIMS, DIGITS, LIMITS, ROOMS};
 use reference::random::Random;
 use reference::small::{self, Case};
-use reference::tables::{operands, RANGES};
+use reference::tables::{operands, EXACTLY_ONE, RANGES};
 use reference::{expression, find, Tables};
 
 /// Accepted, with more than one permitted configuration and column set.
@@ -54,7 +55,7 @@ fn every_limit_is_hit() {
     let mut random = Random::new(3);
     for limit in LIMITS {
         let mut hits = 0;
-        for seed in 0..400 {
+        for seed in 0..2000 {
             let mut tables = match seed % 2 {
                 0 => generate::accepted(seed),
                 _ => generate::small_accepted(&mut random),
@@ -90,7 +91,7 @@ fn kinds_sizes_and_orders_vary() {
     println!("shared {shared} disordered {disordered} nowhere {nowhere} guarded {guarded}");
     assert!((0..=10).all(|n| features.contains(&n)));
     assert!([0, 1, 2, 64].iter().all(|m| attributes.contains(m)));
-    assert_eq!(kinds.len(), 6 + 8 + 8);
+    assert_eq!(kinds.len(), 7 + 8 + 8);
     assert!(shared > 200 && disordered > 400 && nowhere > 200 && guarded > 200);
 }
 
@@ -243,6 +244,107 @@ fn repeats_are_no_rare_thing() {
     let small = sorts_of_repeats(checks);
     assert!(small["a repeat"] >= 500 && small["accepted, and not by one entry"] >= 100);
     assert!(small["14 by a repeat"] >= 15 && small["17 by a repeat"] >= 15);
+}
+
+/// The expressions that something names, and what it is.
+fn named_expressions(tables: &Tables) -> Vec<(u64, &'static str)> {
+    let mut named = vec![(tables.model, "the model")];
+    let mut name = |expression: u16, place| named.push((u64::from(expression), place));
+    for form in 0..tables.count(0) {
+        match tables.expression(form) {
+            [3, a, _] => name(a, "under not"),
+            [4 | 5, a, b] => [a, b].iter().for_each(|&e| name(e, "under and, or")),
+            _ => {}
+        }
+    }
+    (0..tables.count(1)).for_each(|entry| name(tables.entry(entry)[1], "an entry's"));
+    (0..tables.count(2)).for_each(|number| name(tables.relation(number)[0], "a relation's"));
+    for form in 0..tables.count(3) {
+        if let [7, _, a, ..] = tables.comparison(form) {
+            name(a, "a comparison's");
+        }
+    }
+    for form in 0..tables.count(4) {
+        if let [4, a, ..] = tables.query(form) {
+            name(a, "a query's");
+        }
+    }
+    named
+}
+
+/// The numbers of the expressions of kind 6.
+fn ranges_of(tables: &Tables) -> BTreeSet<u64> {
+    let is_range = |&form: &u64| tables.expression(form as usize)[0] == EXACTLY_ONE;
+    (0..tables.count(0) as u64).filter(is_range).collect()
+}
+
+/// How often the tables have expression kind 6 in each place, where they are
+/// accepted, and how often 3 refuses it.
+fn sorts_of_ranges(cases: impl Iterator<Item = Tables>) -> BTreeMap<&'static str, u64> {
+    let mut sorts = BTreeMap::new();
+    for tables in cases {
+        let ranges = ranges_of(&tables);
+        let mut named = named_expressions(&tables);
+        named.retain(|(expression, _)| ranges.contains(expression));
+        let different: BTreeSet<u64> = named.iter().map(|named| named.0).collect();
+        let mut of_case: BTreeSet<&str> = BTreeSet::new();
+        match checked(&tables) {
+            Ok(_) if !ranges.is_empty() => {
+                of_case.insert("accepted");
+                of_case.extend(named.iter().map(|named| named.1));
+                of_case.extend((different.len() < named.len()).then_some("shared"));
+            }
+            Err(refusal) if refusal.number == 3 && ranges.contains(&refusal.place) => {
+                of_case.insert("refused");
+            }
+            _ => {}
+        }
+        for sort in of_case {
+            *sorts.entry(sort).or_default() += 1;
+        }
+    }
+    println!("{sorts:?}");
+    sorts
+}
+
+/// Exactly one of a range of features: accepted, in every place where there is an
+/// expression, and refused.
+#[test]
+fn ranges_are_no_rare_thing() {
+    let times = sorts_of_ranges((0..6000).map(generate::case));
+    assert_eq!(times.len(), 10);
+    assert!(times.values().all(|&times| times >= 60), "{times:?}");
+    let small = (0..3600).filter_map(|seed| tables_of(&small::case(seed)).cloned());
+    let times = sorts_of_ranges(small);
+    assert_eq!(times.len(), 10);
+    assert!(times.values().all(|&times| times >= 20), "{times:?}");
+}
+
+/// Calls of which each wrong way to read kind 6 would be told.
+#[test]
+fn ranges_show_how_they_are_read() {
+    let tables = (0..6000).map(generate::case);
+    let checks = tables.map(|tables| Case::Check { tables, room: ROWS });
+    let varied = wrong_readings(checks);
+    assert!(varied.values().all(|&times| times >= 8), "{varied:?}");
+    let small = wrong_readings((0..3600).map(small::case));
+    assert!(small.values().all(|&times| times >= 5), "{small:?}");
+}
+
+/// How many of the calls tell each wrong reading from the right one.
+fn wrong_readings(calls: impl Iterator<Item = Case>) -> BTreeMap<&'static str, u64> {
+    let mut told = BTreeMap::new();
+    let has_range = |case: &Case| tables_of(case).is_some_and(|t| !ranges_of(t).is_empty());
+    for case in calls.filter(has_range) {
+        let right = small::answer(&case);
+        for reading in &WRONG {
+            let wrong = readings::answer(&case, reading);
+            let is_told = wrong.is_some_and(|wrong| wrong != right);
+            *told.entry(reading.words).or_default() += u64::from(is_told);
+        }
+    }
+    println!("{told:?}");
+    told
 }
 
 /// Lists of which no shorter one is left, and of all attributes at once.
@@ -553,7 +655,7 @@ const WRONG_LINES: &[WrongLines] = &[
 #[test]
 fn small_cases_cover_everything() {
     let mut outcomes: BTreeMap<(&str, String), u64> = BTreeMap::new();
-    for seed in 0..3530 {
+    for seed in 0..3600 {
         let case = small::case(seed);
         assert!(tables_of(&case).is_none_or(is_small));
         let call = match &case {

@@ -5,12 +5,11 @@
 mod common;
 
 use common::{checked, configured_with, first_that_hold, lists_at};
-use common::{refused, source_room, LENT_WORD};
+use common::{refused, source_room, written};
 use reference::check::shown;
 use reference::generate::{self, Family, Kept};
 use reference::plain::{self, Attributes, Tree};
 use reference::random::Random;
-use reference::tables::WIDTHS;
 use reference::{expression, find, form, Tables};
 
 // The harbour of all tests: features swaps 0 and gates 1, attributes vessel 0,
@@ -61,7 +60,7 @@ fn columns(tables: &Tables) -> [u64; 4] {
 /// The attributes of each list that configuring writes: the relations', then
 /// the projects'.
 fn written_lists(tables: &Tables, c: u64) -> Vec<Vec<u16>> {
-    let plain = written(tables, c);
+    let plain = written_at(tables, c);
     let lists = form::check(&plain).expect("sound in form");
     let is_project = |form: &usize| plain.query(*form)[0] == 3;
     let projects = (0..plain.count(4)).filter(is_project);
@@ -72,23 +71,9 @@ fn written_lists(tables: &Tables, c: u64) -> Vec<Vec<u16>> {
 }
 
 /// The tables that configuring writes. Every expression in them is 0.
-fn written(tables: &Tables, c: u64) -> Tables {
-    let (counts, out) = configured_with(tables, c, source_room(tables)).expect("accepted");
-    let words = |table: usize| {
-        let (words, rest) = out[table - 1].split_at(counts[table - 1] * WIDTHS[table]);
-        assert!(rest.iter().all(|&word| word == LENT_WORD));
-        words.to_vec()
-    };
-    let plain = Tables {
-        features: 0,
-        attributes: tables.attributes,
-        model: 0,
-        expressions: vec![1, 0, 0],
-        entries: words(1),
-        relations: words(2),
-        comparisons: words(3),
-        queries: words(4),
-    };
+fn written_at(tables: &Tables, c: u64) -> Tables {
+    let lent = configured_with(tables, c, source_room(tables)).expect("accepted");
+    let plain = written(tables, lent);
     assert!((0..plain.count(1)).all(|entry| plain.entry(entry)[1] == 0));
     plain
 }
@@ -407,7 +392,7 @@ fn what_configuring_writes_has_no_repeats() {
         let Ok(rows) = checked(&tables) else { continue };
         let permitted = expression::permitted(&tables);
         let c = permitted[random.below(permitted.len())].configuration;
-        let plain = written(&tables, c);
+        let plain = written_at(&tables, c);
         assert!(!generate::has_repeat(&plain), "{tables:?} at {c}");
         let plain_rows = checked(&plain).expect("accepted");
         assert_eq!(shown(&plain_rows, 0), shown(&rows, c));

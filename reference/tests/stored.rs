@@ -82,6 +82,20 @@ fn the_vectors_have_pages_at_every_limit() {
     }
 }
 
+/// Expression kind 6 in files that are accepted, and in files that 3 refuses.
+#[test]
+fn the_vectors_have_ranges_of_features() {
+    let has_range = |case: &&Vector| case.text.windows(14).any(|w| w == b"(expression 6 ");
+    let ranged = cases().iter().filter(has_range);
+    let prints: Vec<Vec<u8>> = ranged.map(|case| print_file(&case.text)).collect();
+    for (start, least) in [("(accepted)", 80), ("(refused 3 ", 12)] {
+        let starts = prints.iter().filter(|p| p.starts_with(start.as_bytes()));
+        let times = starts.count();
+        println!("{start} {times}");
+        assert!(times >= least, "{start}");
+    }
+}
+
 #[test]
 fn the_examples_have_their_print_and_their_page_beside_them() {
     let examples = examples();

@@ -1,8 +1,8 @@
 //! The time of the whole check at full size, ours and the reference's, which goes
 //! configuration by configuration, in one run and in a thread with a stack of
 //! 1 MiB; on three workloads also that of all configurations at once
-//! (`bench::parallel`); the time of configuring; that of finding, to our check's; and
-//! that of the page.
+//! (`bench::parallel`); the time of configuring; that of finding, to our check's; that
+//! of the page; and that of the check of a table of expression kind 6 alone.
 
 use std::collections::BTreeMap;
 use std::hint::black_box;
@@ -15,6 +15,7 @@ use reference::check::ROWS;
 use reference::generate;
 use reference::page::{LINE, MOST_LINES};
 use reference::random::Random;
+use reference::tables::EXACTLY_ONE;
 use reference::{expression, Refusal, Tables};
 
 const STACK: usize = 1 << 20;
@@ -64,7 +65,8 @@ fn run() -> Result<(), String> {
     time_configuring(&workloads[..2])?;
     time_configuring(&[("one attribute, 512 times", one_attribute())])?;
     time_finding(&workloads[..2])?;
-    time_paging(&workloads[..2])
+    time_paging(&workloads[..2])?;
+    time_ranges()
 }
 
 fn say_goal(goal: f64, met: bool) {
@@ -76,11 +78,19 @@ fn say_goal(goal: f64, met: bool) {
 
 fn time_checks(workloads: &[Workload]) -> Result<(), String> {
     println!("medians of {TIMES} measurements, ours and the reference's in turn; µs a call; a stack of 1 MiB");
+    let ratios = check_ratios(workloads)?;
+    say_goal(GOAL, ratios.iter().all(|&ratio| ratio <= GOAL));
+    Ok(())
+}
+
+/// Prints the times of each workload's check, and gives the ratios of ours to the
+/// reference's.
+fn check_ratios(workloads: &[Workload]) -> Result<Vec<f64>, String> {
     println!(
         "{:<26} {:>8} {:>10} {:>7} {:>9} {:>7}  answer",
         "workload", "ours", "reference", "ratio", "parallel", "ratio"
     );
-    let mut met = true;
+    let mut ratios = Vec::new();
     for (name, tables) in workloads {
         let answer =
             same_answer(tables).ok_or_else(|| format!("{name}: the answers or the rows differ"))?;
@@ -89,7 +99,7 @@ fn time_checks(workloads: &[Workload]) -> Result<(), String> {
             [tables; 3],
             [Call::Check, Call::ReferenceCheck, Call::ParallelCheck],
         );
-        met &= ours / theirs <= GOAL;
+        ratios.push(ours / theirs);
         println!(
             "{name:<26} {ours:>8.1} {theirs:>10.1} {:>7.3} {parallel:>9.1} {:>7.2}  {}",
             ours / theirs,
@@ -97,8 +107,7 @@ fn time_checks(workloads: &[Workload]) -> Result<(), String> {
             words(answer)
         );
     }
-    say_goal(GOAL, met);
-    Ok(())
+    Ok(ratios)
 }
 
 /// The reference's time goes with the number of permitted configurations.
@@ -243,6 +252,21 @@ fn same_page(tables: &Tables) -> Option<usize> {
     let lines = reference::page(tables, &mut theirs);
     let same = bench::page(tables, &mut mine) == Ok(lines) && mine == theirs;
     lines.ok().filter(|_| same)
+}
+
+/// The expression rows of kind 6: beside them there is next to nothing, which the
+/// first line shows.
+fn time_ranges() -> Result<(), String> {
+    println!("(h) the check of expressions of kind 6 alone, with the smallest report:");
+    let workloads = [
+        ("one, of ten features", ranges(1, |_| FEATURES)),
+        ("256, of ten features", ranges(FORMS, |_| FEATURES)),
+        (
+            "256, of one to ten",
+            ranges(FORMS, |form| FEATURES - form % FEATURES),
+        ),
+    ];
+    check_ratios(&workloads).map(drop)
 }
 
 /// The configuration of (e): every other feature is on.
@@ -390,6 +414,23 @@ fn one_attribute() -> Tables {
         relations: vec![0, 512],
         comparisons: vec![],
         queries: vec![1, 0, 0, 0],
+    }
+}
+
+/// So many expressions of kind 6, each of as many features as `count` gives for its
+/// number, from the first feature on or later; the first expression is the model,
+/// exactly one of all features. The report is empty.
+fn ranges(forms: u16, count: fn(u16) -> u16) -> Tables {
+    let range = |form: u16| {
+        let count = count(form);
+        [EXACTLY_ONE, form / FEATURES % (FEATURES - count + 1), count]
+    };
+    Tables {
+        features: FEATURES.into(),
+        model: 0,
+        expressions: (0..forms).flat_map(range).collect(),
+        queries: vec![0; 4],
+        ..Tables::default()
     }
 }
 

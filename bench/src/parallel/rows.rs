@@ -39,7 +39,8 @@ pub fn fill(features: u64, expressions: &[u16], rows: &mut [Row; FORMS]) {
             2 => on[x & 15],
             3 => without(&all, &rows[x]),
             4 => both(&rows[x], &rows[y]),
-            _ => either(&rows[x], &rows[y]),
+            5 => either(&rows[x], &rows[y]),
+            _ => exactly_one(&on[x..x + y]),
         };
         rows[form & 255] = row;
     }
@@ -62,6 +63,18 @@ fn feature(a: usize) -> Row {
         Some(&low) => [low; WORDS],
         None => std::array::from_fn(|word| 0u64.wrapping_sub((word >> (a - 6) & 1) as u64)),
     }
+}
+
+/// The configurations that are in exactly one of the rows.
+#[inline]
+fn exactly_one(rows: &[Row]) -> Row {
+    let mut some = [0; WORDS];
+    let mut more = [0; WORDS];
+    for row in rows {
+        more = either(&more, &both(&some, row));
+        some = either(&some, row);
+    }
+    without(&some, &more)
 }
 
 #[inline(always)]

@@ -13,7 +13,7 @@ use Rattle.sets.proofs.ListLaws.{concat-length}
 use Rattle.sets.proofs.RowLaws.{rowOf-same, rowOf-row, within-all, join-within, intersect-rowOf, intersect-within, complement-within}
 use Rattle.sets.proofs.RowLaws.{rowIn-concat, withRow-more}
 use Rattle.report.specs.Tables.{Tables, expression, expressionCount}
-use Rattle.report.specs.Expressions.{truthOf, holds}
+use Rattle.report.specs.Expressions.{exactlyOneOn, truthOf, holds}
 use Rattle.report.specs.Configuring.{written}
 use Rattle.report.specs.FormChecks.{expressionFits, expressionsCheck, expressionOk}
 use Rattle.report.specs.Formed.{Formed, ExpressionLower}
@@ -35,6 +35,7 @@ lower-more n m f g h k (Expression.Feature a) l = omega arith
 lower-more n m f g h k (Expression.Not a) l = omega arith
 lower-more n m f g h k (Expression.And a b) l = omega arith
 lower-more n m f g h k (Expression.Or a b) l = omega arith
+lower-more n m f g h k (Expression.ExactlyOne a b) l = omega arith
 
 none-row : (n : ℕ) → rowOf 16 (λ c. false) ≡ rowOf 16 (within n (λ c. false))
 none-row n = rowOf-same 16 (λ c. false) (within n (λ c. false)) (λ c h. go (ltb c (2 ^ n)))
@@ -43,10 +44,10 @@ none-row n = rowOf-same 16 (λ c. false) (within n (λ c. false)) (λ c h. go (l
     go true = refl
     go false = refl
 
-feature-row : (n a : ℕ) → rowIntersect 16 (rowOf 16 (within n (λ c. true))) (rowOf 16 (λ c. bit c a)) ≡ rowOf 16 (within n (λ c. bit c a))
-feature-row n a =
-    intersect-rowOf 16 (within n (λ c. true)) (λ c. bit c a)
-    ∙ rowOf-same 16 _ _ (λ c h. ap (λ (t : Bool). t && bit c a) (within-all n c))
+-- what holds whatever the number of features, of the configurations of n
+whole-row : (n : ℕ) (p : ℕ → Bool) → rowIntersect 16 (rowOf 16 (within n (λ c. true))) (rowOf 16 p) ≡ rowOf 16 (within n p)
+whole-row n p =
+    intersect-rowOf 16 (within n (λ c. true)) p ∙ rowOf-same 16 _ _ (λ c h. ap (λ (t : Bool). t && p c) (within-all n c))
 
 module _ (n : ℕ) (expressions rows : List ℕ) (f : ℕ) (below : (e : ℕ) → e < f → rowIn 16 rows e ≡ expressionRow n expressions e) where
   -- the row of an expression whose operands are below f, where the rows of those are there
@@ -55,7 +56,7 @@ module _ (n : ℕ) (expressions rows : List ℕ) (f : ℕ) (below : (e : ℕ) �
   step-truth Expression.Malformed l = absurd l
   step-truth Expression.False l = none-row n
   step-truth Expression.True l = refl
-  step-truth (Expression.Feature a) l = feature-row n a
+  step-truth (Expression.Feature a) l = whole-row n (λ c. bit c a)
   step-truth (Expression.Not a) l =
       ap (rowMinus 16 (rowOf 16 (within n (λ c. true)))) (below a l) ∙ complement-within 16 n (λ c. holds expressions c a)
   step-truth (Expression.And a b) l =
@@ -63,6 +64,7 @@ module _ (n : ℕ) (expressions rows : List ℕ) (f : ℕ) (below : (e : ℕ) �
       ∙ intersect-within 16 n (λ c. holds expressions c a) (λ c. holds expressions c b)
   step-truth (Expression.Or a b) l =
       ap₂ (rowJoin 16) (below a (l .0)) (below b (l .1)) ∙ join-within 16 n (λ c. holds expressions c a) (λ c. holds expressions c b)
+  step-truth (Expression.ExactlyOne a b) l = whole-row n (exactlyOneOn a b)
 
   step-row : ExpressionLower n f (expression expressions f)
       → stepRow (rowOf 16 (within n (λ c. true))) rows (expression expressions f) ≡ expressionRow n expressions f

@@ -1,3 +1,4 @@
+pub mod ExactlyOneRow
 pub mod FillLaws
 pub mod PermittedLaws
 pub mod CheckLaws

@@ -7,6 +7,7 @@ use Rattle.sets.specs.Search.{seek}
 use Rattle.sets.specs.Bits.{bit}
 use Rattle.sets.specs.Rows.{rowOf, rowIn, rowJoin, rowIntersect, rowMinus, rowIsEmpty}
 use Rattle.report.specs.Tables.{entryAttribute, entryExpression, relationExpression, relationLength}
+use Rattle.report.specs.Expressions.{exactlyOneOn}
 use Rattle.report.specs.Verdicts.{refusal, refuseIf, refuseAt, orElse}
 use Rattle.report.specs.declared.Expression.{Expression}
 use Rattle.report.specs.declared.Verdict.{Verdict}
@@ -20,6 +21,7 @@ stepRow full rows (Expression.Feature a) = rowIntersect 16 full (rowOf 16 (λ c.
 stepRow full rows (Expression.Not a) = rowMinus 16 full (rowIn 16 rows a)
 stepRow full rows (Expression.And a b) = rowIntersect 16 (rowIn 16 rows a) (rowIn 16 rows b)
 stepRow full rows (Expression.Or a b) = rowJoin 16 (rowIn 16 rows a) (rowIn 16 rows b)
+stepRow full rows (Expression.ExactlyOne a b) = rowIntersect 16 full (rowOf 16 (exactlyOneOn a b))
 
 -- entry k holds nowhere that `present` has
 abbrev pub apartIn : List ℕ → List ℕ → List ℕ → ℕ → Bool

@@ -78,6 +78,7 @@ fn expression_of(kind: usize, a: usize, b: usize) -> Expression
         3 => whole_expression(b == 0, Expression::Not(a)),
         4 => Expression::And(a, b),
         5 => Expression::Or(a, b),
+        6 => Expression::ExactlyOne(a, b),
         _ => Expression::Malformed,
     }
 }

@@ -1,20 +1,22 @@
--- The promises and the theorems of Demands are about something: calls on H1 (docs/FORMAT.md, "Worked examples"), by computation.
+-- The promises and the theorems of this crate are about something: calls on H1 and on others of docs/FORMAT.md, "Worked examples", by computation.
 use Prim.Native.Nat.{ℕ, zero, suc, _<_}
-use mathlib.Core.Path.{_≡_, refl, sym, ap}
-use mathlib.Core.Bool.{true, false}
+use mathlib.Core.Path.{_≡_, refl, sym, ap, _∙_}
+use mathlib.Core.Bool.{true, false, false≢true}
 use mathlib.Core.List.{List, [], _∷_}
+use mathlib.Core.Logic.{inr}
 use native.Mathlib.Omega.{arith}
 use lib.ListN.{replicate, getD}
 use lib.Dec.{lit≤}
+use Rattle.sets.proofs.BitLaws.{bit-none}
 use Rattle.report.specs.Tables.{tablesOf, query, relationLength, relationStart, projectLength, projectStart}
 use Rattle.report.specs.Expressions.{permitted}
 use Rattle.report.specs.ColumnRows.{columnRows}
 use Rattle.report.specs.ConfiguredReport.{plainQueryAt, keptAttributes}
 use Rattle.report.specs.Verdicts.{refusal, after}
 use Rattle.report.specs.FormChecks.{listFits}
-use Rattle.report.specs.Calls.{configuring}
+use Rattle.report.specs.Calls.{Call, answer, configuring}
 use Rattle.report.specs.Repeats.{relationRepeats, projectRepeats, NoRepeats, answerBefore, configuredBefore}
-use Rattle.report.specs.Examples.{h1, rampTwice}
+use Rattle.report.specs.Examples.{h1, rampTwice, quay}
 use Rattle.report.specs.declared.Verdict.{Verdict}
 use Rattle.report.proofs.ExamplesHold.{computed}
 use Rattle.report.proofs.Guards.{h1-accepted}
@@ -28,10 +30,12 @@ use Rattle.wall_page.specs.Page.{lineCount, pageAfter, PageWritten}
 use Rattle.demands.specs.FoundWritten.{FoundWritten}
 use Rattle.demands.specs.FoundConfiguration.{columnsAt, HoldsAll, LowestWith, NoneWith}
 use Rattle.demands.specs.PageLines.{lineOf, lineAt, LineShows}
+use Rattle.demands.specs.ExactlyOne.{IsKind6, OneOn}
 use Rattle.demands.proofs.Demands.{found-written}
 use Rattle.demands.proofs.Finding.{find-found, find-none}
 use Rattle.demands.proofs.Joined.{configure-once, configure-before}
 use Rattle.demands.proofs.WallPage.{page-shows}
+use Rattle.demands.proofs.ExactlyOne.{range-refused, model-permits, model-found}
 
 -- tables lent with other words in them, table 1 with two words more than its source
 abbrev lent1 : List ℕ
@@ -149,3 +153,35 @@ ramp-marked = h1-line .present 2 (lit≤ tt) .1 refl
 
 pub berth-absent : getD (lineAt (pageAfter (h1 2) lentPage) (lineOf (h1 2) 2)) 6 0 ≡ 46
 berth-absent = h1-line .absent 1 (lit≤ tt) .1 refl
+
+-- A quay that is tidal, locked or floating: its model is of kind 6. `find` answers 1, where the quay is tidal; at 3 it would be two, at 0 none, so
+-- neither is permitted. A range whose end in 16 bits would be 1 is refused
+quay-kind : IsKind6 (quay 3 0 3) 0 0 3
+quay-kind = record { kind = refl; firstIs = refl; countIs = refl }
+
+quay-finds : Finds (quay 3 0 3) 1 (FindAnswer.At 1)
+unfolding computed lowestWanted
+quay-finds = refl
+
+pub quay-found : OneOn 0 3 1
+quay-found = model-found (quay 3 0 3) 0 3 quay-kind 1 (FindAnswer.At 1) quay-finds refl
+
+pub quay-tidal : quay-found .feature ≡ 0
+quay-tidal = sym (quay-found .alone 0 (lit≤ tt) (lit≤ tt) refl)
+
+pub quay-two : permitted (quay 3 0 3) 3 ≡ true → ⊥
+quay-two p =
+    let o = model-permits (quay 3 0 3) 0 3 quay-kind 3 .0 p .1 in
+    let a = o .alone 0 (lit≤ tt) (lit≤ tt) refl in
+    let b = o .alone 1 (lit≤ tt) (lit≤ tt) refl in
+    omega arith
+
+pub quay-none : permitted (quay 3 0 3) 0 ≡ true → ⊥
+quay-none p = let o = model-permits (quay 3 0 3) 0 3 quay-kind 0 .0 p .1 in false≢true (sym (bit-none (o .feature)) ∙ o .on)
+
+far-kind : IsKind6 (quay 3 65535 2) 0 65535 2
+far-kind = record { kind = refl; firstIs = refl; countIs = refl }
+
+pub far-refused : (call : Call) → answer (quay 3 65535 2) call ≡ Verdict.Refused (refusal 3 0 0 0)
+far-refused call =
+    range-refused (quay 3 65535 2) call 0 (lit≤ tt) refl (λ f l. absurd (omega arith)) 65535 2 far-kind (inr (inr (lit≤ tt)))

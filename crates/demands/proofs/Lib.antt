@@ -2,4 +2,5 @@ pub mod Demands
 pub mod Finding
 pub mod Joined
 pub mod WallPage
+pub mod ExactlyOne
 pub mod CallGuards

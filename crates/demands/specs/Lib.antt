@@ -1,3 +1,4 @@
 pub mod FoundWritten
 pub mod FoundConfiguration
 pub mod PageLines
+pub mod ExactlyOne

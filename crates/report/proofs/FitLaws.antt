@@ -26,6 +26,7 @@ expression-fits n f (Expression.Feature a) l = lt-ltb a n l
 expression-fits n f (Expression.Not a) l = lt-ltb a f l
 expression-fits n f (Expression.And a b) l = lower-both l
 expression-fits n f (Expression.Or a b) l = lower-both l
+expression-fits n f (Expression.ExactlyOne a b) l = ap₂ _&&_ (ap₂ _&&_ (le-leb 1 b (l .0)) (le-leb b 10 (l .1))) (le-leb (a + b) n (l .2))
 
 -- one comparison
 pub comparison-fits : (m e f : ℕ) (x : Comparison) → ComparisonLower m e f x → comparisonFits m e f x ≡ true

@@ -6,11 +6,11 @@ use mathlib.Core.List.{List}
 use native.Mathlib.Omega.{arith}
 use borrow.Author.Tests.{ltb-true, leb-true, eqb-true, eqb-false, not-true}
 use lib.ListN.{length}
-use lib.Dec.{ltb, eqb}
+use lib.Dec.{leb, ltb, eqb}
 use Rattle.sets.proofs.SearchLaws.{some-none}
 use Rattle.report.specs.Tables.{Tables, query, expressionCount, projectLength, projectStart}
 use Rattle.report.specs.Operands.{comparisonOperands, queryOperands, isAmong}
-use Rattle.report.specs.FormChecks.{expressionFits, comparisonFits, isOperand, takenBelow, free, freePair, listFits}
+use Rattle.report.specs.FormChecks.{rangeFits, expressionFits, comparisonFits, isOperand, takenBelow, free, freePair, listFits}
 use Rattle.report.specs.FormChecks.{queryFitsAt, queryFitsIn}
 use Rattle.report.specs.Formed.{ExpressionLower, ComparisonLower, OperandsBelow, Free, FreePair, OperandsFree, QueryLower}
 use Rattle.report.specs.declared.Expression.{Expression}
@@ -23,6 +23,12 @@ both-lower a b f e = let p = and-eq-true-iff _ _ .0 e in (ltb-true a f (p .0), l
 
 -- ---- one expression
 
+range-lower : (n first count : ℕ) → rangeFits n first count ≡ true → (1 ≤ count) × (count ≤ 10) × (first + count ≤ n)
+range-lower n first count t =
+    let p = and-eq-true-iff _ (leb (first + count) n) .0 t in
+    let q = and-eq-true-iff _ _ .0 (p .0) in
+    (leb-true 1 count (q .0), leb-true count 10 (q .1), leb-true (first + count) n (p .1))
+
 pub expression-lower : (n f : ℕ) (e : Expression) → expressionFits n f e ≡ true → ExpressionLower n f e
 expression-lower n f Expression.Malformed t = false≢true t
 expression-lower n f Expression.False t = tt
@@ -31,6 +37,7 @@ expression-lower n f (Expression.Feature a) t = ltb-true a n t
 expression-lower n f (Expression.Not a) t = ltb-true a f t
 expression-lower n f (Expression.And a b) t = both-lower a b f t
 expression-lower n f (Expression.Or a b) t = both-lower a b f t
+expression-lower n f (Expression.ExactlyOne a b) t = range-lower n a b t
 
 -- ---- one comparison
 

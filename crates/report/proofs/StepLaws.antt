@@ -42,6 +42,7 @@ module _ (n : ℕ) (f g : ℕ → Bool) (same : (k : ℕ) → k < n → f k ≡ 
   truth-local m c (Expression.Not a) l = ap not (same a l)
   truth-local m c (Expression.And a b) l = two n f g same _&&_ l
   truth-local m c (Expression.Or a b) l = two n f g same _||_ l
+  truth-local m c (Expression.ExactlyOne a b) l = refl
 
 module _ (T : Tables) (c n : ℕ) where
   module _ (f g : ℕ → ℕ) (same : (k : ℕ) → k < n → f k ≡ g k) where

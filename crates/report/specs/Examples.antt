@@ -1,4 +1,4 @@
--- docs/FORMAT.md, "Worked examples": H1 to H10, three cases more, and those of document 02's second wish, as one list. Their theorem is
+-- docs/FORMAT.md, "Worked examples": H1 to H10, three cases more, and those of document 02's second and fourth wish, as one list. Their theorem is
 -- proofs/ExamplesHold.
 use Prim.Native.Nat.{ℕ, _+_, _-_, _^_}
 use mathlib.Core.List.{List, [], _∷_, _++_}
@@ -94,6 +94,25 @@ abbrev pub rampProjected : ℕ → Tables
 rampProjected e =
     ramps (0 ∷ 0 ∷ 1 ∷ e ∷ 1 ∷ 1 ∷ 1 ∷ 2 ∷ 0 ∷ 0 ∷ []) (0 ∷ 2 ∷ []) (1 ∷ 0 ∷ 0 ∷ 0 ∷ 3 ∷ 3 ∷ 0 ∷ 0 ∷ [])
 
+-- n features; the model is an expression of this kind with words `first` and `count`; one relation, always present, always lists the one attribute;
+-- the report is the relation. So the attribute's row has the permitted configurations
+abbrev pub quayOf : ℕ → ℕ → ℕ → ℕ → Tables
+quayOf kind n first count = tablesOf n 1 0 (kind ∷ first ∷ count ∷ 1 ∷ 0 ∷ 0 ∷ []) (0 ∷ 1 ∷ []) (1 ∷ 1 ∷ []) [] (1 ∷ 0 ∷ 0 ∷ 0 ∷ [])
+
+-- a quay has exactly one of the features
+abbrev pub quay : ℕ → ℕ → ℕ → Tables
+quay = quayOf 6
+
+-- what is written for it at a permitted configuration
+abbrev pub quayWritten : Outcome
+quayWritten = Outcome.counts 1 1 0 1 (tablesOf 0 1 0 (1 ∷ 0 ∷ 0 ∷ []) (0 ∷ 0 ∷ []) (0 ∷ 1 ∷ []) [] (1 ∷ 0 ∷ 0 ∷ 0 ∷ []))
+
+-- two features, all configurations permitted. Expressions true; 1, exactly one of the two; not 1; 1 and 1. The relation lists attributes 0, 1 and 2
+-- under the last three; the report is the relation
+abbrev pub quayShared : Tables
+quayShared =
+    tablesOf 2 3 0 (1 ∷ 0 ∷ 0 ∷ 6 ∷ 0 ∷ 2 ∷ 3 ∷ 1 ∷ 0 ∷ 4 ∷ 1 ∷ 1 ∷ []) (0 ∷ 1 ∷ 1 ∷ 2 ∷ 2 ∷ 3 ∷ []) (0 ∷ 3 ∷ []) [] (1 ∷ 0 ∷ 0 ∷ 0 ∷ [])
+
 abbrev pub checked : Tables → Case
 checked T = Case.checks T 1024
 
@@ -154,4 +173,32 @@ examples =
     (ramps (1 ∷ 1 ∷ 0 ∷ 0 ∷ 1 ∷ 2 ∷ 0 ∷ 0 ∷ 1 ∷ 3 ∷ []) (0 ∷ 3 ∷ 0 ∷ 2 ∷ []) (1 ∷ 0 ∷ 0 ∷ 0 ∷ 1 ∷ 1 ∷ 0 ∷ 0 ∷ 6 ∷ 0 ∷ 1 ∷ 0 ∷ []))
     gives Outcome.rows (15 ∷ replicate 15 0 ++ 14 ∷ replicate 1007 0))
     ∷ (checked (rampProjected 1) gives Outcome.refused 17 1 1 2)
+    -- A quay is tidal, locked or floating, never two: at 1, 2 and 4, and at no other of the eight configurations. As tables and as a file
+    ∷ (checked (quay 3 0 3) gives Outcome.rows (22 ∷ replicate 1023 0))
+    ∷ (Case.program (bytes "(head 3 1 0)\n(expression 6 0 3)\n(expression 1 0 0)\n(entry 0 1)\n(relation 1 1)\n(query 1 0 0 0)\n")
+    gives Outcome.printed (bytes "(accepted)\n(at 1 (has 0))\n(at 2 (has 0))\n(at 4 (has 0))\n"))
+    -- a is the first feature: of features 1 and 2 exactly one is on at 2, 3, 4 and 5, whatever feature 0 is
+    ∷ (checked (quay 3 1 2) gives Outcome.rows (60 ∷ replicate 1023 0))
+    -- b is how many: of features 0 and 1 exactly one is on at 1, 2, 5 and 6, whatever feature 2 is; one, which is the feature itself, on at 2 and 3;
+    -- ten, of which one is on at the powers of 2; features 5 and 6, whose configurations lie in two words
+    ∷ (checked (quay 3 0 2) gives Outcome.rows (102 ∷ replicate 1023 0))
+    ∷ (checked (quay 2 1 1) gives Outcome.rows (12 ∷ replicate 1023 0))
+    ∷ (checked (quay 10 0 10)
+    gives Outcome.rows (0x1_0001_0116 ∷ 1 ∷ 1 ∷ 0 ∷ 1 ∷ replicate 3 0 ++ 1 ∷ replicate 1015 0))
+    ∷ (checked (quay 7 5 2) gives Outcome.rows (0xffff_ffff_0000_0000 ∷ 0xffff_ffff ∷ replicate 1022 0))
+    -- it holds when exactly one of them is on, under a negation and as both operands of one form as elsewhere
+    ∷ (checked quayShared gives Outcome.rows (6 ∷ replicate 15 0 ++ 9 ∷ replicate 15 0 ++ 6 ∷ replicate 991 0))
+    -- so a configuration with one on is configured, and none with two or with none
+    ∷ (Case.configures (quay 3 0 3) 2 2 2 0 4 gives quayWritten)
+    ∷ (Case.configures (quay 3 0 3) 3 2 2 0 4 gives Outcome.refused 20 0 0 3)
+    ∷ (Case.configures (quay 3 0 3) 0 2 2 0 4 gives Outcome.refused 20 0 0 0)
+    -- a count outside 1 to 10 is 3
+    ∷ (checked (quay 3 0 0) gives Outcome.refused 3 0 0 0)
+    ∷ (checked (quay 10 0 11) gives Outcome.refused 3 0 0 0)
+    -- a range that passes n is 3: one past n; with no feature there is none; and where the sum of the two, 65537, is 1 in 16 bits
+    ∷ (checked (quay 3 1 3) gives Outcome.refused 3 0 0 0)
+    ∷ (checked (quay 0 0 1) gives Outcome.refused 3 0 0 0)
+    ∷ (checked (quay 3 65535 2) gives Outcome.refused 3 0 0 0)
+    -- 7 and over are unknown
+    ∷ (checked (quayOf 7 3 0 3) gives Outcome.refused 3 0 0 0)
     ∷ []

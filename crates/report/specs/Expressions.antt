@@ -1,14 +1,26 @@
 -- docs/FORMAT.md, "Features and configurations" and table 0: features, configurations, where an expression holds, which configurations are permitted.
-use Prim.Native.Nat.{ℕ, _^_}
+use Prim.Native.Nat.{ℕ, _+_, _^_}
 use mathlib.Core.Bool.{Bool, true, false, _&&_, _||_, not}
 use mathlib.Core.List.{List}
+use lib.Dec.{eqb}
+use Rattle.sets.specs.Search.{countBelow}
 use Rattle.sets.specs.Bits.{bit}
 use Rattle.sets.specs.Rows.{within}
 use Rattle.report.specs.Values.{value}
 use Rattle.report.specs.Tables.{Tables, expression}
 use Rattle.report.specs.declared.Expression.{Expression}
 
--- an expression at configuration c, where `at` gives the truth of lower forms. Feature i is on where bit i of c is 1
+-- Feature i is on at configuration c where bit i of c is 1
+
+-- how many of the `count` features from `first` on are on at configuration c
+abbrev pub featuresOn : ℕ → ℕ → ℕ → ℕ
+featuresOn first count c = countBelow (λ i. bit c (first + i)) count
+
+-- kind 6: exactly one of them is on
+abbrev pub exactlyOneOn : ℕ → ℕ → ℕ → Bool
+exactlyOneOn first count c = eqb (featuresOn first count c) 1
+
+-- an expression at configuration c, where `at` gives the truth of lower forms
 abbrev pub truthOf : ℕ → (ℕ → Bool) → Expression → Bool
 truthOf c at Expression.Malformed = false
 truthOf c at Expression.False = false
@@ -17,6 +29,7 @@ truthOf c at (Expression.Feature a) = bit c a
 truthOf c at (Expression.Not a) = not (at a)
 truthOf c at (Expression.And a b) = at a && at b
 truthOf c at (Expression.Or a b) = at a || at b
+truthOf c at (Expression.ExactlyOne a b) = exactlyOneOn a b c
 
 -- expression e of table 0 holds at configuration c
 unfoldable pub holds : List ℕ → ℕ → ℕ → Bool

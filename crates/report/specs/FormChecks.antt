@@ -23,7 +23,11 @@ headCheck features attributes = orElse (refuseIf (ltb 10 features) (refusal 1 0 
 abbrev pub lengthFits : Shape → ℕ → Bool
 lengthFits s count = eqb (count % s .width) 0 && leb (s .least) (count / s .width) && leb (count / s .width) (s .most)
 
--- an expression that stands as form f: a feature below n, operands below f
+-- a range of 1 to 10 features from `first` on, where there are n: it does not pass n
+abbrev pub rangeFits : ℕ → ℕ → ℕ → Bool
+rangeFits n first count = leb 1 count && leb count 10 && leb (first + count) n
+
+-- an expression that stands as form f: a feature below n, a range of features, operands below f
 abbrev pub expressionFits : ℕ → ℕ → Expression → Bool
 expressionFits n f Expression.Malformed = false
 expressionFits n f Expression.False = true
@@ -32,6 +36,7 @@ expressionFits n f (Expression.Feature a) = ltb a n
 expressionFits n f (Expression.Not a) = ltb a f
 expressionFits n f (Expression.And a b) = ltb a f && ltb b f
 expressionFits n f (Expression.Or a b) = ltb a f && ltb b f
+expressionFits n f (Expression.ExactlyOne a b) = rangeFits n a b
 
 -- a comparison that stands as form f, where there are m attributes and e expressions
 abbrev pub comparisonFits : ℕ → ℕ → ℕ → Comparison → Bool

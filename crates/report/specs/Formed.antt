@@ -50,6 +50,7 @@ ExpressionLower n f (Expression.Feature a) = a < n
 ExpressionLower n f (Expression.Not a) = a < f
 ExpressionLower n f (Expression.And a b) = (a < f) × (b < f)
 ExpressionLower n f (Expression.Or a b) = (a < f) × (b < f)
+ExpressionLower n f (Expression.ExactlyOne a b) = (1 ≤ b) × (b ≤ 10) × (a + b ≤ n)
 
 -- what a comparison that stands as form f is, where there are m attributes and e expressions
 abbrev pub ComparisonLower : ℕ → ℕ → ℕ → Comparison → Type 0

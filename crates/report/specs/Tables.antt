@@ -73,6 +73,7 @@ expressionOf kind a b =
     ∷ unused Expression.Malformed (b ∷ []) (Expression.Not a)
     ∷ Expression.And a b
     ∷ Expression.Or a b
+    ∷ Expression.ExactlyOne a b
     ∷ [])
     kind Expression.Malformed
 

@@ -13,7 +13,7 @@ pub enum Verdict {
     Refused(Refusal),
 }
 
-// A form of table 0. Malformed: its kind is unknown, or a word that its kind leaves unused is not 0.
+// A form of table 0. ExactlyOne is first feature, number of features. Malformed: its kind is unknown, or a word that its kind leaves unused is not 0.
 pub enum Expression {
     Malformed,
     False,
@@ -22,6 +22,7 @@ pub enum Expression {
     Not(usize),
     And(usize, usize),
     Or(usize, usize),
+    ExactlyOne(usize, usize),
 }
 
 // A form of table 3. Constant is operator, attribute, constant; Attribute is operator, attribute, attribute; Choice is expression, comparison

@@ -1,15 +1,22 @@
 -- Laws of searches and counts over the numbers below a bound.
 use Prim.Native.Nat.{ℕ, zero, suc, _+_, _<_, _≤_}
 use mathlib.Core.Path.{_≡_, refl, sym, ap, ap₂, _∙_}
-use mathlib.Core.Bool.{Bool, true, false, cond, not, _&&_, _||_, false≢true, Bool·not-not}
+use mathlib.Core.Bool.{Bool, true, false, cond, not, _&&_, _||_, and-eq-true-iff, or-true, false≢true, Bool·not-not}
 use mathlib.Core.Logic.{⊎-elim, _≢_}
 use native.Mathlib.Nat.{eq-or-lt-of-le, le-refl, add-zero, suc-add, not-suc-le-zero, le-of-suc-le-suc}
 use native.Mathlib.Numerals.{add-one}
 use native.Mathlib.Decide.{le-ind, decLt}
 use native.Mathlib.Omega.{arith}
-use borrow.Author.Tests.{not-true, not-false}
+use borrow.Author.Tests.{not-true, not-false, eqb-true, eq-eqb}
+use lib.Dec.{eqb}
 use Rattle.sets.specs.declared.Found.{Found}
 use Rattle.sets.specs.Search.{seek, lowest, First, isFound, someBelow, allBelow, countBelow, Nth}
+
+-- two truths of which each follows from the other
+pub same-truth : (a b : Bool) → (a ≡ true → b ≡ true) → (b ≡ true → a ≡ true) → a ≡ b
+same-truth true b f g = sym (f refl)
+same-truth false true f g = g refl
+same-truth false false f g = refl
 
 -- ---- the search from `from` on
 
@@ -257,3 +264,68 @@ module _ (keep : ℕ → Bool) where
       go t e ih (yes l) = step (ih l)
       go true e ih (no l) = record { old = n; below = le-refl (suc n); passed = e; number = let y = count-yes n e in omega arith }
       go false e ih (no l) = absurd (let y = count-no n e in omega arith)
+
+-- ---- exactly one
+
+-- k is the one number below n at which the test holds
+pub record Sole (test : ℕ → Bool) (n k : ℕ) : Type 0 where
+  pub below : k < n
+  pub holds : test k ≡ true
+  pub alone : (j : ℕ) → j < n → test j ≡ true → j ≡ k
+
+module _ (test : ℕ → Bool) (n : ℕ) where
+  pub count-sole : countBelow test n ≡ 1 → (k : ℕ) × Sole test n k
+  count-sole e =
+      let r = nth test n 0 (omega arith) in (
+        r .old,
+        record {
+          below = r .below;
+          holds = r .passed;
+          alone =
+              λ j l t. count-one test j (r .old) t (r .passed) (let h = count-lt test j n l t in let z = r .number in omega arith);
+        },
+      )
+
+  pub sole-count : {k : ℕ} → Sole test n k → countBelow test n ≡ 1
+  sole-count {k} s =
+      count-none test (suc k) n (s .below) (λ x h l. other x l (λ d. absurd (omega arith)))
+      ∙ count-yes test k (s .holds)
+      ∙ ap suc (count-none test 0 k (omega arith) (λ x h l. other x (let b = s .below in omega arith) (λ d. absurd (omega arith))))
+    where
+      other : (x : ℕ) → x < n → x ≢ k → test x ≡ false
+      other x l d = go (test x) refl
+        where
+          go : (t : Bool) → test x ≡ t → t ≡ false
+          go true e = absurd (d (s .alone x l e))
+          go false e = refl
+
+  -- this number, and no other below n
+  abbrev pub isSole : ℕ → Bool
+  isSole k = test k && allBelow (λ j. eqb j k || not (test j)) n
+
+  is-sole : {k : ℕ} → k < n → isSole k ≡ true → Sole test n k
+  is-sole {k} l e =
+      let p = and-eq-true-iff (test k) (allBelow (λ j. eqb j k || not (test j)) n) .0 e in
+      record {
+        below = l;
+        holds = p .0;
+        alone = λ j h t. go j t (eqb j k) refl (all-at (λ i. eqb i k || not (test i)) n (p .1) j h);
+      }
+    where
+      go : (j : ℕ) → test j ≡ true → (b : Bool) → eqb j k ≡ b → (b || not (test j)) ≡ true → j ≡ k
+      go j t true q o = eqb-true j k q
+      go j t false q o = absurd (false≢true (sym (ap not t) ∙ o))
+
+  sole-is : {k : ℕ} → Sole test n k → isSole k ≡ true
+  sole-is {k} s = ap₂ _&&_ (s .holds) (at-all (λ j. eqb j k || not (test j)) n (λ j l. go j l (test j) refl))
+    where
+      go : (j : ℕ) → j < n → (t : Bool) → test j ≡ t → (eqb j k || not (test j)) ≡ true
+      go j l true e = ap (λ (b : Bool). b || not (test j)) (eq-eqb j k (s .alone j l e))
+      go j l false e = ap (λ (b : Bool). eqb j k || not b) e ∙ or-true (eqb j k)
+
+  -- a count of one: some number is the one
+  pub count-some : eqb (countBelow test n) 1 ≡ someBelow isSole n
+  count-some =
+      same-truth (eqb (countBelow test n) 1) (someBelow isSole n)
+      (λ e. let r = count-sole (eqb-true (countBelow test n) 1 e) in at-some isSole n (r .0) (r .1 .below) (sole-is (r .1)))
+      (λ e. let r = some-at isSole n e in eq-eqb (countBelow test n) 1 (sole-count (is-sole (r .1) (r .2))))

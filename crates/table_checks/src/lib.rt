@@ -13,7 +13,7 @@ ghost use Prim.Native.Nat.{_/_, _<_};
 ghost use lib.ListN.{length};
 ghost use Rattle.report.specs.Tables.{shapeOf, tablesOf};
 ghost use Rattle.report.specs.Verdicts.{refusal, refuseIf, orElse};
-ghost use Rattle.report.specs.FormChecks.{headCheck, lengthCheck, lengthsCheck, expressionFits, expressionsCheck, modelFormCheck};
+ghost use Rattle.report.specs.FormChecks.{headCheck, lengthCheck, lengthsCheck, rangeFits, expressionFits, expressionsCheck, modelFormCheck};
 ghost use Rattle.report.specs.FormChecks.{entryFits, entriesCheck, comparisonFits, comparisonsCheck};
 ghost use Rattle.report.specs.declared.Verdict.{Verdict};
 
@@ -88,6 +88,14 @@ pub fn check_lengths(
     or_else(a, or_else(b, or_else(c, or_else(d, e))))
 }
 
+// A range of `count` features from `first` on, where there are n.
+fn range_fits(n: usize, first: usize, count: usize) -> bool
+    ensures { λ r. ⌜ r ≡ rangeFits n first count ⌝ }
+{
+    // `first + count` could be more than a usize holds
+    (1 <= count) & (count <= AttributeSet::MOST_FEATURES) & (count <= n) && first <= n - count
+}
+
 // An expression that stands as form f, where there are n features.
 pub fn expression_fits(n: usize, f: usize, x: Expression) -> bool
     ensures { λ r. ⌜ r ≡ expressionFits n f x ⌝ }
@@ -100,6 +108,7 @@ pub fn expression_fits(n: usize, f: usize, x: Expression) -> bool
         Expression::Not(a) => a < f,
         Expression::And(a, b) => (a < f) & (b < f),
         Expression::Or(a, b) => (a < f) & (b < f),
+        Expression::ExactlyOne(a, b) => range_fits(n, a, b),
     }
 }
 

@@ -1,7 +1,6 @@
 //! The cases of `cases/find.txt`: calls of `find`.
 
-use super::{aimed, asking, h1, h1_with, harbour, set, under, Aimed};
-use crate::small::Case;
+use super::{asking, find, h1, h1_with, harbour, set, under, Aimed};
 use crate::tables::Tables;
 
 /// All cases, in the order of their numbers.
@@ -17,10 +16,6 @@ pub fn cases() -> Vec<Aimed> {
         refused_earlier(),
     ];
     groups.into_iter().flatten().collect()
-}
-
-fn find(note: &'static str, answer: &'static str, tables: Tables, wanted: u64) -> Aimed {
-    aimed(note, answer, Case::Find { tables, wanted })
 }
 
 // Steps

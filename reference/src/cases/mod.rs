@@ -5,10 +5,12 @@
 //! `bin/hand_cases.rs` writes them, and `tests/cases.rs` holds what is stored,
 //! and the answers worked out, to the reference.
 
+pub(crate) mod exactly_one;
 mod find;
 pub(crate) mod page;
 mod repeats;
 
+use crate::check::ROWS;
 use crate::file;
 use crate::small::{self, Case, H1};
 use crate::tables::Tables;
@@ -24,7 +26,7 @@ pub struct File {
 }
 
 /// All files.
-pub const FILES: [File; 3] = [
+pub const FILES: [File; 4] = [
     File {
         name: "find",
         first: 1001,
@@ -40,6 +42,11 @@ pub const FILES: [File; 3] = [
         first: 3001,
         cases: page::cases,
     },
+    File {
+        name: "exactly-one",
+        first: 4001,
+        cases: exactly_one::cases,
+    },
 ];
 
 /// A call, with what it is for and its answer.
@@ -51,9 +58,14 @@ pub struct Aimed {
 }
 
 impl File {
+    /// The cases with their numbers.
+    pub fn numbered(&self) -> Vec<(u64, Aimed)> {
+        (self.first..).zip((self.cases)()).collect()
+    }
+
     /// The lines of the cases.
     pub fn lines(&self) -> String {
-        let cases = (self.first..).zip((self.cases)());
+        let cases = self.numbered().into_iter();
         cases
             .map(|(number, aimed)| small::lines(number, &aimed.case))
             .collect()
@@ -62,18 +74,35 @@ impl File {
     /// The lines of the notes: one for each case, with the first line of its
     /// answer.
     pub fn notes(&self) -> String {
-        let cases = (self.first..).zip((self.cases)());
         let line = |(number, Aimed { note, answer, .. })| {
             let answer: String = answer.lines().take(1).collect();
             format!("{number}: {note}: {answer}\n")
         };
-        cases.map(line).collect()
+        self.numbered().into_iter().map(line).collect()
     }
 }
 
 fn aimed(note: &'static str, answer: impl Into<String>, case: Case) -> Aimed {
     let answer = answer.into();
     Aimed { note, answer, case }
+}
+
+fn check(note: &'static str, answer: &'static str, tables: Tables) -> Aimed {
+    aimed(note, answer, Case::Check { tables, room: ROWS })
+}
+
+/// With as much room as the source has.
+fn configure(note: &'static str, answer: &'static str, tables: Tables, c: u64) -> Aimed {
+    let room = [1, 2, 3, 4].map(|table| tables.words(table).len());
+    aimed(note, answer, Case::Configure { tables, c, room })
+}
+
+fn find(note: &'static str, answer: &'static str, tables: Tables, wanted: u64) -> Aimed {
+    aimed(note, answer, Case::Find { tables, wanted })
+}
+
+fn page(note: &'static str, answer: impl Into<String>, tables: Tables, room: usize) -> Aimed {
+    aimed(note, answer, Case::Page { tables, room })
 }
 
 // Steps

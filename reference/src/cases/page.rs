@@ -2,8 +2,7 @@
 
 use std::ops::Range;
 
-use super::{aimed, asking, h1, h1_with, harbour, under, Aimed};
-use crate::small::Case;
+use super::{asking, h1, h1_with, harbour, page, under, Aimed};
 use crate::tables::Tables;
 
 /// All cases, in the order of their numbers.
@@ -33,10 +32,6 @@ pub fn cases() -> Vec<Aimed> {
     groups.into_iter().flatten().collect()
 }
 
-fn page(note: &'static str, answer: impl Into<String>, tables: Tables, room: usize) -> Aimed {
-    aimed(note, answer, Case::Page { tables, room })
-}
-
 /// The page is not long enough.
 fn short(note: &'static str, tables: Tables, room: usize) -> Aimed {
     page(note, "refused 23 0 0 0", tables, room)
@@ -58,7 +53,7 @@ line    3 o.o.............................................................  2";
 
 /// A page of the given lines: the configuration in its 4 places; the marks, of
 /// which `.` at the end are left out; the number of columns in its 2 places.
-fn lines(all: &[[&str; 3]]) -> String {
+pub fn lines(all: &[[&str; 3]]) -> String {
     let mut answer = format!("page {}", all.len());
     for [configuration, marks, columns] in all {
         answer += &format!("\nline {configuration} {marks:.<64} {columns}");

@@ -1,7 +1,6 @@
 //! The cases of `cases/repeats.txt`: an attribute more than once in a list.
 
-use super::{aimed, asking, harbour, set, under, Aimed};
-use crate::check::ROWS;
+use super::{aimed, asking, check, configure, find, harbour, set, under, Aimed};
 use crate::small::Case;
 use crate::tables::Tables;
 
@@ -20,20 +19,6 @@ pub fn cases() -> Vec<Aimed> {
         finding(),
     ];
     groups.into_iter().flatten().collect()
-}
-
-fn check(note: &'static str, answer: &'static str, tables: Tables) -> Aimed {
-    aimed(note, answer, Case::Check { tables, room: ROWS })
-}
-
-/// With as much room as the source has.
-fn configure(note: &'static str, answer: &'static str, tables: Tables, c: u64) -> Aimed {
-    let room = [1, 2, 3, 4].map(|table| tables.words(table).len());
-    aimed(note, answer, Case::Configure { tables, c, room })
-}
-
-fn find(note: &'static str, answer: &'static str, tables: Tables, wanted: u64) -> Aimed {
-    aimed(note, answer, Case::Find { tables, wanted })
 }
 
 // Steps. In rows a word has bit c for configuration c: with two features 10 is

@@ -8,10 +8,10 @@
 
 mod repeats;
 
+use super::feature_ranges;
 use crate::random::Random;
-use crate::tables::{
-    Tables, CHOICE, EMPTY, INTERSECTION, PRODUCT, PROJECT, RELATION, SELECT, UNION,
-};
+use crate::tables::{Tables, CHOICE, EMPTY, EXACTLY_ONE, INTERSECTION};
+use crate::tables::{PRODUCT, PROJECT, RELATION, SELECT, UNION};
 
 /// How much of everything a case may have, and whether it has to have it all.
 #[derive(Clone, Copy, Debug)]
@@ -133,12 +133,17 @@ impl<'a> Builder<'a> {
         let count = self.expressions.len();
         let a = self.random.below(count) as u16;
         let b = self.random.below(count) as u16;
-        match self.random.below(12) {
-            0 if self.size.features > 0 => [2, self.random.below(self.size.features) as u16, 0],
+        let features = self.size.features;
+        match self.random.below(16) {
+            0 if features > 0 => [2, self.random.below(features) as u16, 0],
             1 => [self.random.below(2) as u16, 0, 0],
             2..=5 => [3, a, 0],
             6 => [self.random.pick(&[4, 5]), a, a],
             7..=8 => [4, a, b],
+            9..=12 if features > 0 => {
+                let [first, count] = feature_ranges::sound(self.random, features);
+                [EXACTLY_ONE, first, count]
+            }
             _ => [5, a, b],
         }
     }
@@ -151,7 +156,8 @@ impl<'a> Builder<'a> {
             2 => c >> a & 1 == 1,
             3 => !self.holds[a][c],
             4 => self.holds[a][c] && self.holds[b][c],
-            _ => self.holds[a][c] || self.holds[b][c],
+            5 => self.holds[a][c] || self.holds[b][c],
+            _ => (a..a + b).filter(|f| c >> f & 1 == 1).count() == 1,
         };
         let holds = (0..self.configurations()).map(value).collect();
         self.holds.push(holds);
@@ -167,13 +173,29 @@ impl<'a> Builder<'a> {
         self.holds[usize::from(expression)][c]
     }
 
+    /// A form of kind 6, where there is one.
+    fn some_range(&mut self) -> Option<u16> {
+        let is_range = |&number: &usize| self.expressions[number][0] == EXACTLY_ONE;
+        let ranges: Vec<usize> = (0..self.expressions.len()).filter(is_range).collect();
+        (!ranges.is_empty()).then(|| self.random.pick(&ranges) as u16)
+    }
+
+    /// Any expression, of kind 6 more often than others.
+    fn any_model(&mut self) -> u16 {
+        let range = match self.random.chance(1, 4) {
+            true => self.some_range(),
+            false => None,
+        };
+        range.unwrap_or_else(|| self.some_expression())
+    }
+
     /// A model that permits more than one configuration, when there is one.
     fn choose_model(&mut self) {
         self.model = self.always;
         if self.random.chance(2, 3) {
             let wanted = self.configurations().min(2);
             for _ in 0..10 {
-                let model = self.some_expression();
+                let model = self.any_model();
                 let permits = |c: &usize| self.holds(model, *c);
                 if (0..self.configurations()).filter(permits).count() >= wanted {
                     self.model = model;

@@ -118,6 +118,7 @@ fn damage_words(random: &mut Random, text: Vec<u8>) -> Vec<u8> {
         b" 1 1",
         b" 1.0",
         b" 6",
+        b" 7",
         b" 8",
         b" 11",
         b"\t1",

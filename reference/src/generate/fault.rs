@@ -1,10 +1,11 @@
 //! Faults put into accepted tables: one for every limit of every check.
 
+use super::feature_ranges::{self, Range};
 use crate::check::{self, ROWS};
 use crate::expression;
 use crate::form;
 use crate::random::Random;
-use crate::tables::{self, Tables, RANGES, WIDTHS};
+use crate::tables::{self, Tables, EXACTLY_ONE, RANGES, WIDTHS};
 use crate::typing;
 
 /// One way to break one condition of the table of refusals.
@@ -188,18 +189,35 @@ fn form_of(random: &mut Random, tables: &mut Tables, table: usize, kinds: &[u16]
 fn append_expression(random: &mut Random, tables: &mut Tables, kind: u16) -> Option<usize> {
     let a = any(random, tables, 0)? as u16;
     let b = any(random, tables, 0)? as u16;
+    let features = tables.features.min(10) as usize;
     let form = match kind {
         0 | 1 => [kind, 0, 0],
-        2 if tables.features == 0 => return None,
-        2 => [
-            kind,
-            random.below(tables.features.min(10) as usize) as u16,
-            0,
-        ],
+        2 | EXACTLY_ONE if features == 0 => return None,
+        2 => [kind, random.below(features) as u16, 0],
         3 => [kind, a, 0],
+        EXACTLY_ONE => {
+            let [first, count] = feature_ranges::sound(random, features);
+            [kind, first, count]
+        }
         _ => [kind, a, b],
     };
     append(tables, 0, &form)
+}
+
+/// Gives a form of kind 6 another range: one that is there, or a new one.
+fn put_range(
+    random: &mut Random,
+    tables: &mut Tables,
+    range: fn(&mut Random, &Tables) -> Range,
+) -> Option<()> {
+    let form = match form_of(random, tables, 0, &[EXACTLY_ONE]) {
+        Some(form) => form,
+        // Without features there is no sound one.
+        None => append(tables, 0, &[EXACTLY_ONE, 0, 0])?,
+    };
+    let [first, count] = range(random, tables);
+    put(tables, 0, form, 1, first)?;
+    put(tables, 0, form, 2, count)
 }
 
 fn any_attribute(random: &mut Random, tables: &Tables) -> Option<u16> {
@@ -529,10 +547,16 @@ pub fn turn(random: &mut Random, tables: &mut Tables) -> Option<()> {
 fn turn_expression(random: &mut Random, tables: &mut Tables) -> Option<()> {
     let form = any(random, tables, 0)?;
     let [kind, ..] = tables.expression(form);
+    let features = tables.features.clamp(1, 10) as usize;
     match kind {
         2 => {
-            let feature = random.below(tables.features.clamp(1, 10) as usize) as u16;
+            let feature = random.below(features) as u16;
             put(tables, 0, form, 1, feature)
+        }
+        EXACTLY_ONE => {
+            let [first, count] = feature_ranges::sound(random, features);
+            put(tables, 0, form, 1, first)?;
+            put(tables, 0, form, 2, count)
         }
         4 | 5 => put(tables, 0, form, 0, 9 - kind),
         3 => put(tables, 0, form, 1, random.below(form.max(1)) as u16),
@@ -634,7 +658,7 @@ pub static LIMITS: &[Limit] = &[
     }),
     limit(3, "unknown kind", |r, t| {
         let form = any(r, t, 0)?;
-        let kind = r.pick(&[6, 6, 7, 256, 65535]);
+        let kind = r.pick(&[7, 7, 8, 256, 256 + EXACTLY_ONE, 65535]);
         put(t, 0, form, 0, kind)
     }),
     limit(3, "unused a", |r, t| unused(r, t, 0, &[0, 1], 1)),
@@ -658,6 +682,36 @@ pub static LIMITS: &[Limit] = &[
     }),
     limit(3, "operand b not lower", |r, t| {
         not_lower(r, t, 0, &[4, 5], 2)
+    }),
+    limit(3, "range of no features", |r, t| {
+        put_range(r, t, feature_ranges::of_none)
+    }),
+    limit(3, "range of 11 features", |r, t| {
+        put_range(r, t, feature_ranges::of_11)
+    }),
+    limit(3, "range of far more features", |r, t| {
+        put_range(r, t, feature_ranges::of_many)
+    }),
+    limit(3, "range past n by one", |r, t| {
+        put_range(r, t, feature_ranges::past_by_one)
+    }),
+    limit(3, "range past n by one, n at a limit", |r, t| {
+        let features = r.pick(&[0, 1, 6, 7, 10]);
+        // With more features all else stays sound.
+        if features < t.features {
+            return None;
+        }
+        t.features = features;
+        put_range(r, t, feature_ranges::past_by_one)
+    }),
+    limit(3, "range far past n", |r, t| {
+        put_range(r, t, feature_ranges::far_past)
+    }),
+    limit(3, "range not past n in 16 bits", |r, t| {
+        put_range(r, t, feature_ranges::past_16_bits)
+    }),
+    limit(3, "range of over 10, not past n in 16 bits", |r, t| {
+        put_range(r, t, feature_ranges::of_many_past_16_bits)
     }),
     limit(4, "model = count", |_, t| {
         t.model = t.count(0) as u64;

@@ -4,6 +4,7 @@
 mod build;
 mod damage;
 mod fault;
+mod feature_ranges;
 mod mutate;
 mod repeat;
 mod room;

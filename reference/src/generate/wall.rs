@@ -1,9 +1,10 @@
 //! Tables aimed at the limits of the wall page: which configurations have a
 //! line, how many lines there are, and how many columns stand on them.
 
+use super::feature_ranges;
 use crate::expression::{self, Permitted};
 use crate::random::Random;
-use crate::tables::{Tables, CHOICE, EMPTY, PROJECT, RELATION};
+use crate::tables::{Tables, CHOICE, EMPTY, EXACTLY_ONE, PROJECT, RELATION};
 
 /// The lowest and the highest configuration, and those around which the number
 /// gets a digit more.
@@ -119,6 +120,17 @@ impl Wall<'_> {
         }
     }
 
+    /// Exactly one of a range of features; true where there is no feature.
+    fn any_range(&mut self) -> u16 {
+        match self.tables.features as usize {
+            0 => TRUE,
+            features => {
+                let [first, count] = feature_ranges::sound(self.random, features);
+                self.add([EXACTLY_ONE, first, count])
+            }
+        }
+    }
+
     /// What the expression says at each permitted configuration.
     fn values(&self, expression: u16) -> Vec<bool> {
         let permitted = expression::permitted(&self.tables);
@@ -129,9 +141,9 @@ impl Wall<'_> {
     // Lines
 
     /// All configurations, one, some far apart, all but one, the lowest, all but
-    /// the lowest, or half.
+    /// the lowest, those with exactly one feature of a range, or half.
     fn choose_model(&mut self) {
-        let model = match self.random.below(8) {
+        let model = match self.random.below(9) {
             0 => TRUE,
             1 | 2 => {
                 let c = self.number(&DIGITS);
@@ -156,6 +168,7 @@ impl Wall<'_> {
                 let lower = self.below(first);
                 self.add([NOT, lower, 0])
             }
+            7 => self.any_range(),
             _ => self.any_literal(),
         };
         if self.values(model).contains(&true) {
@@ -179,7 +192,7 @@ impl Wall<'_> {
     }
 
     fn any_condition(&mut self) -> u16 {
-        match self.random.below(4) {
+        match self.random.below(5) {
             0 => {
                 let c = self.number(&DIGITS);
                 self.only(c)
@@ -193,6 +206,7 @@ impl Wall<'_> {
                 let at = &permitted[self.random.below(permitted.len())];
                 self.only(at.configuration)
             }
+            3 => self.any_range(),
             _ => self.any_literal(),
         }
     }

@@ -6,6 +6,7 @@
 //! stored to them. They are the same on every machine.
 
 mod berths;
+mod exactly_one;
 mod page;
 mod repeats;
 mod reports;
@@ -37,12 +38,13 @@ impl Vector {
     }
 }
 
-/// All cases, their names numbered: worked examples, repeats, pages, texts that
-/// are read or unread, generated reports, and the given examples.
+/// All cases, their names numbered: worked examples, repeats, pages, exactly one of
+/// a range, texts that are read or unread, generated reports, and the given examples.
 pub fn all(examples: &[Vector]) -> Vec<Vector> {
     let mut cases = berths::cases();
     cases.extend(repeats::cases());
     cases.extend(page::cases());
+    cases.extend(exactly_one::cases());
     cases.extend(texts::cases());
     cases.extend(reports::cases());
     cases.extend(examples.iter().cloned());

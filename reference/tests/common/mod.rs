@@ -1,6 +1,8 @@
 //! Steps that several tests share.
 #![allow(dead_code)]
 
+pub mod readings;
+
 use reference::check::ROWS;
 use reference::file::read_file;
 use reference::page::LINE;
@@ -54,6 +56,26 @@ pub fn configured_with(
         assert!(out.iter().flatten().all(|&word| word == LENT_WORD));
     }
     answer.map(|counts| (counts, out))
+}
+
+/// The plain tables that configuring wrote, with their fixed head and expression. The
+/// words after them must be left.
+pub fn written(tables: &Tables, (counts, out): ([usize; 4], [Vec<u16>; 4])) -> Tables {
+    let words = |table: usize| {
+        let (words, rest) = out[table - 1].split_at(counts[table - 1] * tables::WIDTHS[table]);
+        assert!(rest.iter().all(|&word| word == LENT_WORD));
+        words.to_vec()
+    };
+    Tables {
+        features: 0,
+        attributes: tables.attributes,
+        model: 0,
+        expressions: vec![1, 0, 0],
+        entries: words(1),
+        relations: words(2),
+        comparisons: words(3),
+        queries: words(4),
+    }
 }
 
 /// The page, written to so many bytes; a refused call must leave all of them, and

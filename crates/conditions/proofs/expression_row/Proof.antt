@@ -65,9 +65,12 @@ expression-row-spec =
     load-requires-5
     (λ c κs. search needs)
     (λ c. search needs)
+    (λ c κs. let start = c .before .before .before .before in let l = rw (c .before .x5 .given .1) at (start .pre) in l .2)
+    (λ c. search needs)
     (λ c. search needs)
     (λ c. search needs)
     returns-4
     returns-5
     returns-6
-    returns-7)
+    returns-7
+    (λ c. rw (c .before .before .x5 .given .1) (c .exactly-one .ensures)))

@@ -20,4 +20,5 @@ expression-of-spec =
     (λ c. c .whole-expression4 .ensures ∙ simp (c .before .match .keys4, and-true))
     (λ c. simp (c .match .keys5))
     (λ c. simp (c .match .keys6))
-    (λ c. let h = past-all (c .before .args .kind) 6 (c .match .rest) in rw List·getD-eq-default))
+    (λ c. simp (c .match .keys7))
+    (λ c. let h = past-all (c .before .args .kind) 7 (c .match .rest) in rw List·getD-eq-default))
