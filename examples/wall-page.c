@@ -48,6 +48,16 @@ static const uint16_t queries[] = {
     GELVOMAS_QUERY_PROJECT,  6,          2, 0,
     GELVOMAS_QUERY_UNION,    1,          3, 0
 };
+static const uint16_t kinds[ATTRIBUTES] = {
+    [VESSEL] = GELVOMAS_KIND_NAME,
+    [BERTH] = GELVOMAS_KIND_NAME,
+    [HOUR] = GELVOMAS_KIND_MOMENT,
+    [PILOT] = GELVOMAS_KIND_NAME,
+    [TUG] = GELVOMAS_KIND_NAME,
+    [LAMPS] = GELVOMAS_KIND_COUNT,
+    [ORIGIN] = GELVOMAS_KIND_NAME,
+    [DESTINATION] = GELVOMAS_KIND_NAME
+};
 
 /* What the number of a line stands for, and its marks: each has the first letter of
    its column above it. */
@@ -72,7 +82,7 @@ int main(void)
 {
     struct gelvomas_tables tables = {
         FEATURES, ATTRIBUTES, SOLD, expressions, LENGTH(expressions), entries, LENGTH(entries),
-        relations, LENGTH(relations), NULL, 0, queries, LENGTH(queries)
+        relations, LENGTH(relations), NULL, 0, queries, LENGTH(queries), kinds, LENGTH(kinds)
     };
     /* Room for a line for each configuration, sold or not. */
     uint8_t page[GELVOMAS_PAGE_LINE << FEATURES];

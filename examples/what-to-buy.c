@@ -34,10 +34,11 @@ static const uint16_t queries[] = {
     GELVOMAS_QUERY_RELATION, 0, 0, 0,
     GELVOMAS_QUERY_PROJECT,  3, 0, 0
 };
+static const uint16_t kinds[ATTRIBUTES] = {GELVOMAS_KIND_NAME, GELVOMAS_KIND_NAME, GELVOMAS_KIND_NAME, GELVOMAS_KIND_MOMENT};
 
 int main(void)
 {
-    struct gelvomas_tables tables = {FEATURES, ATTRIBUTES, SOLD, expressions, 18, entries, 14, relations, 2, NULL, 0, queries, 8};
+    struct gelvomas_tables tables = {FEATURES, ATTRIBUTES, SOLD, expressions, 18, entries, 14, relations, 2, NULL, 0, queries, 8, kinds, ATTRIBUTES};
     uint64_t wanted = GELVOMAS_ATTRIBUTE(VESSEL) | GELVOMAS_ATTRIBUTE(RAMP) | GELVOMAS_ATTRIBUTE(TIDE);
     uint64_t configuration;
     struct gelvomas_refusal refusal;

@@ -20,10 +20,10 @@
 extern "C" {
 #endif
 
-#define GELVOMAS_VERSION_MAJOR 1
-#define GELVOMAS_VERSION_MINOR 4
+#define GELVOMAS_VERSION_MAJOR 2
+#define GELVOMAS_VERSION_MINOR 0
 #define GELVOMAS_VERSION_PATCH 0
-#define GELVOMAS_VERSION "1.4.0"
+#define GELVOMAS_VERSION "2.0.0"
 
 /* The most there may be of each. There is at least one expression and one query;
    of the others there may be none. */
@@ -69,12 +69,20 @@ enum gelvomas_expression {
 enum gelvomas_comparison {
     GELVOMAS_COMPARISON_NEVER = 0,
     GELVOMAS_COMPARISON_ALWAYS = 1,
-    GELVOMAS_COMPARISON_CONSTANT = 2,  /* attribute a with constant b */
+    GELVOMAS_COMPARISON_CONSTANT = 2,  /* attribute a with constant b, whose kind is c */
     GELVOMAS_COMPARISON_ATTRIBUTE = 3, /* attribute a with attribute b */
     GELVOMAS_COMPARISON_NOT = 4,       /* not comparison a */
     GELVOMAS_COMPARISON_AND = 5,       /* comparisons a and b */
     GELVOMAS_COMPARISON_OR = 6,        /* comparison a or b */
     GELVOMAS_COMPARISON_CHOICE = 7     /* b where expression a holds, c elsewhere */
+};
+
+/* Kinds of attributes, one for each in the kind table, and of constants, in word c of
+   GELVOMAS_COMPARISON_CONSTANT. What is compared has one kind on both sides. */
+enum gelvomas_kind {
+    GELVOMAS_KIND_MOMENT = 0,
+    GELVOMAS_KIND_COUNT = 1,
+    GELVOMAS_KIND_NAME = 2
 };
 
 /* Operators of comparisons with a constant or an attribute; of others it is 0. */
@@ -156,7 +164,14 @@ enum gelvomas_refusal_number {
     GELVOMAS_REFUSED_WANTED = 22,
     /* `page` has fewer than 73 bytes for each permitted configuration; gelvomas_page
        alone (0) */
-    GELVOMAS_REFUSED_PAGE = 23
+    GELVOMAS_REFUSED_PAGE = 23,
+    /* checked after 10: `kinds` has not as many words as there are attributes (0), else
+       a kind over 2 in it (word), else a kind over 2 of a constant (comparison) */
+    GELVOMAS_REFUSED_KIND = 24,
+    /* the two sides of a comparison have different kinds; looked for in a query only
+       where 16 is found in it at no configuration (query; left attribute;
+       configuration) */
+    GELVOMAS_REFUSED_KINDS_DIFFER = 25
 };
 
 /* The four functions that are proved. A table is a pointer to its words and then
@@ -180,6 +195,8 @@ uint64_t gelvomas_check(
     size_t comparisons_length,   /* its number of words */
     const uint16_t *queries,     /* table 4, 4 words a form: kind, a, b, c */
     size_t queries_length,       /* its number of words */
+    const uint16_t *kinds,       /* the kind table, a word for each attribute: its kind */
+    size_t kinds_length,         /* its number of words; any but `attributes` is refused */
     uint64_t *rows,              /* accepted: all words are written, and are then the column
                                     rows. Attribute a is in the report at configuration c
                                     where bit c % 64 of rows[16 * a + c / 64] is 1.
@@ -195,8 +212,9 @@ uint64_t gelvomas_check(
 
    Tables 1 to 4 are written of a report that has no choices. Its head and table 0
    are not written: they are 0 features, as many attributes, model 0, and the one
-   expression true (1 0 0). gelvomas_check accepts these tables, and their columns
-   at configuration 0 are those of the given report at the configuration. */
+   expression true (1 0 0). gelvomas_check accepts these tables with the same kind
+   table, and their columns at configuration 0 are those of the given report at the
+   configuration. */
 uint64_t gelvomas_configure(
     uint64_t features,             /* the report, as for gelvomas_check */
     uint64_t attributes,
@@ -211,6 +229,8 @@ uint64_t gelvomas_configure(
     size_t comparisons_length,
     const uint16_t *queries,
     size_t queries_length,
+    const uint16_t *kinds,
+    size_t kinds_length,
     uint64_t configuration,        /* bit i says whether feature i is on; one that is not
                                       permitted, or that is 2^features or more, is refused */
     uint16_t *new_entries,         /* written: the new table 1, from the first word on. The
@@ -246,6 +266,8 @@ uint64_t gelvomas_find(
     size_t comparisons_length,
     const uint16_t *queries,
     size_t queries_length,
+    const uint16_t *kinds,
+    size_t kinds_length,
     uint64_t wanted,             /* the set of wanted attributes: attribute a is wanted where
                                     bit a is 1. A bit at or above `attributes` is refused. For
                                     the empty set, 0, the lowest permitted configuration is
@@ -277,6 +299,8 @@ uint64_t gelvomas_page(
     size_t comparisons_length,
     const uint16_t *queries,
     size_t queries_length,
+    const uint16_t *kinds,
+    size_t kinds_length,
     uint8_t *page,               /* written: the lines, from the first byte on. The bytes after
                                     them are not changed. Refused: no byte is changed. */
     size_t page_length,          /* the number of bytes there; fewer than GELVOMAS_PAGE_LINE for
@@ -290,7 +314,8 @@ uint64_t gelvomas_page(
 /* The same four with structs. Here the pointer of a table, or of a page, may be NULL
    where its length is 0, so a struct that is set to 0 holds tables without words. */
 
-/* A report: its head, and tables 0 to 4 with their numbers of words. */
+/* A report: its head, and tables 0 to 4 and the kind table with their numbers of
+   words. Without attributes there are no kinds. */
 struct gelvomas_tables {
     uint64_t features;
     uint64_t attributes;
@@ -305,6 +330,8 @@ struct gelvomas_tables {
     size_t comparisons_length;
     const uint16_t *queries;
     size_t queries_length;
+    const uint16_t *kinds;
+    size_t kinds_length;
 };
 
 /* Tables 1 to 4 lent for writing, with their numbers of words. */
@@ -378,6 +405,7 @@ static inline int gelvomas_check_tables(
             gelvomas_words(tables->relations, tables->relations_length), tables->relations_length,
             gelvomas_words(tables->comparisons, tables->comparisons_length), tables->comparisons_length,
             gelvomas_words(tables->queries, tables->queries_length), tables->queries_length,
+            gelvomas_words(tables->kinds, tables->kinds_length), tables->kinds_length,
             rows, GELVOMAS_ROWS, words) == 0) {
         return 0;
     }
@@ -403,6 +431,7 @@ static inline int gelvomas_configure_tables(
             gelvomas_words(tables->relations, tables->relations_length), tables->relations_length,
             gelvomas_words(tables->comparisons, tables->comparisons_length), tables->comparisons_length,
             gelvomas_words(tables->queries, tables->queries_length), tables->queries_length,
+            gelvomas_words(tables->kinds, tables->kinds_length), tables->kinds_length,
             configuration,
             gelvomas_lent_words(lent->entries, lent->entries_length), lent->entries_length,
             gelvomas_lent_words(lent->relations, lent->relations_length), lent->relations_length,
@@ -436,6 +465,7 @@ static inline int gelvomas_find_tables(
         gelvomas_words(tables->relations, tables->relations_length), tables->relations_length,
         gelvomas_words(tables->comparisons, tables->comparisons_length), tables->comparisons_length,
         gelvomas_words(tables->queries, tables->queries_length), tables->queries_length,
+        gelvomas_words(tables->kinds, tables->kinds_length), tables->kinds_length,
         wanted, words)) {
     case 0:
         *configuration = words[0];
@@ -466,6 +496,7 @@ static inline int gelvomas_page_tables(
             gelvomas_words(tables->relations, tables->relations_length), tables->relations_length,
             gelvomas_words(tables->comparisons, tables->comparisons_length), tables->comparisons_length,
             gelvomas_words(tables->queries, tables->queries_length), tables->queries_length,
+            gelvomas_words(tables->kinds, tables->kinds_length), tables->kinds_length,
             gelvomas_lent_bytes(page, page_length), page_length, words) == 0) {
         *lines = words[0];
         return 0;

@@ -31,6 +31,7 @@ pub fn case(seed: u64, number: u64) -> (&'static str, Tables) {
         (Family::Full, ["full", "full, damaged"]),
         (Family::Repeats, ["repeats", "repeats, damaged"]),
         (Family::Wall, ["wall", "wall, damaged"]),
+        (Family::Compared, ["compared", "compared, damaged"]),
     ]);
     let mut tables = generate::of_family(family, seed);
     let damaged = random.chance(1, 5);
@@ -67,6 +68,8 @@ pub fn differ(
         let words: Vec<String> = tables.words(table).iter().map(u16::to_string).collect();
         let _ = writeln!(text, "t{table} {}", words.join(" "));
     }
+    let kinds: Vec<String> = tables.kinds.iter().map(u16::to_string).collect();
+    let _ = writeln!(text, "kinds {}", kinds.join(" "));
     let _ = writeln!(text, "reference {wanted:?}\nours {ours:?}");
     println!("table {number} differs: reference {wanted:?}, ours {ours:?}; it is in {file}");
     if let Err(error) = std::fs::write(file, text) {

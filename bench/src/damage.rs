@@ -1,12 +1,12 @@
 //! Raw damage to tables: words and lengths that no writer of tables would give.
 
 use reference::random::Random;
-use reference::tables::{Tables, EXACTLY_ONE, PROJECT, RANGES, WIDTHS};
+use reference::tables::{Tables, EXACTLY_ONE, PROJECT, RANGES, WIDTHS, WITH_CONSTANT};
 
 /// One to three damages. Some of them leave the tables sound.
 pub fn damage(random: &mut Random, tables: &mut Tables) {
     for _ in 0..random.pick(&[1, 1, 1, 1, 2, 3]) {
-        match random.below(18) {
+        match random.below(20) {
             0..=3 => change_words(random, tables),
             4..=6 => change_forms(random, tables),
             7 | 8 => change_reference(random, tables),
@@ -15,6 +15,7 @@ pub fn damage(random: &mut Random, tables: &mut Tables) {
             12 => fill_up(random, tables),
             13 => lengthen(random, tables),
             14 | 15 => change_range(random, tables),
+            16 | 17 => change_kinds(random, tables),
             _ => pass_16_bits(random, tables),
         }
     }
@@ -103,6 +104,29 @@ fn change_range(random: &mut Random, tables: &mut Tables) {
     // A count that is higher than the end starts it below 0, so near 65535.
     let first = end.wrapping_sub(count);
     tables.expressions[3 * form..3 * form + 3].copy_from_slice(&[EXACTLY_ONE, first, count]);
+}
+
+/// Cuts the kind table or lengthens it, also to lengths that are m in 16 bits, or
+/// changes one of its words, or a constant's kind.
+fn change_kinds(random: &mut Random, tables: &mut Tables) {
+    let kind = random.pick(&[0, 1, 2, 2, 3, 3, 4, 255, 256, 258, 32768, 65535]);
+    let words = tables.kinds.len();
+    let constants: Vec<usize> = (0..tables.count(3))
+        .filter(|&form| tables.comparison(form)[0] == WITH_CONSTANT)
+        .collect();
+    match random.below(5) {
+        0 => tables.kinds.truncate(random.below(words + 1)),
+        1 => {
+            let lengths = [0, words + 1, 64, 65, 65_536, 65_536 + words, 70_000];
+            tables.kinds.resize(random.pick(&lengths), kind % 3);
+        }
+        2 | 3 if words > 0 => tables.kinds[random.below(words)] = kind,
+        _ if !constants.is_empty() => {
+            let form = random.pick(&constants);
+            tables.comparisons[5 * form + 4] = kind;
+        }
+        _ => {}
+    }
 }
 
 fn change_head(random: &mut Random, tables: &mut Tables) {

@@ -1,6 +1,6 @@
 //! The checking call at all configurations at once: one bit a configuration.
 //! The product is measured against this; it is written to be fast. Checks 1 to
-//! 10 are the reference's.
+//! 10 and 24 are the reference's.
 //!
 //! A row is known by its number. First come the expressions, so that the rows
 //! of entries need no work; a row is made only where a choice, a product or a
@@ -8,6 +8,7 @@
 //! configurations is settled for all attributes at once, by sets; then each
 //! attribute that is left goes up the forms that it matters to.
 
+mod kinds;
 mod rows;
 
 use std::cell::Cell;
@@ -80,7 +81,7 @@ pub fn check(tables: &Tables, rows: &mut [u64]) -> Result<(), Refusal> {
     answer
 }
 
-/// Checks 12 to 19, on tables sound in form.
+/// Checks 12 to 19 and 25, on tables sound in form.
 fn schema_and_typing(
     tables: &Tables,
     lists: &Lists,
@@ -93,8 +94,9 @@ fn schema_and_typing(
     checker.named();
     checker.bounds(lists);
     checker.demands();
-    let columns = checker.attributes(lists)?;
-    checker.write(&columns, rows);
+    let columns = checker.attributes(lists);
+    checker.kinds(columns.as_ref().err())?;
+    checker.write(&columns?, rows);
     Ok(())
 }
 
@@ -117,6 +119,8 @@ struct Checker<'a> {
     varying: Vec<Id>,
     relations: [Bounds; 32],
     comparisons: [Bounds; FORMS],
+    /// The left attributes of two kinds that each comparison may have.
+    clashing: [Set; FORMS],
     queries: [Bounds; FORMS],
     /// The bounds of a project's list.
     projected: [Bounds; FORMS],
@@ -165,6 +169,7 @@ impl<'a> Checker<'a> {
             varying: vec![NEVER; tables.count(1)],
             relations: [Bounds::of(0); 32],
             comparisons: [Bounds::of(0); FORMS],
+            clashing: [0; FORMS],
             queries: [Bounds::of(0); FORMS],
             projected: [Bounds::of(0); FORMS],
             reach: [NEVER; FORMS],
@@ -281,10 +286,22 @@ impl<'a> Checker<'a> {
         }
     }
 
-    /// The bounds of what each comparison names.
+    /// The bounds of what each comparison names, and of where its kinds differ.
     fn named(&mut self) {
         for form in 0..self.tables.count(3) {
-            let [kind, _, a, b, c] = self.tables.comparison(form).map(usize::from);
+            let comparison = self.tables.comparison(form).map(usize::from);
+            let [kind, _, a, b, c] = comparison;
+            let of = |form: usize| self.clashing[form & 255];
+            self.clashing[form] = match kind {
+                0..=3 => kinds::clash(self.tables, comparison),
+                4 => of(a),
+                5 | 6 => of(a) | of(b),
+                _ => match self.known[a & 255] {
+                    ALWAYS => of(b),
+                    NEVER => of(c),
+                    _ => of(b) | of(c),
+                },
+            };
             let of = |form: usize| self.comparisons[form & 255];
             self.comparisons[form] = match kind {
                 0 | 1 => Bounds::of(0),

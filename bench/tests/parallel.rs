@@ -39,9 +39,16 @@ fn accepted_reports_have_the_same_rows() {
 fn refusals_are_the_same() {
     let mut answers = family(Family::Fault, "fault", 6000);
     answers.extend(family(Family::Several, "several", 4000));
-    let wanted = (1..=19).filter(|&number| number != 11);
-    for number in wanted {
+    for number in generate::NUMBERS {
         assert!(answers.contains_key(&number), "refusal {number}");
+    }
+}
+
+#[test]
+fn kinds_are_the_same() {
+    let answers = family(Family::Compared, "compared", 6000);
+    for number in [0, 10, 16, 24, 25] {
+        assert!(answers.get(&number) >= Some(&100), "refusal {number}");
     }
 }
 
@@ -74,7 +81,8 @@ fn ranges_are_the_same() {
             relations: vec![0, entries.len() as u16],
             queries: vec![1, 0, 0, 0],
             ..Tables::default()
-        };
+        }
+        .of_moments();
         let number = compared(&tables, ROWS, &format!("ranges of {features}"));
         assert_eq!(number, 0);
     }

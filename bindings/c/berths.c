@@ -1,6 +1,6 @@
 /* include/gelvomas.h as a C program uses it: H1, H2 and H4 of docs/FORMAT.md, which
-   configuration gives H1's columns, its page, tables and a page that are NULL, and
-   the words and bytes lent. ../../test compiles and runs it. */
+   configuration gives H1's columns, its page, kinds that differ, tables and a page that
+   are NULL, and the words and bytes lent. ../../test compiles and runs it. */
 
 #include <inttypes.h>
 #include <stdio.h>
@@ -81,6 +81,7 @@ static const uint16_t queries[] = {
     GELVOMAS_QUERY_RELATION, 0, 0, 0,
     GELVOMAS_QUERY_PROJECT,  2, 0, 0
 };
+static const uint16_t kinds[] = {GELVOMAS_KIND_NAME, GELVOMAS_KIND_NAME, GELVOMAS_KIND_COUNT};
 
 /* The report of H1, with these entries. It has no comparisons: they are NULL. */
 static struct gelvomas_tables with_entries(const uint16_t *entries, size_t length)
@@ -96,7 +97,9 @@ static struct gelvomas_tables with_entries(const uint16_t *entries, size_t lengt
         .relations = relations,
         .relations_length = LENGTH(relations),
         .queries = queries,
-        .queries_length = LENGTH(queries)
+        .queries_length = LENGTH(queries),
+        .kinds = kinds,
+        .kinds_length = LENGTH(kinds)
     };
     return tables;
 }
@@ -130,6 +133,48 @@ static void check_refused(
     for (size_t at = 0; at < GELVOMAS_ROWS; at++) {
         expect(what, rows[at], UINT64_MAX);
     }
+}
+
+/* H1 with no kinds, and with its report selected by vessel, a name, with a moment and
+   with a name. */
+static void compare_kinds(struct gelvomas_tables tables)
+{
+    static const uint16_t selected[] = {
+        GELVOMAS_QUERY_RELATION, 0, 0, 0,
+        GELVOMAS_QUERY_PROJECT,  2, 0, 0,
+        GELVOMAS_QUERY_SELECT,   0, 1, 0
+    };
+    uint16_t comparison[] = {
+        GELVOMAS_COMPARISON_CONSTANT, GELVOMAS_OPERATOR_EQUAL, VESSEL, 500, GELVOMAS_KIND_MOMENT
+    };
+    uint64_t rows[GELVOMAS_ROWS];
+    struct gelvomas_refusal refusal = {7, 7, 7, 7};
+    struct gelvomas_tables without_kinds = tables;
+    without_kinds.kinds = NULL;
+    without_kinds.kinds_length = 0;
+    check_refused("no kinds", &without_kinds, GELVOMAS_REFUSED_KIND, 0, 0, 0);
+
+    tables.comparisons = comparison;
+    tables.comparisons_length = LENGTH(comparison);
+    tables.queries = selected;
+    tables.queries_length = LENGTH(selected);
+    check_refused("kinds differ", &tables, GELVOMAS_REFUSED_KINDS_DIFFER, 2, VESSEL, 0);
+    comparison[4] = GELVOMAS_KIND_NAME;
+    expect("one kind", (uint64_t)gelvomas_check_tables(&tables, rows, &refusal), 0);
+}
+
+/* A report without attributes has no kinds: NULL. */
+static void no_attributes(void)
+{
+    static const uint16_t empty[] = {GELVOMAS_QUERY_EMPTY, 0, 0, 0};
+    uint64_t rows[GELVOMAS_ROWS];
+    struct gelvomas_refusal refusal = {7, 7, 7, 7};
+    struct gelvomas_tables tables = {0};
+    tables.expressions = expressions;
+    tables.expressions_length = GELVOMAS_EXPRESSION_WORDS;
+    tables.queries = empty;
+    tables.queries_length = LENGTH(empty);
+    expect("no attributes", (uint64_t)gelvomas_check_tables(&tables, rows, &refusal), 0);
 }
 
 static void configure_h1(const struct gelvomas_tables *h1)
@@ -248,6 +293,8 @@ int main(void)
     check_h1(&h1);
     check_refused("H2", &h2, GELVOMAS_REFUSED_PROJECTED_MISSING, 1, RAMP, 1);
     check_refused("no tables", &none, GELVOMAS_REFUSED_LENGTH, 0, 0, 0);
+    compare_kinds(h1);
+    no_attributes();
     configure_h1(&h1);
     expect("no room", (uint64_t)gelvomas_configure_tables(&h1, 0, &no_room, &counts, &refusal), 1);
     expect_refusal("no room", &refusal, GELVOMAS_REFUSED_ROOM, 1, 0, 0);

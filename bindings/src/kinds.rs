@@ -38,7 +38,7 @@ pub mod expression {
 pub mod comparison {
     pub const NEVER: u16 = 0;
     pub const ALWAYS: u16 = 1;
-    /// Attribute a with constant b.
+    /// Attribute a with constant b, whose [`kind`](super::kind) is c.
     pub const CONSTANT: u16 = 2;
     /// Attribute a with attribute b.
     pub const ATTRIBUTE: u16 = 3;
@@ -50,6 +50,32 @@ pub mod comparison {
     pub const OR: u16 = 6;
     /// Comparison b where expression a holds, c elsewhere.
     pub const CHOICE: u16 = 7;
+}
+
+/// Kinds of attributes, one for each in the kind table, and of constants: word c of
+/// [`comparison::CONSTANT`]. What is compared has one kind on both sides.
+///
+/// ```
+/// use gelvomas::{comparison, expression, kind, operator, query, Refusal, Tables, ROWS};
+///
+/// // An arrival (attribute 0) at or before a number of passengers (attribute 1).
+/// let arrivals = Tables {
+///     attributes: 2,
+///     expressions: &[expression::TRUE, 0, 0],
+///     entries: &[0, 0, 1, 0],
+///     relations: &[0, 2],
+///     comparisons: &[comparison::ATTRIBUTE, operator::LESS_OR_EQUAL, 0, 1, 0],
+///     queries: &[query::RELATION, 0, 0, 0, query::SELECT, 0, 0, 0],
+///     kinds: &[kind::MOMENT, kind::COUNT],
+///     ..Tables::default()
+/// };
+/// let refusal = gelvomas::check(&arrivals, &mut [0; ROWS]).unwrap_err();
+/// assert_eq!(refusal.number, Refusal::KINDS_DIFFER);
+/// ```
+pub mod kind {
+    pub const MOMENT: u16 = 0;
+    pub const COUNT: u16 = 1;
+    pub const NAME: u16 = 2;
 }
 
 /// Operators of comparisons with a constant or an attribute: word 1 of a form of

@@ -7,7 +7,7 @@
 mod kinds;
 mod refusal;
 
-pub use kinds::{comparison, expression, operator, query};
+pub use kinds::{comparison, expression, kind, operator, query};
 pub use refusal::Refusal;
 
 /// The most there may be of each. There is at least one expression and one query;
@@ -37,8 +37,8 @@ pub const PAGE_LINE: usize = 73;
 /// The bytes of the longest page, 1,024 lines.
 pub const MAX_PAGE: usize = 74_752;
 
-/// The head and the words of tables 0 to 4. The words may be anything: what the
-/// checker does not take is refused.
+/// The head, and the words of tables 0 to 4 and of the kind table. The words may be
+/// anything: what the checker does not take is refused.
 #[derive(Clone, Copy, Debug, Default, PartialEq, Eq)]
 pub struct Tables<'a> {
     /// Number of features, at most 10.
@@ -57,6 +57,8 @@ pub struct Tables<'a> {
     pub comparisons: &'a [u16],
     /// Table 4, forms of 4 words: kind, a, b, c.
     pub queries: &'a [u16],
+    /// The kind table, a word for each attribute: see [`kind`].
+    pub kinds: &'a [u16],
 }
 
 /// Tables 1 to 4 lent for writing. Each must have at least as many words as its
@@ -104,6 +106,8 @@ pub mod ffi {
             comparisons_length: usize,
             queries: *const u16,
             queries_length: usize,
+            kinds: *const u16,
+            kinds_length: usize,
             rows: *mut u64,
             rows_length: usize,
             refusal: *mut [u64; 4],
@@ -123,6 +127,8 @@ pub mod ffi {
             comparisons_length: usize,
             queries: *const u16,
             queries_length: usize,
+            kinds: *const u16,
+            kinds_length: usize,
             configuration: u64,
             new_entries: *mut u16,
             new_entries_length: usize,
@@ -149,6 +155,8 @@ pub mod ffi {
             comparisons_length: usize,
             queries: *const u16,
             queries_length: usize,
+            kinds: *const u16,
+            kinds_length: usize,
             wanted: u64,
             answer: *mut [u64; 4],
         ) -> u64;
@@ -167,6 +175,8 @@ pub mod ffi {
             comparisons_length: usize,
             queries: *const u16,
             queries_length: usize,
+            kinds: *const u16,
+            kinds_length: usize,
             page: *mut u8,
             page_length: usize,
             answer: *mut [u64; 4],
@@ -196,6 +206,8 @@ pub fn check(tables: &Tables, rows: &mut [u64; ROWS]) -> Result<(), Refusal> {
             tables.comparisons.len(),
             tables.queries.as_ptr(),
             tables.queries.len(),
+            tables.kinds.as_ptr(),
+            tables.kinds.len(),
             rows.as_mut_ptr(),
             rows.len(),
             &mut refusal,
@@ -210,8 +222,8 @@ pub fn check(tables: &Tables, rows: &mut [u64; ROWS]) -> Result<(), Refusal> {
 /// Writes the tables that the report of these tables becomes at a configuration.
 /// Each table is written from its first word on, and the words after it are not
 /// changed; the head and table 0, which are not written, are 0 features, as many
-/// attributes, model 0 and the one expression true (1 0 0). Refused, no word of
-/// `lent` is changed. A configuration that is not permitted, and a table lent with
+/// attributes, model 0 and the one expression true (1 0 0), and the kind table stays
+/// as it is. Refused, no word of `lent` is changed. A configuration that is not permitted, and a table lent with
 /// fewer words than its source has, are refused.
 pub fn configure(tables: &Tables, configuration: u64, lent: Lent) -> Result<Counts, Refusal> {
     let mut words = [0; 4];
@@ -232,6 +244,8 @@ pub fn configure(tables: &Tables, configuration: u64, lent: Lent) -> Result<Coun
             tables.comparisons.len(),
             tables.queries.as_ptr(),
             tables.queries.len(),
+            tables.kinds.as_ptr(),
+            tables.kinds.len(),
             configuration,
             lent.entries.as_mut_ptr(),
             lent.entries.len(),
@@ -280,6 +294,8 @@ pub fn find(tables: &Tables, wanted: u64) -> Result<Option<u64>, Refusal> {
             tables.comparisons.len(),
             tables.queries.as_ptr(),
             tables.queries.len(),
+            tables.kinds.as_ptr(),
+            tables.kinds.len(),
             wanted,
             &mut words,
         )
@@ -318,6 +334,8 @@ pub fn page(tables: &Tables, page: &mut [u8]) -> Result<u64, Refusal> {
             tables.comparisons.len(),
             tables.queries.as_ptr(),
             tables.queries.len(),
+            tables.kinds.as_ptr(),
+            tables.kinds.len(),
             page.as_mut_ptr(),
             page.len(),
             &mut words,

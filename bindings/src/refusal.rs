@@ -41,6 +41,8 @@ impl Refusal {
     pub const ROOM: u64 = 21;
     pub const WANTED: u64 = 22;
     pub const PAGE: u64 = 23;
+    pub const KIND: u64 = 24;
+    pub const KINDS_DIFFER: u64 = 25;
 }
 
 impl From<[u64; 4]> for Refusal {
@@ -155,6 +157,20 @@ impl Display for Refusal {
             (Refusal::PAGE, _) => write!(
                 f,
                 "the page lent has fewer than {PAGE_LINE} bytes for each permitted configuration"
+            ),
+            (Refusal::KIND, 0) => write!(
+                f,
+                "the kind table has not one word for each attribute, \
+                 or a kind over 2 stands in its word 0 or in comparison 0"
+            ),
+            (Refusal::KIND, _) => write!(
+                f,
+                "a kind over 2 stands in word {place} of the kind table or in comparison {place}"
+            ),
+            (Refusal::KINDS_DIFFER, _) => write!(
+                f,
+                "form {place} compares attribute {item} with something of another kind \
+                 at configuration {configuration}"
             ),
             _ => write!(f, "refused {number} {place} {item} {configuration}"),
         }

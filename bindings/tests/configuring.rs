@@ -29,6 +29,7 @@ const VARIED: Tables = Tables {
     queries: &[
         1, 0, 0, 0, 3, 2, 0, 0, 1, 1, 0, 0, 2, 4, 2, 0, 0, 0, 0, 0, 4, 2, 3, 4, 5, 1, 5, 0,
     ],
+    kinds: &[0; 4],
 };
 
 /// Berth 0 and ramp 1; swaps 0 and tide gates 1. The relation lists the ramp for
@@ -43,6 +44,7 @@ const RAMP_TWICE: Tables = Tables {
     relations: &[0, 3],
     comparisons: &[],
     queries: &[1, 0, 0, 0],
+    kinds: &[0; 2],
 };
 
 /// The words of tables 1 to 4.
@@ -126,6 +128,7 @@ fn expect_same_columns(tables: &Tables, configuration: u64, wanted: &[usize]) {
         relations: &words[1][..counts.relations as usize * 2],
         comparisons: &words[2][..counts.comparisons as usize * 5],
         queries: &words[3][..counts.queries as usize * 4],
+        kinds: tables.kinds,
     };
     assert_eq!(columns(tables, configuration as usize), wanted);
     assert_eq!(columns(&plain, 0), wanted);

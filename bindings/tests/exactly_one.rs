@@ -21,6 +21,7 @@ const QUAY: Tables = Tables {
     relations: &[0, 4],
     comparisons: &[],
     queries: &[query::RELATION, 0, 0, 0],
+    kinds: &[0; 4],
 };
 
 const LOCKED: u64 = 1 << 1;
@@ -49,6 +50,7 @@ fn held(features: u64, expressions: &[[u16; 3]]) -> Result<Vec<usize>, Refusal> 
         relations: &[0, 1],
         comparisons: &[],
         queries: &[query::RELATION, 0, 0, 0],
+        kinds: &[0],
     };
     let mut rows = [0; ROWS];
     check(&tables, &mut rows)?;

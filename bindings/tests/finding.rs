@@ -3,7 +3,7 @@
 
 mod common;
 
-use common::{raw_find, refused, shown, H1};
+use common::{moments, raw_find, refused, shown, H1};
 use gelvomas::{check, find, Refusal, Tables, ROWS};
 
 const VESSEL: u64 = 1 << 0;
@@ -131,6 +131,7 @@ fn a_wanted_attribute_past_the_number_of_attributes_is_refused() {
     expect_none(
         &Tables {
             attributes: 4,
+            kinds: moments(4),
             ..H1
         },
         1 << 3,
@@ -141,6 +142,7 @@ fn a_wanted_attribute_past_the_number_of_attributes_is_refused() {
 fn a_report_may_have_no_attributes() {
     let none = Tables {
         attributes: 0,
+        kinds: &[],
         entries: &[],
         relations: &[0, 0],
         queries: &[1, 0, 0, 0],
@@ -157,6 +159,7 @@ fn of_64_attributes_all_may_be_wanted() {
     entries[127] = 2;
     let full = Tables {
         attributes: 64,
+        kinds: moments(64),
         entries: &entries,
         relations: &[0, 64],
         queries: &[1, 0, 0, 0],
@@ -168,6 +171,7 @@ fn of_64_attributes_all_may_be_wanted() {
     // With 63 attributes, of which H1's report has two.
     let fewer = Tables {
         attributes: 63,
+        kinds: moments(63),
         ..H1
     };
     expect_none(&fewer, 1 << 62);
@@ -176,6 +180,7 @@ fn of_64_attributes_all_may_be_wanted() {
     expect_none(
         &Tables {
             attributes: 64,
+            kinds: moments(64),
             ..H1
         },
         1 << 63,

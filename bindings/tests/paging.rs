@@ -3,7 +3,7 @@
 
 mod common;
 
-use common::{raw_page, refused, shown, H1};
+use common::{moments, raw_page, refused, shown, H1};
 use gelvomas::{check, page, Refusal, Tables, MAX_PAGE, PAGE_LINE, ROWS};
 
 /// What the bytes are before a call: no line has it.
@@ -94,6 +94,7 @@ fn expect_line(attributes: u64, listed: &[u16], wanted: &str) {
     let plain = Tables {
         features: 0,
         attributes,
+        kinds: moments(attributes),
         expressions: &[1, 0, 0],
         entries: &entries,
         relations: &[0, listed.len() as u16],
@@ -229,6 +230,7 @@ fn every_mark_is_the_bit_of_its_row() {
         let tables = Tables {
             features: 10,
             attributes: 64,
+            kinds: moments(64),
             model,
             expressions: &expressions,
             entries: &entries,
@@ -290,6 +292,9 @@ fn the_form_is_checked_before_the_page() {
     let left = queries(&[0, 0, 0, 0, 1, 0, 0, 0, 3, 2, 1, 0]);
     expect_before_23(&left, [9, 0, 0, 0]);
     expect_before_23(&queries(&[1, 0, 0, 0, 3, 1, 0, 0]), [10, 4, 0, 0]);
+    let kinds = |kinds| Tables { kinds, ..H1 };
+    expect_before_23(&kinds(&[0, 0]), [24, 0, 0, 0]);
+    expect_before_23(&kinds(&[0, 3, 0]), [24, 1, 0, 0]);
 }
 
 #[test]
@@ -341,6 +346,12 @@ fn typing_is_checked_before_the_page() {
     expect_before_23(&h2, [17, 1, 2, 1]);
     expect_before_23(&product, [18, 2, 0, 0]);
     expect_before_23(&union, [19, 2, 0, 0]);
+    // Comparison 0 is of vessel, a moment, with a count.
+    let differ = Tables {
+        comparisons: &[2, 0, 0, 500, 1],
+        ..select
+    };
+    expect_before_23(&differ, [25, 1, 0, 0]);
 }
 
 #[test]

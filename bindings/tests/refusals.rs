@@ -40,6 +40,9 @@ fn each_refusal_is_said_in_words() {
         ([21, 4, 0, 0], "table 4 lent for writing is shorter than its source"),
         ([22, 0, 0, 0], "a wanted attribute is past the head's number"),
         ([23, 0, 0, 0], "the page lent has fewer than 73 bytes for each permitted configuration"),
+        ([24, 0, 0, 0], "the kind table has not one word for each attribute, or a kind over 2 stands in its word 0 or in comparison 0"),
+        ([24, 5, 0, 0], "a kind over 2 stands in word 5 of the kind table or in comparison 5"),
+        ([25, 1, 2, 3], "form 1 compares attribute 2 with something of another kind at configuration 3"),
     ] {
         let [number, place, item, configuration] = refusal;
         assert_eq!(said(number, place, item, configuration), wanted);
@@ -50,7 +53,7 @@ fn each_refusal_is_said_in_words() {
 fn other_numbers_are_given_as_they_are() {
     assert_eq!(said(0, 0, 0, 0), "refused 0 0 0 0");
     assert_eq!(said(1, 2, 0, 0), "refused 1 2 0 0");
-    assert_eq!(said(24, 1, 2, 3), "refused 24 1 2 3");
+    assert_eq!(said(26, 1, 2, 3), "refused 26 1 2 3");
     assert_eq!(
         said(u64::MAX, 1, 2, 3),
         "refused 18446744073709551615 1 2 3"
@@ -124,7 +127,7 @@ fn numbers_of_header() -> BTreeMap<String, u64> {
 #[test]
 fn the_numbers_are_those_of_the_header() {
     let numbers = numbers_of_header();
-    assert_eq!(numbers.get("GELVOMAS_REFUSED_PAGE"), Some(&23));
+    assert_eq!(numbers.get("GELVOMAS_REFUSED_KINDS_DIFFER"), Some(&25));
     assert_eq!(numbers.get("GELVOMAS_MAX_PAGE"), Some(&74_752));
     assert_eq!(numbers_of_package(), numbers);
 }

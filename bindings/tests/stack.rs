@@ -9,9 +9,9 @@ use gelvomas::{Counts, Lent, Refusal, Tables};
 use gelvomas::{MAX_ATTRIBUTES, MAX_COMPARISONS, MAX_EXPRESSIONS, MAX_FEATURES};
 use gelvomas::{MAX_PAGE, MAX_QUERIES, ROWS};
 
-/// What is stated, in bytes. The least that was enough: 367 KiB for a check and for
-/// finding, 368 KiB for the page, 370 KiB for configuring, of which the thread needs
-/// some itself.
+/// What is stated, in bytes. The least that was enough: 368 KiB for a check, for
+/// finding and for the page, 370 KiB for configuring, of which the thread needs some
+/// itself.
 const STACK_OF_CHECK: usize = 400 << 10;
 const STACK_OF_FIND: usize = 400 << 10;
 const STACK_OF_PAGE: usize = 400 << 10;
@@ -51,7 +51,7 @@ const NAMES_LAST: u16 = LAST_ATTRIBUTE;
 
 fn comparisons() -> Vec<u16> {
     let mut forms = Vec::new();
-    forms.extend((0..ATTRIBUTES).map(|a| [comparison::CONSTANT, a % 6, a, 500, 0]));
+    forms.extend((0..ATTRIBUTES).map(|a| [comparison::CONSTANT, a % 6, a, 500, a % 3]));
     forms.push([comparison::CHOICE, 0, NOT_LAST, NAMES_LAST, 0]);
     for form in ATTRIBUTES + 1..MAX_COMPARISONS as u16 {
         forms.push(match form % 4 {
@@ -144,6 +144,8 @@ fn the_stated_stack_is_enough() {
     refused_last[usize::from(last)] = [query::SELECT, NAMES_LAST, last - 1, 0];
     let [accepted, refused_last] = [accepted.concat(), refused_last.concat()];
     let (expressions, entries, comparisons) = (expressions(), entries(), comparisons());
+    // Moments, counts and names by turns, as the constants are.
+    let kinds: Vec<u16> = (0..ATTRIBUTES).map(|a| a % 3).collect();
     let deep = Tables {
         features: MAX_FEATURES,
         attributes: MAX_ATTRIBUTES,
@@ -153,10 +155,24 @@ fn the_stated_stack_is_enough() {
         relations: &[ALWAYS, ATTRIBUTES],
         comparisons: &comparisons,
         queries: &accepted,
+        kinds: &kinds,
     };
     let deep_refused = Tables {
         queries: &refused_last,
         ..deep
+    };
+    // The first select that names the last attribute compares it with another kind.
+    let mut kinds_differ = kinds.clone();
+    kinds_differ[usize::from(LAST_ATTRIBUTE)] = 1;
+    let deep_differ = Tables {
+        kinds: &kinds_differ,
+        ..deep
+    };
+    let differ = Refusal {
+        number: Refusal::KINDS_DIFFER,
+        place: NAMES_LAST.into(),
+        item: LAST_ATTRIBUTE.into(),
+        configuration: 0,
     };
     let refusal = Refusal {
         number: Refusal::COMPARED_MISSING,
@@ -171,12 +187,15 @@ fn the_stated_stack_is_enough() {
     wanted[ROWS - 1] >>= 1;
     assert!(rows == wanted);
     assert_eq!(checked(&deep_refused, &mut rows), Err(refusal));
+    assert_eq!(checked(&deep_differ, &mut rows), Err(differ));
 
     assert_eq!(found(&deep, u64::MAX), Ok(Some(0)));
     assert_eq!(found(&deep_refused, u64::MAX), Err(refusal));
+    assert_eq!(found(&deep_differ, u64::MAX), Err(differ));
 
     assert_eq!(paged(&deep), Ok(1024));
     assert_eq!(paged(&deep_refused), Err(refusal));
+    assert_eq!(paged(&deep_differ), Err(differ));
 
     let kept = comparisons
         .chunks(5)
@@ -189,4 +208,5 @@ fn the_stated_stack_is_enough() {
     };
     assert_eq!(configured(&deep, 0), Ok(counts));
     assert_eq!(configured(&deep_refused, 0), Err(refusal));
+    assert_eq!(configured(&deep_differ, 0), Err(differ));
 }

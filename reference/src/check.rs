@@ -31,14 +31,14 @@ pub fn check(tables: &Tables, rows: &mut [u64]) -> Result<(), Refusal> {
     Ok(())
 }
 
-/// What configuring runs before 20: checks 1 to 10 and 12 to 19. "A call whose
-/// own checks come after 19" runs it first too; 11 is of checking only.
+/// What configuring runs before 20: checks 1 to 10, 24, 12 to 19 and 25. "A call
+/// whose own checks come after 19" runs it first too; 11 is of checking only.
 pub fn accepted(tables: &Tables) -> Result<Accepted, Refusal> {
     let lists = form::check(tables)?;
     schema_and_typing(tables, lists)
 }
 
-/// Checks 12 to 19, on tables sound in form.
+/// Checks 12 to 19 and 25, on tables sound in form.
 fn schema_and_typing(tables: &Tables, lists: Lists) -> Result<Accepted, Refusal> {
     let permitted = expression::permitted(tables);
     schema::check(tables, &lists, &permitted)?;

@@ -6,20 +6,23 @@ use crate::check::{self, ROWS};
 use crate::expression;
 use crate::page::{self, LINE, MOST_LINES};
 use crate::refusal::Refusal;
-use crate::tables::{Tables, RANGES, WIDTHS};
+use crate::tables::{self, Tables, MOST_ATTRIBUTES, RANGES, WIDTHS};
 
 /// "At most 65,536 bytes".
 pub const MOST_BYTES: usize = 65_536;
 
-/// The words of the lines by group: the head, then tables 0 to 4.
-const WORDS: [&[u8]; 6] = [
+/// The words of the lines by group: the head, tables 0 to 4, then the kinds.
+const WORDS: [&[u8]; 7] = [
     b"head",
     b"expression",
     b"entry",
     b"relation",
     b"comparison",
     b"query",
+    b"kind",
 ];
+
+const KIND: usize = 6;
 
 /// What a program reads of its standard input: one byte more than a file may
 /// have is enough to see that it is longer. An error of reading counts as the
@@ -70,7 +73,8 @@ pub fn read_file(text: &[u8]) -> Result<Tables, usize> {
     }
     match last_group {
         None => Err(1),
-        Some(_) => Ok(tables),
+        Some(KIND) => Ok(tables),
+        Some(_) => Ok(tables.of_moments()),
     }
 }
 
@@ -91,11 +95,18 @@ fn put(tables: &mut Tables, group: usize, numbers: &[u16]) -> bool {
         tables.model = u64::from(numbers[2]);
         return true;
     }
-    let table = group - 1;
-    if tables.count(table) == RANGES[table].1 {
+    let is_full = match group {
+        KIND => tables.kinds.len() as u64 == MOST_ATTRIBUTES,
+        _ => tables.count(group - 1) == RANGES[group - 1].1,
+    };
+    if is_full {
         return false;
     }
-    tables.words_mut(table).extend(numbers);
+    let words = match group {
+        KIND => &mut tables.kinds,
+        _ => tables.words_mut(group - 1),
+    };
+    words.extend(numbers);
     true
 }
 
@@ -109,6 +120,7 @@ fn read_line(line: &[u8]) -> Option<(usize, Vec<u16>)> {
     let numbers = parts.map(read_number).collect::<Option<Vec<u16>>>()?;
     let wanted = match group {
         0 => 3,
+        KIND => 1,
         _ => WIDTHS[group - 1],
     };
     (numbers.len() == wanted).then_some((group, numbers))
@@ -177,8 +189,28 @@ fn accepted_lines(tables: &Tables, rows: &[u64]) -> String {
     text
 }
 
-/// The harbour file of tables whose lengths are multiples of their forms.
+/// The harbour file of tables whose lengths are multiples of their forms, without
+/// kind lines where it needs none. (A kind table of no words where m is not 0, and one
+/// of more than 64, have no file.)
 pub fn write_file(tables: &Tables) -> Vec<u8> {
+    let mut text = lines_of_tables(tables);
+    if tables.kinds != tables::moments(tables.attributes) {
+        text += &kind_lines(tables);
+    }
+    text.into_bytes()
+}
+
+/// The same with a line for every kind.
+pub fn write_file_with_kinds(tables: &Tables) -> Vec<u8> {
+    (lines_of_tables(tables) + &kind_lines(tables)).into_bytes()
+}
+
+fn kind_lines(tables: &Tables) -> String {
+    let kinds = tables.kinds.iter();
+    kinds.map(|&kind| line(KIND, &[kind.into()])).collect()
+}
+
+fn lines_of_tables(tables: &Tables) -> String {
     let head = [tables.features, tables.attributes, tables.model];
     let mut text = line(0, &head);
     for (table, width) in WIDTHS.into_iter().enumerate() {
@@ -187,7 +219,7 @@ pub fn write_file(tables: &Tables) -> Vec<u8> {
             text += &line(table + 1, &numbers);
         }
     }
-    text.into_bytes()
+    text
 }
 
 fn line(group: usize, numbers: &[u64]) -> String {

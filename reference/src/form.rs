@@ -1,4 +1,4 @@
-//! Checks 1 to 10: are the tables sound in form?
+//! Checks 1 to 10 and 24: are the tables sound in form?
 //!
 //! Each function is one row of the table of refusals (docs/FORMAT.md).
 
@@ -6,7 +6,7 @@ use std::ops::Range;
 
 use crate::refusal::Refusal;
 use crate::tables::{self, Tables, MOST_ATTRIBUTES, MOST_FEATURES, MOST_IN_RANGE};
-use crate::tables::{RANGES, WIDTHS};
+use crate::tables::{NAME, RANGES, WIDTHS, WITH_CONSTANT};
 
 /// Where each list lies in table 1: "relation 0's, relation 1's and so on,
 /// then each project form's in query order". A query that is no project has an
@@ -17,7 +17,7 @@ pub struct Lists {
     pub queries: Vec<Range<usize>>,
 }
 
-/// Runs checks 1 to 10 in their order and gives the place of the lists.
+/// Runs checks 1 to 10 in their order, then 24, and gives the place of the lists.
 pub fn check(tables: &Tables) -> Result<Lists, Refusal> {
     head(tables)?;
     lengths(tables)?;
@@ -30,6 +30,7 @@ pub fn check(tables: &Tables) -> Result<Lists, Refusal> {
     let seen = queries(tables, after_relations)?;
     never_taken(&seen.taken)?;
     entries_left(tables, seen.end)?;
+    kinds(tables)?;
     Ok(Lists {
         relations,
         queries: seen.lists,
@@ -147,7 +148,8 @@ fn comparison_is_sound(tables: &Tables, form: usize) -> bool {
     operator_is_sound
         && match kind {
             0 | 1 => a == 0 && b == 0 && c == 0,
-            2 => attribute(a) && c == 0,
+            // Word c is the constant's kind, which is 24's matter.
+            2 => attribute(a),
             3 => attribute(a) && attribute(b) && c == 0,
             4 => lower(a) && b == 0 && c == 0,
             5 | 6 => lower(a) && lower(b) && c == 0,
@@ -235,6 +237,25 @@ fn never_taken(taken: &[bool]) -> Result<(), Refusal> {
 fn entries_left(tables: &Tables, end: usize) -> Result<(), Refusal> {
     if end < tables.count(1) {
         return Err(Refusal::at(10, end));
+    }
+    Ok(())
+}
+
+/// 24: the kind table is not m words (place 0), else a kind over 2 there (place the
+/// word), else one in a comparison (place the form).
+fn kinds(tables: &Tables) -> Result<(), Refusal> {
+    if tables.kinds.len() as u64 != tables.attributes {
+        return Err(Refusal::at(24, 0));
+    }
+    let is_over = |&kind: &u16| kind > NAME;
+    if let Some(word) = tables.kinds.iter().position(is_over) {
+        return Err(Refusal::at(24, word));
+    }
+    for form in 0..tables.count(3) {
+        let [kind, _, _, _, c] = tables.comparison(form);
+        if kind == WITH_CONSTANT && is_over(&c) {
+            return Err(Refusal::at(24, form));
+        }
     }
     Ok(())
 }

@@ -16,9 +16,10 @@ pub type Attributes = BTreeSet<u16>;
 /// A comparison without choices. Operands are shared, so they stay numbers.
 #[derive(Clone, Debug)]
 pub enum Comparison {
-    Constant,
-    One(u16),
-    Two(u16, u16),
+    Truth,
+    /// Of an attribute with a constant of the kind.
+    Constant(u16, u16),
+    Attributes(u16, u16),
     Of(Vec<usize>),
 }
 
@@ -41,6 +42,8 @@ pub struct Report {
     pub schema: BTreeMap<u16, Attributes>,
     pub comparisons: BTreeMap<usize, Comparison>,
     pub tree: Tree,
+    /// The kind of each attribute: the same at every configuration.
+    pub kinds: BTreeMap<u16, u16>,
 }
 
 /// The report of tables sound in form and schema, configured at `c`.
@@ -60,6 +63,7 @@ pub fn configured_form(tables: &Tables, lists: &Lists, c: u64, form: usize) -> R
         schema: configurer.schema(),
         comparisons: configurer.comparisons(),
         tree: configurer.tree(form),
+        kinds: (0..).zip(tables.kinds.iter().copied()).collect(),
     }
 }
 
@@ -124,14 +128,14 @@ impl Configurer<'_> {
     fn comparisons(&self) -> BTreeMap<usize, Comparison> {
         let mut kept = BTreeMap::new();
         for form in 0..self.tables.count(3) {
-            let [kind, _, a, b, _] = self.tables.comparison(form);
+            let [kind, _, a, b, c] = self.tables.comparison(form);
             let comparison = match kind {
-                2 => Comparison::One(a),
-                3 => Comparison::Two(a, b),
+                2 => Comparison::Constant(a, c),
+                3 => Comparison::Attributes(a, b),
                 4 => Comparison::Of(vec![self.leads_to(a)]),
                 5 | 6 => Comparison::Of(vec![self.leads_to(a), self.leads_to(b)]),
                 7 => continue,
-                _ => Comparison::Constant,
+                _ => Comparison::Truth,
             };
             kept.insert(form, comparison);
         }
@@ -170,7 +174,8 @@ impl Report {
             Tree::Relation(number) => self.schema.get(number).cloned(),
             Tree::Select(comparison, of) => {
                 let columns = self.columns_of(of)?;
-                let kept = self.named(*comparison).is_subset(&columns);
+                let kept = self.named(*comparison).is_subset(&columns)
+                    && self.of_two_kinds(*comparison).is_empty();
                 kept.then_some(columns)
             }
             Tree::Project(list, of) => {
@@ -198,7 +203,13 @@ impl Report {
             Tree::Empty => return None,
             Tree::Relation(r) if self.schema.contains_key(r) => return None,
             Tree::Relation(r) => (15, Attributes::from([*r])),
-            Tree::Select(comparison, of) => (16, &self.named(*comparison) - &columns(of)),
+            Tree::Select(comparison, of) => {
+                let missing = &self.named(*comparison) - &columns(of);
+                match missing.is_empty() {
+                    false => (16, missing),
+                    true => (25, self.of_two_kinds(*comparison)),
+                }
+            }
             Tree::Project(list, of) => {
                 let list: Attributes = list.iter().copied().collect();
                 (17, &list - &columns(of))
@@ -211,22 +222,49 @@ impl Report {
         at_fault.first().map(|&item| (number, item))
     }
 
-    /// The attributes that a comparison names. Each comparison is visited once,
-    /// however often it is shared.
+    /// The attributes that a comparison names.
     fn named(&self, root: usize) -> Attributes {
         let mut attributes = Attributes::new();
+        for comparison in self.without_operands(root) {
+            match *comparison {
+                Comparison::Constant(a, _) => attributes.extend([a]),
+                Comparison::Attributes(a, b) => attributes.extend([a, b]),
+                _ => {}
+            }
+        }
+        attributes
+    }
+
+    /// The left attributes of the comparisons in it whose sides have two kinds.
+    fn of_two_kinds(&self, root: usize) -> Attributes {
+        let mut attributes = Attributes::new();
+        for comparison in self.without_operands(root) {
+            let (left, right) = match *comparison {
+                Comparison::Constant(a, kind) => (a, kind),
+                Comparison::Attributes(a, b) => (a, self.kinds[&b]),
+                _ => continue,
+            };
+            if self.kinds[&left] != right {
+                attributes.insert(left);
+            }
+        }
+        attributes
+    }
+
+    /// The comparisons without operands that a comparison is made of. Each is
+    /// visited once, however often it is shared.
+    fn without_operands(&self, root: usize) -> Vec<&Comparison> {
+        let mut found = Vec::new();
         let mut visited = BTreeSet::from([root]);
         let mut waiting = vec![root];
         while let Some(form) = waiting.pop() {
             match &self.comparisons[&form] {
-                Comparison::Constant => {}
-                Comparison::One(a) => attributes.extend([*a]),
-                Comparison::Two(a, b) => attributes.extend([*a, *b]),
                 Comparison::Of(operands) => {
                     waiting.extend(operands.iter().filter(|&&o| visited.insert(o)));
                 }
+                comparison => found.push(comparison),
             }
         }
-        attributes
+        found
     }
 }

@@ -26,3 +26,13 @@ impl Refusal {
         Refusal::new(number, place as u64, 0, 0)
     }
 }
+
+/// Is it a typing fault? Those are 15 to 19 and 25.
+pub fn is_of_typing(number: u64) -> bool {
+    matches!(number, 15..=19 | 25)
+}
+
+/// Is it checked before the rows lent, 11? Those are 1 to 10 and 24.
+pub fn is_of_form(number: u64) -> bool {
+    matches!(number, 1..=10 | 24)
+}

@@ -8,7 +8,7 @@ use crate::find;
 use crate::generate::{self, LIMITS};
 use crate::page::{self, LINE};
 use crate::random::Random;
-use crate::refusal::Refusal;
+use crate::refusal::{self, Refusal};
 use crate::tables::Tables;
 
 /// One small case: a call with all that it is given.
@@ -48,8 +48,9 @@ pub const H1: &str = "(head 2 3 0)
 
 /// Numbers that few limits, or none, give: the more they lack, the more often
 /// they stand here.
-const REFUSALS: [u64; 25] = [
+const REFUSALS: [u64; 27] = [
     4, 5, 6, 8, 9, 10, 11, 11, 11, 12, 13, 15, 15, 15, 16, 17, 17, 17, 18, 18, 18, 18, 19, 19, 19,
+    25, 25,
 ];
 
 /// What a lent page is before the call: a byte that no line has.
@@ -100,12 +101,14 @@ fn varied(random: &mut Random) -> Tables {
 }
 
 /// Tables that are refused by the number, with rows to fit: those of another
-/// length are refused before 12.
+/// length are refused before 12, and after 10 and 24.
 fn refused_check(random: &mut Random, tables: Tables, number: u64) -> Case {
     let room = match number {
         11 => random.pick(&[0, 1023, 1025]),
-        12.. => ROWS,
-        _ => random.pick(&[ROWS, ROWS, ROWS, ROWS, ROWS, 0, 1023, 1025]),
+        _ if refusal::is_of_form(number) => {
+            random.pick(&[ROWS, ROWS, ROWS, ROWS, ROWS, 0, 1023, 1025])
+        }
+        _ => ROWS,
     };
     Case::Check { tables, room }
 }
@@ -150,12 +153,12 @@ fn configuring(random: &mut Random) -> Case {
 
 /// Tables that are refused before typing.
 fn refused_early(random: &mut Random) -> Tables {
-    let number = random.pick(&[1, 2, 3, 4, 5, 6, 7, 8, 9, 10, 12, 13, 14]);
+    let number = random.pick(&[1, 2, 3, 4, 5, 6, 7, 8, 9, 10, 24, 24, 24, 12, 13, 14]);
     generate::small_refused(random, number)
 }
 
 fn refused_by_typing(random: &mut Random) -> Tables {
-    let number = random.between(15, 19) as u64;
+    let number = random.pick(&[15, 16, 17, 18, 19, 25]);
     generate::small_refused(random, number)
 }
 
@@ -187,10 +190,14 @@ fn text(random: &mut Random) -> Case {
         let mut text = match random.below(4) {
             0 => H1.as_bytes().to_vec(),
             1 => {
-                let number = random.pick(&[1, 2, 3, 4, 5, 6, 7, 8, 9, 10, 12, 13, 14, 15, 17, 19]);
-                file::write_file(&generate::small_refused(random, number))
+                let number = random.pick(&generate::NUMBERS);
+                let tables = generate::small_refused(random, number);
+                generate::text_of(random.word(), &tables)
             }
-            _ => file::write_file(&generate::small_accepted(random)),
+            _ => {
+                let tables = generate::small_accepted(random);
+                generate::text_of(random.word(), &tables)
+            }
         };
         if random.chance(11, 20) {
             text = generate::damage(random.word(), &text);
@@ -313,5 +320,6 @@ fn tables_lines(tables: &Tables) -> String {
     for table in 0..5 {
         lines += &format!("t{table}{}\n", spaced(tables.words(table)));
     }
+    lines += &format!("kinds{}\n", spaced(&tables.kinds));
     lines
 }

@@ -1,4 +1,4 @@
-//! The head and the five tables of docs/FORMAT.md, "Tables".
+//! The head, the five tables of docs/FORMAT.md, "Tables", and the kind table.
 
 /// Number of words of one form, by table.
 pub const WIDTHS: [usize; 5] = [3, 2, 2, 5, 4];
@@ -27,11 +27,19 @@ pub const PRODUCT: u16 = 5;
 pub const UNION: u16 = 6;
 pub const INTERSECTION: u16 = 7;
 
-/// The kind of a choice in table 3.
+/// Kinds of table 3 that the code names. Those of one attribute with a constant and of
+/// two attributes have kinds on both sides.
+pub const WITH_CONSTANT: u16 = 2;
+pub const WITH_ATTRIBUTE: u16 = 3;
 pub const COMPARISON_CHOICE: u16 = 7;
 
-/// The head (three numbers) and the words of tables 0 to 4. The words may be
-/// anything: also of a length that is no multiple of a form.
+/// Kinds of attributes and of constants.
+pub const MOMENT: u16 = 0;
+pub const COUNT: u16 = 1;
+pub const NAME: u16 = 2;
+
+/// The head (three numbers), the words of tables 0 to 4, and the kind table. The
+/// words may be anything: also of a length that is no multiple of a form.
 #[derive(Clone, Debug, Default, PartialEq, Eq, Hash)]
 pub struct Tables {
     pub features: u64,
@@ -42,6 +50,8 @@ pub struct Tables {
     pub relations: Vec<u16>,
     pub comparisons: Vec<u16>,
     pub queries: Vec<u16>,
+    /// The kind of each attribute.
+    pub kinds: Vec<u16>,
 }
 
 impl Tables {
@@ -105,11 +115,23 @@ impl Tables {
         self.count(0) as u16 - 1
     }
 
+    /// The same with all attributes moments.
+    pub fn of_moments(self) -> Tables {
+        let kinds = moments(self.attributes);
+        Tables { kinds, ..self }
+    }
+
     /// Number of configurations: "they run from 0 to 2^n - 1". To be asked
     /// only when check 1 has passed.
     pub fn configurations(&self) -> u64 {
         1 << self.features
     }
+}
+
+/// A kind table of moments. Where there are more attributes than there may be, 1 comes
+/// first, and 64 words are enough.
+pub fn moments(attributes: u64) -> Vec<u16> {
+    vec![MOMENT; attributes.min(MOST_ATTRIBUTES) as usize]
 }
 
 /// One form out of a table's words.

@@ -1,4 +1,4 @@
-//! Checks 15 to 19: the typing rules, one permitted configuration at a time.
+//! Checks 15 to 19 and 25: the typing rules, one permitted configuration at a time.
 
 use std::ops::Range;
 
@@ -25,9 +25,10 @@ pub fn check(tables: &Tables, lists: &Lists, permitted: &[Permitted]) -> Result<
     for at in permitted {
         match report_at(tables, lists, at) {
             Ok(set) => columns.push(set),
-            // The configurations ascend: a later one speaks only when its form
-            // is lower.
-            Err(fault) if worst.is_none_or(|old| fault.place < old.place) => worst = Some(fault),
+            // The configurations ascend, so of faults that are alike the first stays.
+            Err(fault) if worst.is_none_or(|old| comes_before(&fault, &old)) => {
+                worst = Some(fault);
+            }
             Err(_) => {}
         }
     }
@@ -37,17 +38,24 @@ pub fn check(tables: &Tables, lists: &Lists, permitted: &[Permitted]) -> Result<
     }
 }
 
+/// Does a fault come before one of a lower configuration? That of a lower form does,
+/// and in one form 16 comes before 25, which is looked for "only when 16 fails there at
+/// no configuration". Of other numbers a form has one.
+fn comes_before(fault: &Refusal, other: &Refusal) -> bool {
+    (fault.place, fault.number) < (other.place, other.number)
+}
+
 /// The set of the report at one configuration, or its lowest failing form
 /// there. Nothing above that form is looked at: a broken form has no set.
 pub fn report_at(tables: &Tables, lists: &Lists, at: &Permitted) -> Result<Set, Refusal> {
     let reached = reached_at(tables, &at.holds);
-    let named = named_at(tables, &at.holds);
+    let compared = Compared::at(tables, &at.holds);
     let mut sets: Vec<Set> = vec![0; tables.count(4)];
     for form in 0..sets.len() {
         if !reached[form] {
             continue;
         }
-        match set_of_form(tables, lists, &at.holds, &named, &sets, form) {
+        match set_of_form(tables, lists, &at.holds, &compared, &sets, form) {
             Ok(set) => sets[form] = set,
             Err(Fault { number, item }) => {
                 let place = form as u64;
@@ -83,25 +91,60 @@ pub fn reached_at(tables: &Tables, holds: &[bool]) -> Vec<bool> {
     reached
 }
 
-/// "Every attribute that the comparison names there, its choices taken", for
-/// every comparison: one ascending pass.
-fn named_at(tables: &Tables, holds: &[bool]) -> Vec<Set> {
-    let mut named: Vec<Set> = Vec::with_capacity(tables.count(3));
+/// What each comparison names and where its kinds differ, at one configuration.
+struct Compared {
+    /// "Every attribute that the comparison names there, its choices taken".
+    named: Vec<Set>,
+    /// The left attributes of the comparisons in it whose sides differ in kind.
+    clashing: Vec<Set>,
+}
+
+impl Compared {
+    fn at(tables: &Tables, holds: &[bool]) -> Compared {
+        let named = joined_over(tables, holds, |comparison| match comparison {
+            [tables::WITH_CONSTANT, _, a, ..] => 1 << a,
+            [tables::WITH_ATTRIBUTE, _, a, b, _] => 1 << a | 1 << b,
+            _ => 0,
+        });
+        let clashing = joined_over(tables, holds, |comparison| {
+            let [_, _, left, ..] = comparison;
+            match sides(tables, comparison) {
+                Some([one, other]) if one != other => 1 << left,
+                _ => 0,
+            }
+        });
+        Compared { named, clashing }
+    }
+}
+
+/// The kinds of a comparison's two sides, where it has sides.
+fn sides(tables: &Tables, [kind, _, a, b, c]: [u16; 5]) -> Option<[u16; 2]> {
+    let of = |attribute: u16| tables.kinds[usize::from(attribute)];
+    match kind {
+        tables::WITH_CONSTANT => Some([of(a), c]),
+        tables::WITH_ATTRIBUTE => Some([of(a), of(b)]),
+        _ => None,
+    }
+}
+
+/// For every comparison the attributes of those that it is made of, its choices
+/// taken: one ascending pass. `own` gives those of a comparison without operands.
+fn joined_over(tables: &Tables, holds: &[bool], own: impl Fn([u16; 5]) -> Set) -> Vec<Set> {
+    let mut joined: Vec<Set> = Vec::with_capacity(tables.count(3));
     for form in 0..tables.count(3) {
-        let [kind, _, a, b, c] = tables.comparison(form).map(usize::from);
+        let comparison = tables.comparison(form);
+        let [kind, _, a, b, c] = comparison.map(usize::from);
         let set = match kind {
-            0 | 1 => 0,
-            2 => 1 << a,
-            3 => 1 << a | 1 << b,
-            4 => named[a],
-            5 | 6 => named[a] | named[b],
-            7 if holds[a] => named[b],
-            7 => named[c],
+            0..=3 => own(comparison),
+            4 => joined[a],
+            5 | 6 => joined[a] | joined[b],
+            7 if holds[a] => joined[b],
+            7 => joined[c],
             _ => panic!("check 7 lets no other kind pass"),
         };
-        named.push(set);
+        joined.push(set);
     }
-    named
+    joined
 }
 
 /// One typing rule: the set of a reached form, its operands' sets being known.
@@ -109,7 +152,7 @@ fn set_of_form(
     tables: &Tables,
     lists: &Lists,
     holds: &[bool],
-    named: &[Set],
+    compared: &Compared,
     sets: &[Set],
     form: usize,
 ) -> Result<Set, Fault> {
@@ -122,7 +165,10 @@ fn set_of_form(
             let list = joined(tables, &lists.relations[a], holds);
             keeps(holds[presence], 15, a as u64, list)
         }
-        tables::SELECT => none_at_fault(16, named[a] & !sets[b], sets[b]),
+        tables::SELECT => {
+            let set = none_at_fault(16, compared.named[a] & !sets[b], sets[b])?;
+            none_at_fault(25, compared.clashing[a], set)
+        }
         tables::PROJECT => {
             let list = joined(tables, &lists.queries[form], holds);
             none_at_fault(17, list & !sets[b], list)

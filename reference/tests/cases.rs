@@ -6,6 +6,7 @@ use std::fs;
 use std::path::Path;
 
 use reference::cases::FILES;
+use reference::generate::NUMBERS;
 use reference::small::{self, Case};
 use reference::Tables;
 
@@ -48,8 +49,8 @@ fn read_case(lines: &[&str]) -> Case {
         let bytes = text.strip_prefix("text").expect("a text");
         return Case::Text(numbers(bytes));
     }
-    let [head, t0, t1, t2, t3, t4, call] = lines else {
-        panic!("a case has a text, or a head, five tables and a call");
+    let [head, t0, t1, t2, t3, t4, kinds, call] = lines else {
+        panic!("a case has a text, or a head, five tables, kinds and a call");
     };
     let words = |line: &str| numbers(&line[2..]);
     let head: Vec<u64> = numbers(head.strip_prefix("head").expect("a head"));
@@ -62,6 +63,7 @@ fn read_case(lines: &[&str]) -> Case {
         relations: words(t2),
         comparisons: words(t3),
         queries: words(t4),
+        kinds: numbers(kinds.strip_prefix("kinds").expect("kinds")),
     };
     read_call(call, tables)
 }
@@ -156,11 +158,11 @@ fn numbers_and_notes_are_one_to_one() {
 /// lines are as long as they have to be.
 #[test]
 fn the_cases_of_the_page_are_complete() {
-    let cases = read_cases(&stored("page.txt"));
+    let files = ["page.txt", "kinds.txt"].map(|name| read_cases(&stored(name)));
     let mut without_bytes = BTreeSet::new();
-    for Stored { gives, case, .. } in &cases {
+    for Stored { gives, case, .. } in files.iter().flatten() {
         let Case::Page { room, .. } = case else {
-            panic!("page.txt has calls of page only");
+            continue;
         };
         let words: Vec<&str> = gives.split(' ').collect();
         match words[..] {
@@ -171,7 +173,7 @@ fn the_cases_of_the_page_are_complete() {
             _ => assert!(gives.lines().skip(1).all(|line| line.len() == 77)),
         }
     }
-    let all = (1..=19).filter(|&number| number != 11).chain([23]);
+    let all = NUMBERS.into_iter().chain([23]);
     assert_eq!(without_bytes, all.collect());
 }
 

@@ -28,6 +28,7 @@ fn ranged(features: u64, first: u16, count: u16) -> Tables {
         queries: vec![1, 0, 0, 0],
         ..Tables::default()
     }
+    .of_moments()
 }
 
 /// The configurations at which attribute 0 is a column.
@@ -56,6 +57,7 @@ fn quay() -> Tables {
         queries: vec![1, 0, 0, 0],
         ..Tables::default()
     }
+    .of_moments()
 }
 
 // "A quay is tidal, locked or floating, never two"

@@ -8,7 +8,7 @@ use common::readings::{self, WRONG};
 use common::{checked, first_that_hold, lists_at, paged_with, Listed};
 use reference::check::{self, shown, ROWS};
 use reference::generate::{self, is_crossed, is_small, outcome};
-use reference::generate::{Answer, Family, Kept, AIMS, DIGITS, LIMITS, ROOMS};
+use reference::generate::{Answer, Family, Kept, AIMS, DIGITS, LIMITS, NUMBERS, ROOMS};
 use reference::random::Random;
 use reference::small::{self, Case};
 use reference::tables::{operands, EXACTLY_ONE, RANGES};
@@ -45,7 +45,7 @@ fn every_number_comes_up() {
     let numbers: BTreeSet<u64> = (0..3000)
         .map(|seed| outcome(&generate::case(seed)))
         .collect();
-    let wanted = (0..=19).filter(|&number| number != 11);
+    let wanted = [0].into_iter().chain(NUMBERS);
     assert_eq!(numbers, wanted.collect());
 }
 
@@ -323,11 +323,11 @@ fn ranges_are_no_rare_thing() {
 /// Calls of which each wrong way to read kind 6 would be told.
 #[test]
 fn ranges_show_how_they_are_read() {
-    let tables = (0..6000).map(generate::case);
+    let tables = (0..10_000).map(generate::case);
     let checks = tables.map(|tables| Case::Check { tables, room: ROWS });
     let varied = wrong_readings(checks);
     assert!(varied.values().all(|&times| times >= 8), "{varied:?}");
-    let small = wrong_readings((0..3600).map(small::case));
+    let small = wrong_readings((0..6000).map(small::case));
     assert!(small.values().all(|&times| times >= 5), "{small:?}");
 }
 
@@ -650,7 +650,7 @@ const WRONG_LINES: &[WrongLines] = &[
     }),
 ];
 
-/// Small cases: all numbers from 1 to 23, the mixture, and the bounds. They are
+/// Small cases: all numbers from 1 to 25, the mixture, and the bounds. They are
 /// so many that some 3,000 are other calls than of the page.
 #[test]
 fn small_cases_cover_everything() {
@@ -682,10 +682,10 @@ fn small_cases_cover_everything() {
     let h1 = |case: &Case| matches!(case, Case::Text(text) if text == small::H1.as_bytes());
     assert!(texts.filter(h1).count() > 3);
     let times = |call, key: &str| outcomes.get(&(call, key.to_string())).copied().unwrap_or(0);
-    for number in 1..=19 {
+    for number in NUMBERS.into_iter().chain([11]) {
         assert!(times("check", &number.to_string()) >= 15, "check {number}");
     }
-    for number in [15, 16, 17, 18, 19, 20, 21] {
+    for number in [15, 16, 17, 18, 19, 20, 21, 24, 25] {
         assert!(
             times("configure", &number.to_string()) >= 3,
             "configure {number}"
@@ -694,7 +694,7 @@ fn small_cases_cover_everything() {
     for key in ["found 0", "found", "none", "22"] {
         assert!(times("find", key) >= 60, "find {key}");
     }
-    for number in [15, 16, 17, 18, 19] {
+    for number in [15, 16, 17, 18, 19, 24, 25] {
         assert!(times("find", &number.to_string()) >= 3, "find {number}");
         assert!(times("page", &number.to_string()) >= 3, "page {number}");
     }

@@ -2,8 +2,8 @@
 
 use std::collections::BTreeSet;
 
-use reference::file::{print_file, write_file};
-use reference::generate::{mutate, small};
+use reference::file::print_file;
+use reference::generate::{mutate, small, text_of};
 
 /// Mutated files are accepted, refused for form and for typing, and unread; and
 /// a seed gives one mutation.
@@ -11,7 +11,7 @@ use reference::generate::{mutate, small};
 fn mutations_have_every_outcome() {
     let mut starts = BTreeSet::new();
     for seed in 0..3000 {
-        let text = write_file(&small(seed));
+        let text = text_of(seed, &small(seed));
         let mutated = mutate(seed, &text);
         assert_eq!(mutated, mutate(seed, &text));
         let print = String::from_utf8(print_file(&mutated)).unwrap();
@@ -31,6 +31,8 @@ fn mutations_have_every_outcome() {
         "12",
         "15",
         "17",
+        "24",
+        "25",
     ] {
         assert!(starts.contains(wanted), "{wanted}");
     }

@@ -7,7 +7,7 @@ use std::collections::BTreeSet;
 
 use common::{checked, configured_with, h1, paged_with, source_room};
 use reference::file::{page_file, print_file, print_tables, read_file, write_file};
-use reference::generate::{self, LIMITS};
+use reference::generate::{self, LIMITS, NUMBERS};
 use reference::plain::{self, Attributes};
 use reference::random::Random;
 use reference::{expression, form, page, Refusal, Tables};
@@ -71,6 +71,7 @@ fn list_of(attributes: u64, listed: &[u16]) -> Tables {
         queries: vec![1, 0, 0, 0],
         ..Tables::default()
     }
+    .of_moments()
 }
 
 /// H1 with another number of features, under a model.
@@ -220,7 +221,7 @@ fn all_earlier_refusals_come_before_23() {
             assert_eq!(paged_with(&tables, room), Err(refusal), "{}", limit.words);
         }
     }
-    assert_eq!(numbers, (1..=19).filter(|&n| n != 11).collect());
+    assert_eq!(numbers, BTreeSet::from(NUMBERS));
 }
 
 // Generated cases

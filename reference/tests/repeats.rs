@@ -10,6 +10,7 @@ use reference::check::shown;
 use reference::generate::{self, Family, Kept};
 use reference::plain::{self, Attributes, Tree};
 use reference::random::Random;
+use reference::refusal::is_of_typing;
 use reference::{expression, find, form, Tables};
 
 // The harbour of all tests: features swaps 0 and gates 1, attributes vessel 0,
@@ -41,6 +42,7 @@ fn yard(entries: &[[u16; 2]]) -> Tables {
         queries: vec![1, 0, 0, 0],
         ..Tables::default()
     }
+    .of_moments()
 }
 
 /// A project over the yard's relation.
@@ -372,7 +374,7 @@ fn the_configured_report_passes_exactly_where_accepted() {
                     assert_eq!(at(c), Some(set), "{tables:?} at {c}");
                 }
             }
-            Err(refusal) if refusal.number >= 15 => {
+            Err(refusal) if is_of_typing(refusal.number) => {
                 refused += 1;
                 assert_eq!(at(refusal.configuration), None, "{tables:?} {refusal:?}");
             }

@@ -96,6 +96,27 @@ fn the_vectors_have_ranges_of_features() {
     }
 }
 
+/// Kind lines in files that are accepted, and in files that are refused for them, for
+/// kinds that differ, and unread.
+#[test]
+fn the_vectors_have_kinds() {
+    let has_kinds = |case: &&Vector| case.text.windows(6).any(|w| w == b"(kind ");
+    let with_kinds = cases().iter().filter(has_kinds);
+    let prints: Vec<Vec<u8>> = with_kinds.map(|case| print_file(&case.text)).collect();
+    let wanted = [
+        ("(accepted)", 60),
+        ("(refused 24 ", 20),
+        ("(refused 25 ", 20),
+        ("(unread ", 20),
+    ];
+    for (start, least) in wanted {
+        let starts = prints.iter().filter(|p| p.starts_with(start.as_bytes()));
+        let times = starts.count();
+        println!("{start} {times}");
+        assert!(times >= least, "{start}");
+    }
+}
+
 #[test]
 fn the_examples_have_their_print_and_their_page_beside_them() {
     let examples = examples();

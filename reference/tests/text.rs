@@ -5,7 +5,7 @@ mod common;
 use std::collections::BTreeSet;
 
 use common::h1;
-use reference::file::{print_file, read_file, write_file, MOST_BYTES};
+use reference::file::{print_file, read_file, write_file, write_file_with_kinds, MOST_BYTES};
 use reference::generate;
 use reference::random::Random;
 use reference::small::H1;
@@ -55,6 +55,8 @@ fn lines_that_are_not_so() {
         ("(query 3 2 0 0)\n", "(query 3 2 0 0)\n\n", 13),
         ("(query 3 2 0 0)\n", "(query 3 2 0 0)\nx", 13),
         ("(query 3 2 0 0)\n", "(query 3 2 0 0)\n(entry 0 0)\n", 13),
+        ("(query 3 2 0 0)\n", "(kind 0)\n(query 3 2 0 0)\n", 13),
+        ("(head 2 3 0)\n", "(kind 0)\n(head 2 3 0)\n", 1),
     ];
     for (old, new, line) in cases {
         assert_eq!(
@@ -75,6 +77,7 @@ fn tables_past_their_range() {
         ("(relation 0 0)\n", 32),
         ("(comparison 1 0 0 0 0)\n", 256),
         ("(query 0 0 0 0)\n", 256),
+        ("(kind 0)\n", 64),
     ];
     for (line, most) in lines {
         let full = format!("(head 2 3 0)\n{}", line.repeat(most));
@@ -115,10 +118,16 @@ fn what_is_written_reads_back() {
     for seed in 0..800 {
         let tables = generate::case(seed);
         let head = tables.features.max(tables.attributes).max(tables.model);
-        let text = write_file(&tables);
-        // Heads over 65535, cut forms and over-full tables have no file.
-        if head <= 65535 && generate::lengths_are_sound(&tables) {
-            assert_eq!(read_file(&text), Ok(tables));
+        // Heads over 65535, cut forms and over-full tables have no file; nor has a
+        // kind table without words where there are attributes.
+        let kinds = match tables.kinds.len() {
+            0 => tables.attributes == 0,
+            words => words <= 64,
+        };
+        if head <= 65535 && generate::lengths_are_sound(&tables) && kinds {
+            let with_kinds = write_file_with_kinds(&tables);
+            assert_eq!(read_file(&write_file(&tables)).as_ref(), Ok(&tables));
+            assert_eq!(read_file(&with_kinds), Ok(tables));
         }
     }
 }
@@ -131,7 +140,7 @@ fn damaged_files() {
     for seed in 0..3000 {
         let text = match seed % 3 {
             0 => H1.as_bytes().to_vec(),
-            _ => write_file(&generate::small(seed)),
+            _ => generate::text_of(seed, &generate::small(seed)),
         };
         let print = print_file(&generate::damage(seed, &text));
         assert_eq!(print.last(), Some(&b'\n'));

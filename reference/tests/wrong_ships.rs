@@ -16,6 +16,7 @@ fn yard() -> Tables {
         expressions: vec![1, 0, 0, 2, 0, 0, 2, 1, 0, 3, 2, 0],
         ..Tables::default()
     }
+    .of_moments()
 }
 
 #[test]
@@ -101,6 +102,12 @@ fn choices_of_comparisons_are_taken_and_constants_name_too() {
     // Elsewhere and there exchanged: named where feature 1 is off.
     tables.comparisons[13..].copy_from_slice(&[0, 1]);
     assert_eq!(checked(&tables), Err(refused(16, 1, 2, 0)));
+    // A constant of another kind: 16 comes first while the attribute is missing.
+    tables.comparisons[9] = 2;
+    assert_eq!(checked(&tables), Err(refused(16, 1, 2, 0)));
+    tables.comparisons[13..].copy_from_slice(&[1, 0]);
+    assert_eq!(checked(&tables), Err(refused(25, 1, 2, 2)));
+    tables.comparisons[9] = 0;
     // "Always or x" names x whatever its truth.
     tables.comparisons[10..].copy_from_slice(&[6, 0, 0, 1, 0]);
     assert_eq!(checked(&tables), Err(refused(16, 1, 2, 0)));
@@ -127,6 +134,11 @@ fn the_order_of_the_checks() {
     for room in [0, 1023, 1025, 4096] {
         assert_eq!(checked_with(&tables, room), Err(refused(11, 0, 0, 0)));
     }
+    // 10 before 24; 24 before 11 and 12.
+    tables.kinds[1] = 3;
+    assert_eq!(checked_with(&tables, 0), Err(refused(24, 1, 0, 0)));
+    tables.queries.truncate(4);
+    assert_eq!(checked_with(&tables, 0), Err(refused(10, 3, 0, 0)));
     // 14 of relation 0 before 13 of relation 1; 14 in the order of the list.
     let mut tables = yard();
     tables.expressions.extend([0, 0, 0]);

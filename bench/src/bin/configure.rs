@@ -176,6 +176,7 @@ fn written(tables: &Tables, counts: [usize; 4], words: &[Vec<u16>; 4]) -> Tables
         relations: table(2),
         comparisons: table(3),
         queries: table(4),
+        kinds: tables.kinds.clone(),
     }
 }
 

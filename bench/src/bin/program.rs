@@ -152,9 +152,10 @@ fn largest_print() -> Tables {
         expressions: vec![1, 0, 0],
         entries: all_attributes(),
         relations: vec![0, ATTRIBUTES],
-        comparisons: vec![],
         queries: vec![1, 0, 0, 0],
+        ..Tables::default()
     }
+    .of_moments()
 }
 
 fn all_attributes() -> Vec<u16> {

@@ -2,7 +2,8 @@
 //! configuration by configuration, in one run and in a thread with a stack of
 //! 1 MiB; on three workloads also that of all configurations at once
 //! (`bench::parallel`); the time of configuring; that of finding, to our check's; that
-//! of the page; and that of the check of a table of expression kind 6 alone.
+//! of the page; that of the check of a table of expression kind 6 alone; and that of
+//! the check of a report whose selects compare attributes and constants of three kinds.
 
 use std::collections::BTreeMap;
 use std::hint::black_box;
@@ -15,7 +16,7 @@ use reference::check::ROWS;
 use reference::generate;
 use reference::page::{LINE, MOST_LINES};
 use reference::random::Random;
-use reference::tables::EXACTLY_ONE;
+use reference::tables::{COMPARISON_CHOICE, COUNT, EXACTLY_ONE, WITH_ATTRIBUTE, WITH_CONSTANT};
 use reference::{expression, Refusal, Tables};
 
 const STACK: usize = 1 << 20;
@@ -60,13 +61,14 @@ fn run() -> Result<(), String> {
     ];
     time_checks(&workloads)?;
     time_generated()?;
-    time_chains(deep)?;
+    time_chains(deep.clone())?;
     println!("(e) configuring at {MIDDLE}, ours and the reference's in turn:");
     time_configuring(&workloads[..2])?;
     time_configuring(&[("one attribute, 512 times", one_attribute())])?;
     time_finding(&workloads[..2])?;
     time_paging(&workloads[..2])?;
-    time_ranges()
+    time_ranges()?;
+    time_kinds(deep)
 }
 
 fn say_goal(goal: f64, met: bool) {
@@ -269,6 +271,20 @@ fn time_ranges() -> Result<(), String> {
     check_ratios(&workloads).map(drop)
 }
 
+/// (b) once more, the same with three kinds, and that refused by 25.
+fn time_kinds(deep: Tables) -> Result<(), String> {
+    println!("(i) the check of (b), and of the same with three kinds:");
+    let alike = of_three_kinds(deep.clone());
+    let mut differ = alike.clone();
+    differ_last(&mut differ);
+    let workloads = [
+        ("all moments", deep),
+        ("three kinds", alike),
+        ("kinds differ last", differ),
+    ];
+    check_ratios(&workloads).map(drop)
+}
+
 /// The configuration of (e): every other feature is on.
 const MIDDLE: u64 = 0b10_1010_1010;
 
@@ -393,9 +409,10 @@ fn union_of_relations() -> Tables {
         expressions: expressions.concat(),
         entries: entries.concat(),
         relations: [[0, 16]; 32].concat(),
-        comparisons: vec![],
         queries: queries.concat(),
+        ..Tables::default()
     }
+    .of_moments()
 }
 
 /// A relation that lists one attribute 512 times, under each feature and its
@@ -412,9 +429,10 @@ fn one_attribute() -> Tables {
         expressions: expressions.concat(),
         entries: list.collect::<Vec<_>>().concat(),
         relations: vec![0, 512],
-        comparisons: vec![],
         queries: vec![1, 0, 0, 0],
+        ..Tables::default()
     }
+    .of_moments()
 }
 
 /// So many expressions of kind 6, each of as many features as `count` gives for its
@@ -522,7 +540,9 @@ fn deep(expressions: Vec<[u16; 3]>, comparisons: Vec<[u16; 5]>) -> Tables {
         relations: vec![0, ATTRIBUTES],
         comparisons: comparisons.concat(),
         queries: queries.concat(),
+        ..Tables::default()
     }
+    .of_moments()
 }
 
 /// The last form selects by an attribute that is missing at the last
@@ -530,6 +550,37 @@ fn deep(expressions: Vec<[u16; 3]>, comparisons: Vec<[u16; 5]>) -> Tables {
 fn refuse_last(tables: &mut Tables) {
     let last = tables.queries.len() - 4;
     tables.queries[last..].copy_from_slice(&[2, LAST_NAMED, FORMS - 2, 0]);
+}
+
+/// Moments, counts and names by turns, and constants of the kinds of their attributes;
+/// every other comparison without operands is of two attributes of one kind. The last
+/// attribute, which is missing at the last configuration, is in none of those.
+fn of_three_kinds(mut tables: Tables) -> Tables {
+    tables.kinds = (0..ATTRIBUTES).map(|attribute| attribute % 3).collect();
+    let forms = tables.comparisons.chunks_exact_mut(5);
+    for (form, attribute) in forms.zip(0..ATTRIBUTES) {
+        match attribute % 2 {
+            1 if attribute < ATTRIBUTES - 4 => {
+                let operator = attribute % 6;
+                form.copy_from_slice(&[WITH_ATTRIBUTE, operator, attribute, attribute + 3, 0]);
+            }
+            _ => form[4] = attribute % 3,
+        }
+    }
+    tables
+}
+
+/// The last form selects by an attribute below a constant of another kind, at the last
+/// configuration only. It takes the last two comparisons for it.
+fn differ_last(tables: &mut Tables) {
+    let clash = FORMS - 2;
+    let choice = [COMPARISON_CHOICE, 0, NOT_LAST, 0, clash];
+    let comparisons = tables.comparisons.len() - 10;
+    let last_two = [[WITH_CONSTANT, 0, 0, 500, COUNT], choice];
+    tables.comparisons[comparisons..].copy_from_slice(&last_two.concat());
+    let queries = tables.queries.len() - 8;
+    let last_two = [[2, 0, FORMS - 3, 0], [2, FORMS - 1, FORMS - 2, 0]];
+    tables.queries[queries..].copy_from_slice(&last_two.concat());
 }
 
 /// The first 40 full cases of the reference's generator that are accepted.

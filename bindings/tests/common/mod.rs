@@ -2,7 +2,7 @@
 
 #![allow(dead_code)]
 
-use gelvomas::{ffi, Refusal, Tables, ROWS};
+use gelvomas::{ffi, kind, Refusal, Tables, ROWS};
 
 pub const H1: Tables = Tables {
     features: 2,
@@ -13,7 +13,13 @@ pub const H1: Tables = Tables {
     relations: &[0, 3],
     comparisons: &[],
     queries: &[1, 0, 0, 0, 3, 2, 0, 0],
+    kinds: &[kind::MOMENT; 3],
 };
+
+/// The kind table of so many attributes, all moments.
+pub fn moments(attributes: u64) -> &'static [u16] {
+    &[kind::MOMENT; 64][..attributes as usize]
+}
 
 pub fn refused(number: u64, place: u64, item: u64, configuration: u64) -> Refusal {
     Refusal {
@@ -52,6 +58,8 @@ pub fn raw_check(tables: &Tables, rows: &mut [u64]) -> (u64, [u64; 4]) {
             tables.comparisons.len(),
             tables.queries.as_ptr(),
             tables.queries.len(),
+            tables.kinds.as_ptr(),
+            tables.kinds.len(),
             rows.as_mut_ptr(),
             rows.len(),
             &mut refusal,
@@ -78,6 +86,8 @@ pub fn raw_find(tables: &Tables, wanted: u64) -> (u64, [u64; 4]) {
             tables.comparisons.len(),
             tables.queries.as_ptr(),
             tables.queries.len(),
+            tables.kinds.as_ptr(),
+            tables.kinds.len(),
             wanted,
             &mut words,
         )
@@ -103,6 +113,8 @@ pub fn raw_page(tables: &Tables, page: &mut [u8]) -> (u64, [u64; 4]) {
             tables.comparisons.len(),
             tables.queries.as_ptr(),
             tables.queries.len(),
+            tables.kinds.as_ptr(),
+            tables.kinds.len(),
             page.as_mut_ptr(),
             page.len(),
             &mut words,

@@ -11,10 +11,12 @@ use Rattle.sets.specs.Bits.{bit}
 use Rattle.sets.specs.Rows.{rowOf, rowJoin, rowIntersect, within, RowsAre}
 use Rattle.sets.proofs.BitLaws.{bit-none, bit-and, bit-or}
 use Rattle.sets.proofs.RowLaws.{rowOf-same, rowOf-row, join-within, intersect-within, minus-within, rows-are}
-use Rattle.report.specs.Tables.{Tables, relationCount, comparisonCount, queryCount}
-use Rattle.report.specs.Typing.{present, relationSet, names, setOf}
+use Rattle.report.specs.Tables.{Tables, kindOf, relationCount, comparisonCount, queryCount}
+use Rattle.report.specs.Typing.{present, relationSet, gathered, setOf}
 use Rattle.report.specs.Configuring.{written}
-use Rattle.attribute_rows.specs.AttributeRows.{hasRow, relationRow, namedRow, setRow}
+use Rattle.comparisons.specs.Gathering.{ownOf, shows}
+use Rattle.comparisons.specs.declared.Gathered.{Gathered}
+use Rattle.attribute_rows.specs.AttributeRows.{hasRow, relationRow, gatheredRow, setRow}
 use Rattle.attribute_rows.specs.RowRules.{choiceRow}
 
 -- ---- rows of the configurations of n features
@@ -44,6 +46,18 @@ module _ (n : ℕ) where
       side false false true = refl
       side false false false = refl
 
+  -- the row of the form that a choice takes, where p is a test of all forms
+  pub taken-within : (h : ℕ → Bool) (p : ℕ → ℕ → Bool) (b d : ℕ)
+      → choiceRow (rowOf 16 (within n h)) (rowOf 16 (within n (λ c. p c b))) (rowOf 16 (within n (λ c. p c d)))
+      ≡ rowOf 16 (within n (λ c. p c (cond (h c) b d)))
+  taken-within h p b d =
+      choice-within h (λ c. p c b) (λ c. p c d)
+      ∙ row-same (λ c. cond (h c) (p c b) (p c d)) (λ c. p c (cond (h c) b d)) (λ c. go c (h c))
+    where
+      go : (c : ℕ) (t : Bool) → cond t (p c b) (p c d) ≡ p c (cond t b d)
+      go c true = refl
+      go c false = refl
+
 -- rows that are equal are chosen from alike
 pub choice-of : {h i x y u v : List ℕ} → h ≡ i → x ≡ u → y ≡ v → choiceRow h x y ≡ choiceRow i u v
 choice-of {h} {i} {x} {y} {u} {v} p q r = ap₂ (choiceRow h) q r ∙ ap (λ (j : List ℕ). choiceRow j u v) p
@@ -56,9 +70,6 @@ module _ (T : Tables) (a : ℕ) where
 
   pub relation-wide : (r : ℕ) → length (relationRow T a r) ≡ 16
   relation-wide r = has-wide (λ c. cond (present T c r) (relationSet T c r) 0)
-
-  pub named-wide : (f : ℕ) → length (namedRow T a f) ≡ 16
-  named-wide f = has-wide (λ c. names T c f)
 
   pub set-wide : (q : ℕ) → length (setRow T a q) ≡ 16
   set-wide q = has-wide (λ c. setOf T c q)
@@ -92,17 +103,8 @@ module _ (T : Tables) (a : ℕ) where
       go s true = and-true (bit s a)
       go s false = and-false (bit s a) ∙ sym (bit-none a)
 
-  -- of the form that a choice takes, where `set` has the sets of all forms
-  pub has-choice : (h : ℕ → Bool) (set : ℕ → ℕ → ℕ) (b d : ℕ)
-      → choiceRow (rowOf 16 (within (T .features) h)) (hasRow T a (λ c. set c b)) (hasRow T a (λ c. set c d)) ≡ hasRow T a (λ c. set c (cond (h c) b d))
-  has-choice h set b d =
-      choice-within (T .features) h (λ c. bit (set c b) a) (λ c. bit (set c d) a)
-      ∙ row-same (T .features) (λ c. cond (h c) (bit (set c b) a) (bit (set c d) a))
-      (λ c. bit (set c (cond (h c) b d)) a) (λ c. go c (h c))
-    where
-      go : (c : ℕ) (t : Bool) → cond t (bit (set c b) a) (bit (set c d) a) ≡ bit (set c (cond t b d)) a
-      go c true = refl
-      go c false = refl
+pub gathered-wide : (T : Tables) (what : Gathered) (a f : ℕ) → length (gatheredRow T what a f) ≡ 16
+gathered-wide T what a f = rowOf-row 16 (within (T .features) (λ c. shows what a (gathered T c (ownOf (kindOf T) what) f))) .size
 
 -- ---- rows that were written are those of the forms
 
@@ -110,8 +112,9 @@ module _ (T : Tables) (a : ℕ) (lent : List ℕ) {rows : List ℕ} where
   pub relations-are : rows ≡ written (concat (relationCount T) (relationRow T a)) lent → RowsAre 16 (relationCount T) (relationRow T a) rows
   relations-are = rows-are 16 (relationCount T) (relationRow T a) (λ r l. relation-wide T a r) _
 
-  pub named-are : rows ≡ written (concat (comparisonCount T) (namedRow T a)) lent → RowsAre 16 (comparisonCount T) (namedRow T a) rows
-  named-are = rows-are 16 (comparisonCount T) (namedRow T a) (λ f l. named-wide T a f) _
+  pub gathered-are : (what : Gathered) → rows ≡ written (concat (comparisonCount T) (gatheredRow T what a)) lent
+      → RowsAre 16 (comparisonCount T) (gatheredRow T what a) rows
+  gathered-are what = rows-are 16 (comparisonCount T) (gatheredRow T what a) (λ f l. gathered-wide T what a f) _
 
   pub sets-are : rows ≡ written (concat (queryCount T) (setRow T a)) lent → RowsAre 16 (queryCount T) (setRow T a) rows
   sets-are = rows-are 16 (queryCount T) (setRow T a) (λ q l. set-wide T a q) _

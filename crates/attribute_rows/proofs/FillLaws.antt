@@ -1,12 +1,13 @@
 -- The loops that fill rows: which rows stand there so far. Which tables T they are of is left open: all those that the loop can read.
-use Prim.Native.Nat.{ℕ, _+_, _*_, _<_, _≤_}
+use Prim.Native.Nat.{ℕ, _+_, _-_, _*_, _<_, _≤_}
 use mathlib.Core.Path.{_≡_, refl, sym, ap, ap₂, _∙_}
 use mathlib.Core.List.{List, _++_}
 use native.Mathlib.Omega.{arith}
-use lib.ListN.{length, drop}
+use lib.ListN.{length, drop, getD}
+use lib.Seq.{getD-append-add, getD-drop}
 use Rattle.sets.specs.Lists.{concat}
-use Rattle.sets.specs.Rows.{withRow, RowsAre}
-use Rattle.sets.proofs.ListLaws.{concat-length}
+use Rattle.sets.specs.Rows.{rowIn, withRow, RowsAre}
+use Rattle.sets.proofs.ListLaws.{table-same, concat-length}
 use Rattle.sets.proofs.RowLaws.{rows-are, withRow-more}
 use Rattle.report.specs.Tables.{Tables}
 use Rattle.report.specs.Configuring.{written}
@@ -34,6 +35,20 @@ module _ {Reads : Tables → Type 0} {row : Tables → ℕ → ℕ → List ℕ}
         (next T R (rows-are 16 k (row T a) (λ i l. wide T a i) (drop (k * 16) lent) (S .filled T R)))
         ∙ withRow-more 16 (row T a) k lent (λ i l. wide T a i);
   }
+
+  -- the rows from k on are still those of `lent`
+  pub filling-rest : (T : Tables) → Reads T → (j : ℕ) → k ≤ j → rowIn 16 rows j ≡ rowIn 16 lent j
+  filling-rest T R j h =
+      ap (λ (l : List ℕ). rowIn 16 l j) (S .filled T R)
+      ∙ table-same 16 (λ i. getD (concat k (row T a) ++ drop (k * 16) lent) (j * 16 + i) 0) (λ i. getD lent (j * 16 + i) 0) (λ i g. later i)
+    where
+      later : (i : ℕ) → getD (concat k (row T a) ++ drop (k * 16) lent) (j * 16 + i) 0 ≡ getD lent (j * 16 + i) 0
+      later i =
+          let n = (j - k) * 16 + i in
+          let e : j * 16 + i ≡ length (concat k (row T a)) + n = omega (arith, concat-length (row T a) 16 k (λ i l. wide T a i)) in
+          let d : k * 16 + n ≡ j * 16 + i = omega arith in
+          ap (λ (x : ℕ). getD (concat k (row T a) ++ drop (k * 16) lent) x 0) e ∙ getD-append-add (concat k (row T a)) (drop (k * 16) lent) n 0
+          ∙ getD-drop (k * 16) lent n 0 ∙ ap (λ (x : ℕ). getD lent x 0) d
 
   pub filling-all : count ≤ k → (T : Tables) → Reads T → {whole : ℕ} → count ≡ whole → rows ≡ written (concat whole (row T a)) lent
   filling-all h T R {whole} e =

@@ -1,5 +1,5 @@
 pub mod AttributeLaws
 pub mod FillLaws
+pub mod GatheredLaws
 pub mod ListedLaws
-pub mod NamedLaws
 pub mod SetLaws

@@ -2,6 +2,7 @@
 use Prim.Native.Nat.{ℕ, _<_}
 use mathlib.Core.Path.{_≡_, sym, ap, ap₂, _∙_}
 use mathlib.Core.List.{List}
+use Rattle.sets.specs.Bits.{bit}
 use Rattle.sets.specs.Rows.{rowJoin, rowIntersect, RowsAre}
 use Rattle.report.specs.Tables.{Tables, query, relationCount, queryCount, projectLength, projectStart}
 use Rattle.report.specs.Typing.{at, projectSet, setRule, setOf}
@@ -12,7 +13,7 @@ use Rattle.report.proofs.StepLaws.{set-in}
 use Rattle.conditions.specs.Conditions.{Conditioned}
 use Rattle.attribute_rows.specs.AttributeRows.{hasRow, listRow, relationRow, setRow}
 use Rattle.attribute_rows.specs.RowRules.{setStep, SetRead}
-use Rattle.attribute_rows.proofs.AttributeLaws.{has-same, has-none, has-and, has-or, choice-of, has-choice}
+use Rattle.attribute_rows.proofs.AttributeLaws.{taken-within, choice-of, has-same, has-none, has-and, has-or}
 
 -- the rows that the row of form q is made of
 module _ {T : Tables} (F : Formed T) (a : ℕ) {conditions relationRows sets : List ℕ} (C : Conditioned T conditions)
@@ -26,7 +27,8 @@ module _ {T : Tables} (F : Formed T) (a : ℕ) {conditions relationRows sets : L
   set-rule (Query.Project n b) l =
       ap (rowIntersect 16 (listRow T a (projectStart T q) n)) (B .each b (l .1 .lower)) ∙ has-and T a (λ c. projectSet T c q n) (λ c. setOf T c b)
   set-rule (Query.Choice e b d) l =
-      choice-of (C .each e (l .0)) (B .each b (l .1 .first .lower)) (B .each d (l .1 .second .lower)) ∙ has-choice T a (λ c. at T c e) (setOf T) b d
+      choice-of (C .each e (l .0)) (B .each b (l .1 .first .lower)) (B .each d (l .1 .second .lower))
+      ∙ taken-within (T .features) (λ c. at T c e) (λ c k. bit (setOf T c k) a) b d
   set-rule (Query.Product b d) l =
       ap₂ (rowJoin 16) (B .each b (l .first .lower)) (B .each d (l .second .lower)) ∙ has-or T a (λ c. setOf T c b) (λ c. setOf T c d)
   set-rule (Query.Union b d) l = B .each b (l .first .lower)

@@ -1,5 +1,5 @@
--- The rows of one attribute: at which configurations a list, a relation, a comparison or a query form has it; and what the functions that fill
--- them read.
+-- The rows of one attribute: at which configurations a list, a relation, a comparison or a query form has it; the rows of comparisons of two kinds;
+-- and what the functions that fill them read.
 use Prim.Native.Nat.{ℕ, _+_, _*_, _/_, _≤_}
 use mathlib.Core.Path.{_≡_}
 use mathlib.Core.Bool.{true, cond}
@@ -7,9 +7,11 @@ use mathlib.Core.List.{List}
 use lib.ListN.{length}
 use Rattle.sets.specs.Bits.{bit}
 use Rattle.sets.specs.Rows.{rowOf, within}
-use Rattle.report.specs.Tables.{Tables, entriesOfRelations}
-use Rattle.report.specs.Typing.{joinedSet, present, relationSet, names, setOf}
+use Rattle.report.specs.Tables.{Tables, kindOf, entriesOfRelations}
+use Rattle.report.specs.Typing.{joinedSet, present, relationSet, gathered, setOf}
 use Rattle.report.specs.Formed.{Formed, EntriesFrom}
+use Rattle.comparisons.specs.Gathering.{ownOf, shows}
+use Rattle.comparisons.specs.declared.Gathered.{Gathered}
 use Rattle.conditions.specs.Conditions.{Conditioned}
 
 module _ (T : Tables) (a : ℕ) where
@@ -25,13 +27,13 @@ module _ (T : Tables) (a : ℕ) where
   abbrev pub relationRow : ℕ → List ℕ
   relationRow r = hasRow (λ c. cond (present T c r) (relationSet T c r) 0)
 
-  -- what a comparison names
-  abbrev pub namedRow : ℕ → List ℕ
-  namedRow f = hasRow (λ c. names T c f)
-
   -- the set of a query form
   abbrev pub setRow : ℕ → List ℕ
   setRow q = hasRow (λ c. setOf T c q)
+
+-- comparison f, its choices taken: where it names attribute a, or where anything is at fault in it
+abbrev pub gatheredRow : Tables → Gathered → ℕ → ℕ → List ℕ
+gatheredRow T what a f = rowOf 16 (within (T .features) (λ c. shows what a (gathered T c (ownOf (kindOf T) what) f)))
 
 -- ---- what each function reads of tables T that have passed the form checks, whose expression rows `conditions` starts with; `..Readable`: there are
 -- such tables, and room
@@ -60,14 +62,15 @@ pub record RelationRowReadable (conditions relationEntries relations lent : List
   pub reads : RelationRowReads tables conditions relationEntries relations
   pub room : length relations / 2 * 16 ≤ length lent
 
--- table 3; `full` has all configurations
-pub record NamedReads (T : Tables) (conditions comparisons full : List ℕ) : Type 0 where
+-- table 3 and the kind table; `full` has all configurations
+pub record GatheredReads (T : Tables) (conditions comparisons kinds full : List ℕ) : Type 0 where
   pub formed : Formed T
   pub filled : Conditioned T conditions
   pub comparisonsAre : comparisons ≡ T .comparisons
+  pub kindsAre : kinds ≡ T .kinds
   pub whole : full ≡ rowOf 16 (within (T .features) (λ c. true))
 
-pub record NamedReadable (conditions comparisons full lent : List ℕ) : Type 0 where
+pub record GatheredReadable (conditions comparisons kinds full lent : List ℕ) : Type 0 where
   pub tables : Tables
-  pub reads : NamedReads tables conditions comparisons full
+  pub reads : GatheredReads tables conditions comparisons kinds full
   pub room : length comparisons / 5 * 16 ≤ length lent

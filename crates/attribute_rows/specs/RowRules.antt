@@ -1,15 +1,15 @@
 -- What the functions do with rows: one entry, one relation, one comparison, one query form. proofs/ ties these to the definitions.
 use Prim.Native.Nat.{ℕ, _*_, _/_, _<_, _≤_}
 use mathlib.Core.Path.{_≡_}
-use mathlib.Core.Bool.{false, cond, _||_}
+use mathlib.Core.Bool.{Bool, false, cond}
 use mathlib.Core.List.{List}
 use lib.ListN.{length}
 use lib.Dec.{eqb}
 use Rattle.sets.specs.Rows.{rowOf, rowIn, rowJoin, rowIntersect, rowMinus}
 use Rattle.report.specs.Tables.{Tables, entryAttribute, entryExpression, expressionCount, relationCount, relationStart}
-use Rattle.report.specs.Formed.{ComparisonLower, QueryLower}
-use Rattle.report.specs.declared.Comparison.{Comparison}
+use Rattle.report.specs.Formed.{QueryLower}
 use Rattle.report.specs.declared.Query.{Query}
+use Rattle.report.specs.declared.Operands.{Operands}
 use Rattle.attribute_rows.specs.AttributeRows.{RelationRowReads}
 
 -- where `holds` has it what x has, elsewhere what y has
@@ -36,26 +36,28 @@ pub record SomeRelation (conditions relationEntries relations : List ℕ) (r sta
   pub tables : Tables
   pub at : RelationAt tables conditions relationEntries relations r start
 
--- the row of a comparison, from `full`, which has all configurations, and the rows of lower ones
-abbrev pub namedStep : List ℕ → List ℕ → List ℕ → ℕ → Comparison → List ℕ
-namedStep conditions full named a Comparison.Malformed = rowOf 16 (λ c. false)
-namedStep conditions full named a Comparison.Never = rowOf 16 (λ c. false)
-namedStep conditions full named a Comparison.Always = rowOf 16 (λ c. false)
-namedStep conditions full named a (Comparison.Constant o b d) = cond (eqb a b) full (rowOf 16 (λ c. false))
-namedStep conditions full named a (Comparison.Attribute o b d) = cond (eqb a b || eqb a d) full (rowOf 16 (λ c. false))
-namedStep conditions full named a (Comparison.Not b) = rowIn 16 named b
-namedStep conditions full named a (Comparison.And b d) = rowJoin 16 (rowIn 16 named b) (rowIn 16 named d)
-namedStep conditions full named a (Comparison.Or b d) = rowJoin 16 (rowIn 16 named b) (rowIn 16 named d)
-namedStep conditions full named a (Comparison.Choice e b d) = choiceRow (rowIn 16 conditions e) (rowIn 16 named b) (rowIn 16 named d)
+-- the row of a comparison with these operands, from the rows of lower ones; without operands it is `full`, which has all configurations, or empty: what
+-- a comparison gives by itself it gives at all of them
+abbrev pub gatheredStep : List ℕ → List ℕ → List ℕ → Bool → Operands → List ℕ
+gatheredStep conditions rows full own Operands.Nothing = cond own full (rowOf 16 (λ c. false))
+gatheredStep conditions rows full own (Operands.One b) = rowIn 16 rows b
+gatheredStep conditions rows full own (Operands.Both b d) = rowJoin 16 (rowIn 16 rows b) (rowIn 16 rows d)
+gatheredStep conditions rows full own (Operands.Choice e b d) = choiceRow (rowIn 16 conditions e) (rowIn 16 rows b) (rowIn 16 rows d)
 
--- what a comparison is made of has a row
-pub record NamedRead (conditions named : List ℕ) (x : Comparison) : Type 0 where
-  pub attributes : ℕ
+-- operands are below f, and the expression of a choice below n
+abbrev pub OperandsLower : ℕ → ℕ → Operands → Type 0
+OperandsLower n f Operands.Nothing = Unit {0}
+OperandsLower n f (Operands.One b) = b < f
+OperandsLower n f (Operands.Both b d) = (b < f) × (d < f)
+OperandsLower n f (Operands.Choice e b d) = (e < n) × (b < f) × (d < f)
+
+-- all that the row of a comparison with these operands is made of has a row
+pub record GatheredRead (conditions rows : List ℕ) (to : Operands) : Type 0 where
   pub expressions : ℕ
   pub form : ℕ
-  pub lower : ComparisonLower attributes expressions form x
+  pub lower : OperandsLower expressions form to
   pub conditioned : expressions * 16 ≤ length conditions
-  pub below : form * 16 ≤ length named
+  pub below : form * 16 ≤ length rows
 
 -- the row of a query form, from those of the relations, of the lower forms and of its own list
 abbrev pub setStep : List ℕ → List ℕ → List ℕ → List ℕ → Query → List ℕ

@@ -1,11 +1,15 @@
-// The rows of one attribute a: the configurations at which the lists, the relations, the comparisons and the query forms have it. Forms go
-// bottom up, each from the rows of lower ones, so a form that others share is worked out once.
+// The rows of one attribute a: the configurations at which the lists, the relations, the comparisons and the query forms have it; and, whatever
+// a is, the rows of the configurations at which a comparison compares two kinds. Forms go bottom up, each from the rows of lower ones, so a form
+// that others share is worked out once.
+use comparisons::Gathered;
+use comparisons::own_shows;
 use decoders::comparison_at;
+use decoders::comparison_operands;
 use decoders::entry_attribute;
 use decoders::entry_expression;
 use decoders::relation_expression;
 use decoders::relation_length;
-use report::Comparison;
+use report::Operands;
 use report::Query;
 use sets::Row;
 ghost use mathlib.Core.Path.{_≡_};
@@ -16,10 +20,10 @@ ghost use Rattle.sets.specs.Lists.{concat};
 ghost use Rattle.sets.specs.Rows.{rowOf, rowIn, rowJoin, rowIntersect, rowMinus};
 ghost use Rattle.report.specs.Tables.{Tables, relationCount, comparisonCount};
 ghost use Rattle.report.specs.Configuring.{written};
-ghost use Rattle.attribute_rows.specs.AttributeRows.{listRow, relationRow, namedRow, ListRowReads, ListRowReadable};
-ghost use Rattle.attribute_rows.specs.AttributeRows.{RelationRowReads, RelationRowReadable, NamedReads, NamedReadable};
-ghost use Rattle.attribute_rows.specs.RowRules.{choiceRow, entryRow, EntryRead, RelationAt, SomeRelation, namedStep, NamedRead};
-ghost use Rattle.attribute_rows.specs.RowRules.{setStep, SetRead};
+ghost use Rattle.attribute_rows.specs.AttributeRows.{listRow, relationRow, gatheredRow, ListRowReads, ListRowReadable};
+ghost use Rattle.attribute_rows.specs.AttributeRows.{RelationRowReads, RelationRowReadable, GatheredReads, GatheredReadable};
+ghost use Rattle.attribute_rows.specs.RowRules.{choiceRow, entryRow, EntryRead, RelationAt, SomeRelation};
+ghost use Rattle.attribute_rows.specs.RowRules.{gatheredStep, GatheredRead, setStep, SetRead};
 
 // A row joined with that of entry i of the list that starts at `start`, if it names attribute a.
 fn with_entry(entries: &[u16], conditions: &[u64], start: usize, i: usize, a: usize, r: Row) -> Row
@@ -88,43 +92,43 @@ fn chosen_row(conditions: &[u64], rows: &[u64], e: usize, b: usize, d: usize) ->
     )
 }
 
-// The row of a comparison; `full` has all configurations, `named` the rows of lower comparisons.
-fn named_row(x: Comparison, conditions: &[u64], full: Row, named: &[u64], a: usize) -> Row
-    requires { ⌜ NamedRead (now conditions) (now named) x ⌝ }
-    ensures { λ r. ⌜ r .words ≡ namedStep (now (conditions .entry)) (full .words) (now (named .entry)) a x ⌝ }
+// The row of a comparison with these operands, from `rows`, which has those of lower comparisons. Without operands it is `full`, which has all
+// configurations, or empty: what a comparison gives by itself it gives at all of them.
+fn gathered_row(to: Operands, conditions: &[u64], rows: &[u64], full: Row, own: bool) -> Row
+    requires { ⌜ GatheredRead (now conditions) (now rows) to ⌝ }
+    ensures { λ r. ⌜ r .words ≡ gatheredStep (now (conditions .entry)) (now (rows .entry)) (full .words) own to ⌝ }
 {
-    match x {
-        Comparison::Malformed => Row::empty(),
-        Comparison::Never => Row::empty(),
-        Comparison::Always => Row::empty(),
-        Comparison::Constant(_, b, _) => row_if(full, a == b),
-        Comparison::Attribute(_, b, d) => row_if(full, (a == b) | (a == d)),
-        Comparison::Not(b) => Row::load(named, b),
-        Comparison::And(b, d) => joined_row(named, b, d),
-        Comparison::Or(b, d) => joined_row(named, b, d),
-        Comparison::Choice(e, b, d) => chosen_row(conditions, named, e, b, d),
+    match to {
+        Operands::Nothing => row_if(full, own),
+        Operands::One(b) => Row::load(rows, b),
+        Operands::Both(b, d) => joined_row(rows, b, d),
+        Operands::Choice(e, b, d) => chosen_row(conditions, rows, e, b, d),
     }
 }
 
-// Fills `named` with the rows of all comparisons.
-pub fn fill_named_rows(
+// Fills `rows` with the rows of all comparisons.
+pub fn fill_gathered_rows(
     comparisons: &[u16],
+    kinds: &[u16],
     conditions: &[u64],
     full: Row,
+    what: Gathered,
     a: usize,
-    named: &mut [u64],
+    rows: &mut [u64],
 )
-    requires { ⌜ NamedReadable (now conditions) (now comparisons) (full .words) (now named) ⌝ }
+    requires { ⌜ GatheredReadable (now conditions) (now comparisons) (now kinds) (full .words) (now rows) ⌝ }
     ensures { λ _.
-        ⌜ ((T : Tables) → NamedReads T (now (conditions .entry)) (now (comparisons .entry)) (full .words)
-        → now (named .exit) ≡ written (concat (comparisonCount T) (namedRow T a)) (now (named .entry))) ⌝ }
+        ⌜ ((T : Tables) → GatheredReads T (now (conditions .entry)) (now (comparisons .entry)) (now (kinds .entry)) (full .words)
+        → now (rows .exit) ≡ written (concat (comparisonCount T) (gatheredRow T what a)) (now (rows .entry))) ⌝ }
 {
     let count = comparisons.len() / 5;
     let mut f = 0;
     while f < count {
         let x = comparison_at(comparisons, f);
-        let r = named_row(x, conditions, full, &*named, a);
-        r.store(&mut *named, f);
+        let own = own_shows(what, x, kinds, a);
+        let to = comparison_operands(x);
+        let r = gathered_row(to, conditions, &*rows, full, own);
+        r.store(&mut *rows, f);
         f += 1;
     }
 }

@@ -60,7 +60,7 @@ module _ (T : Tables) where
           let own : w ≡ rowsCheck (length lent) = e ∙ ap (λ (b : Bool). refuseIf (not b) (refusal 11 0 0 0)) (sym (ne-eqb (length lent) 1024 n)) in
           refused lent (goes-on forms passed (stops _ own e) ∙ sym (parts (length lent))) e
 
-      -- 12 to 19
+      -- 12 to 19 and 25
       pub meaning-answers : length lent ≡ 1024 → {w : Verdict} {rows : List ℕ} → Meant T w lent rows → Checks T lent w rows
       meaning-answers room {w} M = (answers, M .shows ∙ ap (λ (x : Verdict). after x (columnRows T) lent) answers)
         where
@@ -70,7 +70,7 @@ module _ (T : Tables) where
               (M .answers ∙ sym (then-next (accepted-if _ (ap not (eq-eqb (length lent) 1024 room)))))
               ∙ sym (parts (length lent))
 
--- ---- 12 to 19, where judging leaves the column rows in `columns`
+-- ---- 12 to 19 and 25, where judging leaves the column rows in `columns`
 
 module _ {T : Tables} {v : Verdict} {lentConditions lentReach lentColumns conditions reach columns : List ℕ}
     (J : TablesJudged T v lentConditions lentReach lentColumns conditions reach columns) (lent : List ℕ) where

@@ -15,7 +15,7 @@ pub record MeaningReads (T : Tables) (rows : List ℕ) : Type 0 where
   pub formed : Formed T
   pub full : length rows ≡ 1024
 
--- the answer of 12 to 19, and the rows lent: the column rows where it accepts
+-- the answer of 12 to 19 and 25, and the rows lent: the column rows where it accepts
 pub record Meant (T : Tables) (answer : Verdict) (lent rows : List ℕ) : Type 0 where
   pub answers : answer ≡ meaningCheck T
   pub shows : rows ≡ after answer (columnRows T) lent

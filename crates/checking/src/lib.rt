@@ -25,7 +25,7 @@ fn copy_words(from: &[u64], to: &mut [u64])
     }
 }
 
-// Checks 12 to 19 of tables that have passed 1 to 10. Accepted: `rows`, of 1,024 words, holds the column rows. Refused: `rows` is as it was.
+// Checks 12 to 19 and 25 of tables that have passed 1 to 10 and 24. Accepted: `rows`, of 1,024 words, holds the column rows. Refused: `rows` is as it was.
 fn check_meaning(
     n: usize,
     m: usize,
@@ -35,12 +35,13 @@ fn check_meaning(
     relations: &[u16],
     comparisons: &[u16],
     queries: &[u16],
+    kinds: &[u16],
     rows: &mut [u64],
 ) -> Verdict
-    requires { ⌜ MeaningReads (tablesOf n m model (now expressions) (now entries) (now relations) (now comparisons) (now queries)) (now rows) ⌝ }
+    requires { ⌜ MeaningReads (tablesOf n m model (now expressions) (now entries) (now relations) (now comparisons) (now queries) (now kinds)) (now rows) ⌝ }
     ensures { λ v.
         ⌜ Meant (tablesOf n m model (now (expressions .entry)) (now (entries .entry)) (now (relations .entry)) (now (comparisons .entry))
-        (now (queries .entry))) v (now (rows .entry)) (now (rows .exit)) ⌝ }
+        (now (queries .entry)) (now (kinds .entry))) v (now (rows .entry)) (now (rows .exit)) ⌝ }
 {
     let mut conditions = [0; EXPRESSION_WORDS];
     let mut reach = [0; REACH_WORDS];
@@ -54,6 +55,7 @@ fn check_meaning(
         relations,
         comparisons,
         queries,
+        kinds,
         &mut conditions,
         &mut reach,
         &mut columns,
@@ -75,11 +77,12 @@ pub fn check(
     relations: &[u16],
     comparisons: &[u16],
     queries: &[u16],
+    kinds: &[u16],
     rows: &mut [u64],
 ) -> Verdict
     ensures { λ r.
         ⌜ Checks (tablesOf features attributes model (now (expressions .entry)) (now (entries .entry)) (now (relations .entry))
-        (now (comparisons .entry)) (now (queries .entry)))
+        (now (comparisons .entry)) (now (queries .entry)) (now (kinds .entry)))
         (now (rows .entry)) r (now (rows .exit)) ⌝ }
 {
     let n = features as usize;
@@ -94,6 +97,7 @@ pub fn check(
         relations,
         comparisons,
         queries,
+        kinds,
     );
     if let Verdict::Refused(_) = form {
         return form;
@@ -110,6 +114,7 @@ pub fn check(
         relations,
         comparisons,
         queries,
+        kinds,
         rows,
     )
 }

@@ -179,7 +179,7 @@ read-tables : {U : Tables} → Formed U
     → Leaves Verdict.Accepted U newEntries newRelations newComparisons newQueries
     (Configured.Written a b c d) newEntries′ newRelations′ newComparisons′ newQueries′
     → tablesOf (U .features) (U .attributes) (U .model) (U .expressions) (take (a * 2) newEntries′) (take (b * 2) newRelations′)
-    (take (c * 5) newComparisons′) (take (d * 4) newQueries′)
+    (take (c * 5) newComparisons′) (take (d * 4) newQueries′) (U .kinds)
     ≡ U
 read-tables {U} F {newEntries} {newRelations} {newComparisons} {newQueries} {newEntries′} {newRelations′} {newComparisons′} {newQueries′} {a} {b} {c}
     {d} L =
@@ -196,6 +196,6 @@ pub read-back : (T : Tables) (k : ℕ) → Formed (configured T k)
     → Leaves Verdict.Accepted (configured T k) newEntries newRelations newComparisons newQueries
     (Configured.Written a b c d) newEntries′ newRelations′ newComparisons′ newQueries′
     → tablesOf 0 (T .attributes) 0 (1 ∷ 0 ∷ 0 ∷ []) (take (a * 2) newEntries′) (take (b * 2) newRelations′) (take (c * 5) newComparisons′)
-    (take (d * 4) newQueries′) ≡ configured T k
+    (take (d * 4) newQueries′) (T .kinds) ≡ configured T k
 unfolding configured
 read-back T k = read-tables

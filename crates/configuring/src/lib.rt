@@ -266,6 +266,7 @@ pub fn configure(
     relations: &[u16],
     comparisons: &[u16],
     queries: &[u16],
+    kinds: &[u16],
     c: u64,
     new_entries: &mut [u16],
     new_relations: &mut [u16],
@@ -275,7 +276,7 @@ pub fn configure(
     ensures { λ r.
         ⌜ Configures
         (tablesOf features attributes model (now (expressions .entry)) (now (entries .entry)) (now (relations .entry)) (now (comparisons .entry))
-        (now (queries .entry))) c
+        (now (queries .entry)) (now (kinds .entry))) c
         (now («new_entries» .entry)) (now («new_relations» .entry)) (now («new_comparisons» .entry)) (now («new_queries» .entry)) r
         (now («new_entries» .exit)) (now («new_relations» .exit)) (now («new_comparisons» .exit)) (now («new_queries» .exit)) ⌝ }
 {
@@ -292,6 +293,7 @@ pub fn configure(
         relations,
         comparisons,
         queries,
+        kinds,
         &mut conditions,
         &mut reach,
         &mut columns,

@@ -7,7 +7,7 @@ ghost use mathlib.Core.Path.{_≡_};
 ghost use mathlib.Core.Bool.{cond};
 ghost use Prim.Native.Nat.{_+_, _*_, _/_, _<_};
 ghost use lib.ListN.{length, getD};
-ghost use Rattle.report.specs.Tables.{entryAttribute, entryExpression, relationExpression, relationLength, expressionOf, expression};
+ghost use Rattle.report.specs.Tables.{kindIn, entryAttribute, entryExpression, relationExpression, relationLength, expressionOf, expression};
 ghost use Rattle.report.specs.Tables.{comparisonOf, comparison, queryOf, query, projectLength};
 ghost use Rattle.report.specs.Operands.{comparisonOperands, queryOperands};
 ghost use Rattle.report.specs.declared.Expression.{Expression};
@@ -61,6 +61,16 @@ pub fn relation_length(relations: &[u16], k: usize) -> usize
     word_at(relations, k * 2 + 1)
 }
 
+// The kind of attribute a; 0 past the end of the kind table.
+pub fn kind_of(kinds: &[u16], a: usize) -> usize
+    ensures { λ r. ⌜ r ≡ kindIn (now (kinds .entry)) a ⌝ }
+{
+    if a < kinds.len() {
+        return word_at(kinds, a);
+    }
+    0
+}
+
 fn whole_expression(whole: bool, form: Expression) -> Expression
     ensures { λ r. ⌜ r ≡ cond whole form Expression.Malformed ⌝ }
 {
@@ -112,7 +122,7 @@ fn comparison_of(kind: usize, o: usize, a: usize, b: usize, c: usize) -> Compari
             (o == 0) & (a == 0) & (b == 0) & (c == 0),
             Comparison::Always,
         ),
-        2 => whole_comparison(c == 0, Comparison::Constant(o, a, b)),
+        2 => Comparison::Constant(o, a, b, c),
         3 => whole_comparison(c == 0, Comparison::Attribute(o, a, b)),
         4 => whole_comparison((o == 0) & (b == 0) & (c == 0), Comparison::Not(a)),
         5 => whole_comparison((o == 0) & (c == 0), Comparison::And(a, b)),
@@ -193,7 +203,7 @@ pub fn comparison_operands(x: Comparison) -> Operands
         Comparison::Malformed => Operands::Nothing,
         Comparison::Never => Operands::Nothing,
         Comparison::Always => Operands::Nothing,
-        Comparison::Constant(_, _, _) => Operands::Nothing,
+        Comparison::Constant(_, _, _, _) => Operands::Nothing,
         Comparison::Attribute(_, _, _) => Operands::Nothing,
         Comparison::Not(a) => Operands::One(a),
         Comparison::And(a, b) => Operands::Both(a, b),

@@ -8,7 +8,7 @@ use native.Mathlib.Omega.{arith}
 use lib.ListN.{replicate, getD}
 use lib.Dec.{lit≤}
 use Rattle.sets.proofs.BitLaws.{bit-none}
-use Rattle.report.specs.Tables.{tablesOf, query, relationLength, relationStart, projectLength, projectStart}
+use Rattle.report.specs.Tables.{Tables, tablesOf, query, relationLength, relationStart, projectLength, projectStart}
 use Rattle.report.specs.Expressions.{permitted}
 use Rattle.report.specs.ColumnRows.{columnRows}
 use Rattle.report.specs.ConfiguredReport.{plainQueryAt, keptAttributes}
@@ -16,10 +16,13 @@ use Rattle.report.specs.Verdicts.{refusal, after}
 use Rattle.report.specs.FormChecks.{listFits}
 use Rattle.report.specs.Calls.{Call, answer, configuring}
 use Rattle.report.specs.Repeats.{relationRepeats, projectRepeats, NoRepeats, answerBefore, configuredBefore}
-use Rattle.report.specs.Examples.{h1, rampTwice, quay}
+use Rattle.report.specs.Kinds.{Differing, KindFault, AllKinds0, answerBeforeKinds}
+use Rattle.report.specs.Examples.{h1, rampTwice, quay, arrivals, kinds012, arrivalByCount, lacking}
 use Rattle.report.specs.declared.Verdict.{Verdict}
 use Rattle.report.proofs.ExamplesHold.{computed}
 use Rattle.report.proofs.Guards.{h1-accepted}
+use Rattle.report.proofs.KindLaws.{kinds-0-before}
+use Rattle.report.proofs.KindCalls.{accepted-one-kind}
 use Rattle.checking.specs.Promises.{Checks}
 use Rattle.configuring.specs.declared.Configured.{Configured}
 use Rattle.configuring.specs.Promises.{Rooms, Leaves, Configures}
@@ -36,6 +39,7 @@ use Rattle.demands.proofs.Finding.{find-found, find-none}
 use Rattle.demands.proofs.Joined.{configure-once, configure-before}
 use Rattle.demands.proofs.WallPage.{page-shows}
 use Rattle.demands.proofs.ExactlyOne.{range-refused, model-permits, model-found}
+use Rattle.demands.proofs.ComparedKinds.{check-one-kind, check-25}
 
 -- tables lent with other words in them, table 1 with two words more than its source
 abbrev lent1 : List ℕ
@@ -108,7 +112,7 @@ ramp-configures : Configures rampTwice 2 (replicate 7 9) lent2 [] (replicate 4 9
 unfolding computed
 ramp-configures = record { answers = refl; entries = refl; relations = refl; comparisons = refl; queries = refl }
 
-pub ramp-once : NoRepeats (tablesOf 0 2 0 (1 ∷ 0 ∷ 0 ∷ []) (0 ∷ 0 ∷ 1 ∷ 0 ∷ []) (0 ∷ 2 ∷ []) [] (1 ∷ 0 ∷ 0 ∷ 0 ∷ []))
+pub ramp-once : NoRepeats (tablesOf 0 2 0 (1 ∷ 0 ∷ 0 ∷ []) (0 ∷ 0 ∷ 1 ∷ 0 ∷ []) (0 ∷ 2 ∷ []) [] (1 ∷ 0 ∷ 0 ∷ 0 ∷ []) (0 ∷ 0 ∷ []))
 ramp-once = configure-once rampTwice 2 (replicate 7 9) lent2 [] (replicate 4 9) _ _ _ _ _ ramp-configures 2 1 0 1 refl
 
 -- `find` on H1: vessel and ramp are wanted, and 2 is the lowest configuration that has both; 0 has not. Berth no configuration has
@@ -185,3 +189,46 @@ far-kind = record { kind = refl; firstIs = refl; countIs = refl }
 pub far-refused : (call : Call) → answer (quay 3 65535 2) call ≡ Verdict.Refused (refusal 3 0 0 0)
 far-refused call =
     range-refused (quay 3 65535 2) call 0 (lit≤ tt) refl (λ f l. absurd (omega arith)) 65535 2 far-kind (inr (inr (lit≤ tt)))
+
+-- an arrival compared with a passenger count: the select reaches the comparison at 0, so no call accepts it, and the check refuses it by 25, which names
+-- just that
+abbrev compared : Tables
+compared = arrivals arrivalByCount 0 kinds012
+
+pub arrival-differs : Differing compared 0 1 0 0
+unfolding computed
+arrival-differs = record { selects = 0; of = 0; form = refl; reaches = refl; leads = refl; two = refl; left = refl }
+
+pub arrival-never : (call : Call) → answer compared call ≡ Verdict.Accepted → ⊥
+arrival-never call e = accepted-one-kind compared call e 0 1 0 0 arrival-differs
+
+pub arrival-refused : Checks compared (replicate 1024 9) (Verdict.Refused (refusal 25 1 0 0)) (replicate 1024 9)
+unfolding computed
+arrival-refused = (refl, refl)
+
+pub arrival-fault : KindFault compared (refusal 25 1 0 0)
+arrival-fault = check-25 compared (replicate 1024 9) (replicate 1024 9) (refusal 25 1 0 0) arrival-refused refl
+
+-- of the same with one kind for both it is accepted, and so no sides differ
+pub counts-agree : Checks (arrivals arrivalByCount 0 (1 ∷ 1 ∷ 2 ∷ [])) (replicate 1024 9) Verdict.Accepted (columnRows (arrivals arrivalByCount 0 (1 ∷ 1 ∷ 2 ∷ [])))
+unfolding computed
+counts-agree = (refl, refl)
+
+pub counts-alike : (c q a g : ℕ) → Differing (arrivals arrivalByCount 0 (1 ∷ 1 ∷ 2 ∷ [])) c q a g → ⊥
+counts-alike = check-one-kind (arrivals arrivalByCount 0 (1 ∷ 1 ∷ 2 ∷ [])) (replicate 1024 9) _ counts-agree
+
+-- 16 at 3 comes before 25 at 0, and says that at 0 no compared attribute is missing
+pub lacking-refused : Checks (lacking arrivalByCount (2 ∷ 0 ∷ 0 ∷ 0 ∷ [])) (replicate 1024 9) (Verdict.Refused (refusal 16 1 1 3)) (replicate 1024 9)
+unfolding computed
+lacking-refused = (refl, refl)
+
+pub lacking-differs : Differing (lacking arrivalByCount (2 ∷ 0 ∷ 0 ∷ 0 ∷ [])) 0 1 0 0
+unfolding computed
+lacking-differs = record { selects = 0; of = 0; form = refl; reaches = refl; leads = refl; two = refl; left = refl }
+
+-- H1's kinds are all 0 and it has no select, so it is judged as it was
+pub h1-kinds : AllKinds0 (h1 2)
+h1-kinds = record { attributes = refl; constants = λ f h. absurd (omega arith) }
+
+pub h1-before : (call : Call) → answer (h1 2) call ≡ answerBeforeKinds (h1 2) call
+h1-before = kinds-0-before h1-kinds

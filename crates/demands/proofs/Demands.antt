@@ -12,7 +12,7 @@ use mathlib.Core.Logic.{_↔_}
 use native.Mathlib.Omega.{arith}
 use borrow.Author.Tests.{not-false}
 use lib.ListN.{length, replicate}
-use Rattle.report.specs.Tables.{Tables}
+use Rattle.report.specs.Tables.{Tables, kindOf}
 use Rattle.report.specs.Expressions.{permitted}
 use Rattle.report.specs.Typing.{setOf}
 use Rattle.report.specs.ColumnRows.{columnRows, shown}
@@ -68,7 +68,7 @@ module _ (T : Tables) (sound : Sound T) (rows rows′ : List ℕ) (r : Verdict) 
 -- were accepted, and no word of them has changed since."
 
 pub found-afterwards : (T : Tables) (rows rows′ : List ℕ) → Checks T rows Verdict.Accepted rows′ → (c : ℕ) → permitted T c ≡ true
-    → (passes (configuredSchema T c) (configuredReport T c) ≡ true) × (columns (configuredSchema T c) (configuredReport T c) ≡ shown rows′ c)
+    → (passes (kindOf T) (configuredSchema T c) (configuredReport T c) ≡ true) × (columns (configuredSchema T c) (configuredReport T c) ≡ shown rows′ c)
 found-afterwards T rows rows′ k c chosen =
     let accepted = sym (k .0) in (
       checked-passes T (length rows) accepted c chosen,
@@ -148,7 +148,7 @@ module _ (T : Tables) (c : ℕ) (newEntries newRelations newComparisons newQueri
 
       -- that is: the configured report passes the plain rules; given to the checker, what is written is accepted, and its columns are the report's
       pub written-columns : (lent lent′ : List ℕ) (v : Verdict) → length lent ≡ 1024 → Checks (configured T c) lent v lent′
-          → (passes (configuredSchema T c) (configuredReport T c) ≡ true)
+          → (passes (kindOf T) (configuredSchema T c) (configuredReport T c) ≡ true)
           × (v ≡ Verdict.Accepted)
           × (shown lent′ 0 ≡ columns (configuredSchema T c) (configuredReport T c))
       written-columns lent lent′ v full w =
@@ -171,7 +171,7 @@ module _ (T : Tables) (sound : Sound T) {call : Call} (own : OwnNumbers call) (g
   pub call-names : fault ≡ true → Named T call
   call-names e = refused-named T sound own gets (sym same ∙ e)
 
-  pub call-never : ((c : ℕ) → permitted T c ≡ true → passes (configuredSchema T c) (configuredReport T c) ≡ true) → fault ≡ false
+  pub call-never : ((c : ℕ) → permitted T c ≡ true → passes (kindOf T) (configuredSchema T c) (configuredReport T c) ≡ true) → fault ≡ false
   call-never h = same ∙ never-refused T sound own gets h
 
 module _ (T : Tables) (sound : Sound T) where
@@ -200,7 +200,7 @@ module _ (T : Tables) (sound : Sound T) where
     pub check-names : isTypingFault r ≡ true → (n : Named T call) × (r ≡ Verdict.Refused (n .refuses))
     check-names e = let n = call-names T sound (checking-own (length rows)) gets same e in (n, checks .0 ∙ n .answers)
 
-    pub check-never : ((c : ℕ) → permitted T c ≡ true → passes (configuredSchema T c) (configuredReport T c) ≡ true) → isTypingFault r ≡ false
+    pub check-never : ((c : ℕ) → permitted T c ≡ true → passes (kindOf T) (configuredSchema T c) (configuredReport T c) ≡ true) → isTypingFault r ≡ false
     check-never = call-never T sound (checking-own (length rows)) gets same
 
   -- configuring
@@ -223,6 +223,6 @@ module _ (T : Tables) (sound : Sound T) where
     configure-names e =
         let n = call-names T sound own reaches (configured-fault configures) e in (n, configured-refused configures (n .answers))
 
-    pub configure-never : ((d : ℕ) → permitted T d ≡ true → passes (configuredSchema T d) (configuredReport T d) ≡ true)
+    pub configure-never : ((d : ℕ) → permitted T d ≡ true → passes (kindOf T) (configuredSchema T d) (configuredReport T d) ≡ true)
         → isConfiguredFault r ≡ false
     configure-never = call-never T sound own reaches (configured-fault configures)

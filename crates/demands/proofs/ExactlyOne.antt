@@ -18,7 +18,7 @@ use Rattle.sets.proofs.RowLaws.{rowOf-same}
 use Rattle.report.specs.Tables.{Tables, word, expressionOf, expression, expressionCount, report}
 use Rattle.report.specs.Expressions.{featuresOn, exactlyOneOn, truthOf, holds, configurations, permitted}
 use Rattle.report.specs.Typing.{setOf}
-use Rattle.report.specs.FormChecks.{rangeFits, expressionFits, expressionOk, headCheck, lengthsCheck, expressionsCheck, formCheck}
+use Rattle.report.specs.FormChecks.{rangeFits, expressionFits, expressionOk, headCheck, lengthsCheck, expressionsCheck, tablesCheck, formCheck}
 use Rattle.report.specs.Verdicts.{refusal, refuseAt, orElse}
 use Rattle.report.specs.Calls.{Call, answer}
 use Rattle.report.specs.declared.Expression.{Expression}
@@ -139,10 +139,10 @@ module _ (T : Tables) (call : Call) (e : ℕ) (inside : e < expressionCount T)
       (record { below = inside; holds = ap not t; before = λ f l. ap not (lower f l) }))
 
   refused-3 : expressionOk T e ≡ false → answer T call ≡ Verdict.Refused (refusal 3 e 0 0)
-  unfolding answer formCheck
+  unfolding answer formCheck tablesCheck
   refused-3 t =
       let before = both-accepted (headCheck (T .features) (T .attributes)) (lengthsCheck T) passed in
-      then-refused _ (then-refused _ (then-next (before .0) ∙ then-next (before .1) ∙ then-refused _ (check-3 t)))
+      then-refused _ (then-refused _ (then-refused _ (then-next (before .0) ∙ then-next (before .1) ∙ then-refused _ (check-3 t))))
 
   pub range-refused : (first count : ℕ) → IsKind6 T e first count → (count < 1) ⊎ (10 < count) ⊎ (T .features < first + count)
       → answer T call ≡ Verdict.Refused (refusal 3 e 0 0)

@@ -10,7 +10,7 @@ use Rattle.sets.specs.declared.Found.{Found}
 use Rattle.sets.specs.Bits.{bit, subset, hasFrom}
 use Rattle.sets.proofs.SearchLaws.{lowest-nothing, nothing-lowest, lowest-at, at-lowest}
 use Rattle.sets.proofs.BitLaws.{from-member}
-use Rattle.report.specs.Tables.{Tables, report}
+use Rattle.report.specs.Tables.{Tables, kindOf, report}
 use Rattle.report.specs.Expressions.{configurations, permitted}
 use Rattle.report.specs.Typing.{setOf}
 use Rattle.report.specs.ColumnRows.{shown}
@@ -129,7 +129,7 @@ module _ (T : Tables) (wanted : ℕ) (r : FindAnswer) (finds : Finds T wanted r)
   -- found: c is permitted, the configured report at c passes the plain rules and its columns hold every wanted attribute, and at no lower permitted
   -- configuration do they
   pub find-found : {c : ℕ} → r ≡ FindAnswer.At c
-      → (passes (configuredSchema T c) (configuredReport T c) ≡ true) × LowestWith T (columnsAt T) wanted c
+      → (passes (kindOf T) (configuredSchema T c) (configuredReport T c) ≡ true) × LowestWith T (columnsAt T) wanted c
   find-found {c} e = let l = found-in configured-set e in (called-passes T (finding wanted) (at-answer e .0) c (l .permits), l)
 
   -- none: at no permitted configuration do they
@@ -226,5 +226,5 @@ module _ (T : Tables) (sound : Sound T) (wanted : ℕ) where
         let n = call-names T sound (finding-own wanted) which-find find-fault e in
         (n, told-by T wanted r finds (n .answers))
 
-    pub find-never : ((c : ℕ) → permitted T c ≡ true → passes (configuredSchema T c) (configuredReport T c) ≡ true) → isFindFault r ≡ false
+    pub find-never : ((c : ℕ) → permitted T c ≡ true → passes (kindOf T) (configuredSchema T c) (configuredReport T c) ≡ true) → isFindFault r ≡ false
     find-never = call-never T sound (finding-own wanted) which-find find-fault

@@ -126,7 +126,7 @@ module _ (T : Tables) (c : ℕ) (newEntries newRelations newComparisons newQueri
   pub configure-once : (a b d e : ℕ) → r ≡ Configured.Written a b d e
       → NoRepeats
       (tablesOf 0 (T .attributes) 0 (1 ∷ 0 ∷ 0 ∷ [])
-      (take (a * 2) newEntries′) (take (b * 2) newRelations′) (take (d * 5) newComparisons′) (take (e * 4) newQueries′))
+      (take (a * 2) newEntries′) (take (b * 2) newRelations′) (take (d * 5) newComparisons′) (take (e * 4) newQueries′) (T .kinds))
   configure-once a b d e written =
       let w = written-alone T c _ _ _ _ r _ _ _ _ configures a b d e written in
       rw (w .readBack a b d e written) (w .accepted .writes .once)

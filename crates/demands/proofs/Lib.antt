@@ -3,4 +3,5 @@ pub mod Finding
 pub mod Joined
 pub mod WallPage
 pub mod ExactlyOne
+pub mod ComparedKinds
 pub mod CallGuards

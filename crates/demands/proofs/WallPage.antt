@@ -16,7 +16,7 @@ use Rattle.sets.specs.Rows.{rowBit, rowIn}
 use Rattle.sets.proofs.ListLaws.{table-of}
 use Rattle.sets.proofs.SearchLaws.{count-lt, nth}
 use Rattle.sets.proofs.BitLaws.{bit-bitsOf}
-use Rattle.report.specs.Tables.{Tables, report}
+use Rattle.report.specs.Tables.{Tables, kindOf, report}
 use Rattle.report.specs.Expressions.{configurations, permitted}
 use Rattle.report.specs.Typing.{setOf}
 use Rattle.report.specs.ColumnRows.{shown}
@@ -164,7 +164,7 @@ module _ (T : Tables) (lent : List ℕ) (r : PageAnswer) (bytes : List ℕ) (wri
   pub page-shows : {n : ℕ} → r ≡ PageAnswer.Lines n → PageShows T (columnsAt T) lent n bytes
   page-shows = page-in (λ a c p. sym (called-columns T call a c p))
 
-  pub page-passes : {n : ℕ} → r ≡ PageAnswer.Lines n → (c : ℕ) → permitted T c ≡ true → passes (configuredSchema T c) (configuredReport T c) ≡ true
+  pub page-passes : {n : ℕ} → r ≡ PageAnswer.Lines n → (c : ℕ) → permitted T c ≡ true → passes (kindOf T) (configuredSchema T c) (configuredReport T c) ≡ true
   page-passes e c p = called-passes T call (lines-answer e .0) c p
 
   -- the same of any sets that keep the typing rules
@@ -242,5 +242,5 @@ module _ (T : Tables) (sound : Sound T) (lent : List ℕ) where
     page-names e =
         let n = call-names T sound (page-own (length lent)) which-page page-fault e in (n, told-by T lent r bytes writes (n .answers))
 
-    pub page-never : ((c : ℕ) → permitted T c ≡ true → passes (configuredSchema T c) (configuredReport T c) ≡ true) → isPageFault r ≡ false
+    pub page-never : ((c : ℕ) → permitted T c ≡ true → passes (kindOf T) (configuredSchema T c) (configuredReport T c) ≡ true) → isPageFault r ≡ false
     page-never = call-never T sound (page-own (length lent)) which-page page-fault

@@ -18,10 +18,10 @@ pub record FoundWritten (T : Tables) (c : ℕ) (rows′ newEntries newRelations 
   -- it accepts: it answers how many forms tables 1 to 4 have, and each table lent begins with its words and is else unchanged
   pub leaves : Leaves Verdict.Accepted (configured T c) newEntries newRelations newComparisons newQueries r
       newEntries′ newRelations′ newComparisons′ newQueries′
-  -- so that many forms of each, read back, with the head and the one expression that docs/FORMAT.md names, are the tables written
+  -- so that many forms of each, read back, with the head, the one expression and the kind table that docs/FORMAT.md names, are the tables written
   pub readBack : (a b d e : ℕ) → r ≡ Configured.Written a b d e
       → tablesOf 0 (T .attributes) 0 (1 ∷ 0 ∷ 0 ∷ [])
-      (take (a * 2) newEntries′) (take (b * 2) newRelations′) (take (d * 5) newComparisons′) (take (e * 4) newQueries′)
+      (take (a * 2) newEntries′) (take (b * 2) newRelations′) (take (d * 5) newComparisons′) (take (e * 4) newQueries′) (T .kinds)
       ≡ configured T c
   -- these pass the form checks, are the configured report as a tree and the configured schema with the relations renumbered, and are sound
   pub accepted : WrittenAccepted T c

@@ -19,13 +19,16 @@ use Rattle.report.specs.Expressions.{holds, permitted}
 use Rattle.report.specs.Typing.{setOf, reached, faults}
 use Rattle.report.specs.ColumnRows.{hasColumn}
 use Rattle.report.specs.Configuring.{written}
+use Rattle.report.specs.Formed.{Formed}
 use Rattle.report.proofs.FormedFacts.{counts, report-in}
-use Rattle.attribute_rows.specs.AttributeRows.{relationRow, namedRow, RelationRowReads, RelationRowReadable, NamedReads, NamedReadable}
-use Rattle.attribute_rows.proofs.AttributeLaws.{relations-are, named-are}
+use Rattle.comparisons.specs.declared.Gathered.{Gathered}
+use Rattle.attribute_rows.specs.AttributeRows.{relationRow, gatheredRow, RelationRowReads, RelationRowReadable, GatheredReads, GatheredReadable}
+use Rattle.attribute_rows.proofs.AttributeLaws.{relations-are, gathered-are}
 use Rattle.attribute_rows.proofs.FillLaws.{RowsFilling, filling-none, filling-more, filling-all}
-use Rattle.fault_rows.specs.FaultRows.{faultyRow, columnRow, FailReads, FailReadable, FailsFilled}
+use Rattle.fault_rows.specs.FaultRows.{faultyRow, failsRow, columnRow, FailReads, FailReadable, FailsFilled, Items}
 use Rattle.fault_rows.specs.FaultRules.{FormRowsReads, FormRowsReadable, FormsFilled, storedColumn, ColumnRead}
 use Rattle.fault_rows.proofs.TypeLaws.{faulty-wide}
+use Rattle.fault_rows.proofs.FaultLaws.{faulty-fails}
 
 -- ---- what the rows of one attribute are worked out from, and room for them
 
@@ -46,12 +49,12 @@ pub arrays-kept : {named relationRows sets after later last : List ℕ} → Arra
     → length later ≡ length relationRows → length last ≡ length sets → Arrays after later last
 arrays-kept S p q r = record { compared = p ∙ S .compared; related = q ∙ S .related; shaped = r ∙ S .shaped }
 
-module _ {T : Tables} {conditions full permits reach relationEntries projectEntries relations comparisons queries : List ℕ}
-    (R : FailReads T conditions full permits reach relationEntries projectEntries relations comparisons queries) where
-  reads-named : NamedReads T conditions comparisons full
+module _ {T : Tables} {conditions full permits reach relationEntries projectEntries relations comparisons queries kinds : List ℕ}
+    (R : FailReads T conditions full permits reach relationEntries projectEntries relations comparisons queries kinds) where
+  reads-named : GatheredReads T conditions comparisons kinds full
   reads-named =
       let P = R .prepared in
-      record { formed = P .formed; filled = P .filled; comparisonsAre = P .comparisonsAre; whole = R .whole }
+      record { formed = P .formed; filled = P .filled; comparisonsAre = P .comparisonsAre; kindsAre = R .kindsAre; whole = R .whole }
 
   reads-relations : RelationRowReads T conditions relationEntries relations
   reads-relations =
@@ -59,7 +62,7 @@ module _ {T : Tables} {conditions full permits reach relationEntries projectEntr
       record { formed = P .formed; filled = P .filled; entriesAre = P .relationEntriesAre; relationsAre = P .relationsAre }
 
   module _ {named relationRows sets : List ℕ} (S : Arrays named relationRows sets) where
-    pub arrays-named : NamedReadable conditions comparisons full named
+    pub arrays-named : GatheredReadable conditions comparisons kinds full named
     arrays-named = record {
       tables = T;
       reads = reads-named;
@@ -108,7 +111,7 @@ none-faulty T words h = record {
   each = λ q l.
       table-same 16 (λ i. getD (replicate words 0) (q * 16 + i) 0) (wordOf (λ c. false))
       (λ i m. getD-replicate {A = ℕ} words (q * 16 + i) 0 0 (omega arith) ∙ sym (bitsOf-none 64 (λ j. false) (λ j k. refl)))
-      ∙ rowOf-same 16 (λ c. false) (λ c. reached T c q && someBelow (bit (faults T c q)) 0) (λ c m. sym (and-false (reached T c q)));
+      ∙ rowOf-same 16 (λ c. false) (λ c. reached T c q && someBelow (bit (faults T c 0 q)) 0) (λ c m. sym (and-false (reached T c q)));
 }
 
 -- rows written over others of the same length
@@ -129,17 +132,18 @@ column-wide : (T : Tables) (x a : ℕ) → length (columnRow T a) ≡ 16
 column-wide T x a = rowOf-row 16 (hasColumn T a) .size
 
 -- the items below a have been looked at
-pub record Failing (conditions full permits reach relationEntries projectEntries relations comparisons queries : List ℕ) (items : ℕ)
+pub record Failing (conditions full permits reach relationEntries projectEntries relations comparisons queries kinds : List ℕ) (items : ℕ)
     (lent before faults columns : List ℕ) (a : ℕ) : Type 0 where
   pub size : length faults ≡ length lent
-  pub faulty : (T : Tables) → FailReads T conditions full permits reach relationEntries projectEntries relations comparisons queries
+  pub faulty : (T : Tables) → FailReads T conditions full permits reach relationEntries projectEntries relations comparisons queries kinds
       → faults ≡ written (concat (queryCount T) (faultyRow T a)) lent
-  pub shown : RowsFilling (λ T. FailReads T conditions full permits reach relationEntries projectEntries relations comparisons queries)
+  pub shown : RowsFilling (λ T. FailReads T conditions full permits reach relationEntries projectEntries relations comparisons queries kinds)
       (λ T x k. columnRow T k) 0 items before columns a
 
-module _ {conditions full permits reach relationEntries projectEntries relations comparisons queries : List ℕ} {items : ℕ} {lent before : List ℕ}
-    (A : FailReadable conditions full permits reach relationEntries projectEntries relations comparisons queries items lent before) where
-  pub failing-none : Failing conditions full permits reach relationEntries projectEntries relations comparisons queries items lent before lent
+module _ {conditions full permits reach relationEntries projectEntries relations comparisons queries kinds : List ℕ} {items : ℕ}
+    {lent before : List ℕ}
+    (A : FailReadable conditions full permits reach relationEntries projectEntries relations comparisons queries kinds items lent before) where
+  pub failing-none : Failing conditions full permits reach relationEntries projectEntries relations comparisons queries kinds items lent before lent
       before 0
   failing-none = record {
     size = refl;
@@ -155,14 +159,15 @@ module _ {conditions full permits reach relationEntries projectEntries relations
   }
 
   module _ {faults columns : List ℕ} {a : ℕ}
-      (S : Failing conditions full permits reach relationEntries projectEntries relations comparisons queries items lent before faults
+      (S : Failing conditions full permits reach relationEntries projectEntries relations comparisons queries kinds items lent before faults
       columns a) where
     -- the rows of attribute a: of the comparisons and the relations
     module _ {oldNamed named oldRelated relationRows oldSets : List ℕ} (arrays : Arrays oldNamed oldRelated oldSets)
-        (names : (T : Tables) → NamedReads T conditions comparisons full → named ≡ written (concat (comparisonCount T) (namedRow T a)) oldNamed)
+        (names : (T : Tables) → GatheredReads T conditions comparisons kinds full
+        → named ≡ written (concat (comparisonCount T) (gatheredRow T Gathered.Names a)) oldNamed)
         (relates : (T : Tables) → RelationRowReads T conditions relationEntries relations
         → relationRows ≡ written (concat (relationCount T) (relationRow T a)) oldRelated) where
-      failing-reads : {T : Tables} → FailReads T conditions full permits reach relationEntries projectEntries relations comparisons queries
+      failing-reads : {T : Tables} → FailReads T conditions full permits reach relationEntries projectEntries relations comparisons queries kinds
           → FormRowsReads T conditions projectEntries relations queries reach named relationRows a faults
       failing-reads {T} R = record {
         formed = R .prepared .formed;
@@ -171,7 +176,7 @@ module _ {conditions full permits reach relationEntries projectEntries relations
         relationsAre = R .prepared .relationsAre;
         queriesAre = R .prepared .queriesAre;
         reaching = R .reaching;
-        compared = named-are T a oldNamed (names T (reads-named R));
+        compared = gathered-are T a oldNamed Gathered.Names (names T (reads-named R));
         related = relations-are T a oldRelated (relates T (reads-relations R));
         faulty = faulty-rows T a lent (S .faulty T R);
       }
@@ -194,7 +199,7 @@ module _ {conditions full permits reach relationEntries projectEntries relations
               room = let m = A .column in let s = S .shown .size in omega arith;
             }
 
-        failing-row : {T : Tables} → FailReads T conditions full permits reach relationEntries projectEntries relations comparisons queries
+        failing-row : {T : Tables} → FailReads T conditions full permits reach relationEntries projectEntries relations comparisons queries kinds
             → storedColumn permits queries sets ≡ columnRow T a
         failing-row {T} R =
             ap₂ (rowIntersect 16)
@@ -205,7 +210,8 @@ module _ {conditions full permits reach relationEntries projectEntries relations
 
         pub failing-more : {shown : List ℕ} → length after ≡ length faults → length shown ≡ length columns
             → shown ≡ withRow 16 columns a (storedColumn permits queries sets)
-            → Failing conditions full permits reach relationEntries projectEntries relations comparisons queries items lent before after shown (a + 1)
+            → Failing conditions full permits reach relationEntries projectEntries relations comparisons queries kinds items lent before after
+            shown (a + 1)
         failing-more same wide stored = record {
           size = same ∙ S .size;
           faulty = λ T R.
@@ -217,13 +223,15 @@ module _ {conditions full permits reach relationEntries projectEntries relations
         }
 
     pub failing-all : items ≤ a → (T : Tables)
-        → FailReads T conditions full permits reach relationEntries projectEntries relations comparisons queries
+        → FailReads T conditions full permits reach relationEntries projectEntries relations comparisons queries kinds
         → FailsFilled T items lent faults before columns
     failing-all h T R =
         let e : a ≡ items = (let m = S .shown .most in omega arith) in
         record { rows = rw e at (S .faulty T R); shown = filling-all column-wide (S .shown) h T R refl }
 
--- for the caller: the rows that were filled
-pub fails-rows : {T : Tables} {items : ℕ} {lent faults before columns : List ℕ} → FailsFilled T items lent faults before columns
-    → RowsAre 16 (queryCount T) (faultyRow T items) faults
-fails-rows {T} {items} {lent} L = faulty-rows T items lent (L .rows)
+-- for the caller: the rows that were filled are of the configurations at which each form fails
+pub fails-rows : {T : Tables} → Formed T → {items : ℕ} → Items T items → {lent faults before columns : List ℕ}
+    → FailsFilled T items lent faults before columns → RowsAre 16 (queryCount T) (failsRow T 0) faults
+fails-rows {T} F {items} I {lent} L =
+    let f = faulty-rows T items lent (L .rows) in
+    record { room = f .room; each = λ q h. f .each q h ∙ faulty-fails F I q h }

@@ -29,7 +29,7 @@ use Rattle.report.specs.Formed.{Formed, QueryLower}
 use Rattle.report.specs.declared.Query.{Query}
 use Rattle.report.proofs.FormedFacts.{query-at, report-in}
 use Rattle.report.proofs.SetLaws.{joined-narrow, names-narrow, set-narrow}
-use Rattle.fault_rows.specs.FaultRows.{faultyRow, columnRow, Items}
+use Rattle.fault_rows.specs.FaultRows.{faultyRow, failsRow, columnRow, Items}
 
 -- ---- items at fault are below `items`
 
@@ -55,8 +55,8 @@ module _ {T : Tables} (F : Formed T) {items : ℕ} (I : Items T items) (c : ℕ)
   faults-rule q h (Query.Union b d) l = xor-lt items _ _ (operand (l .first .lower) h) (operand (l .second .lower) h)
   faults-rule q h (Query.Intersection b d) l = xor-lt items _ _ (operand (l .first .lower) h) (operand (l .second .lower) h)
 
-  -- what breaks a form's rule is below `items`
-  pub faults-below : (q : ℕ) → q < queryCount T → faults T c q < 2 ^ items
+  -- what breaks a form's rule is below `items`, in the first phase
+  pub faults-below : (q : ℕ) → q < queryCount T → faults T c 0 q < 2 ^ items
   unfolding faults
   faults-below q h = faults-rule q h (query (T .queries) q) (query-at F q h)
 
@@ -70,12 +70,12 @@ some-member k s h = go (someBelow (bit s) k) refl
         sym (ap not (ne-eqb s 0 (λ z. false≢true (sym (bit-none (m .0)) ∙ ap (λ (x : ℕ). bit x (m .0)) (sym z) ∙ m .2))))
     go false e = sym (ap not (eq-eqb s 0 (zero-bits k s h (some-none (bit s) k e))))
 
--- a form's row has the configurations at which the form fails
+-- a form's row has the configurations at which the form fails in the first phase
 pub faulty-fails : {T : Tables} → Formed T → {items : ℕ} → Items T items → (q : ℕ) → q < queryCount T
-    → faultyRow T items q ≡ rowOf 16 (λ c. fails T c q)
+    → faultyRow T items q ≡ failsRow T 0 q
 faulty-fails {T} F {items} I q h =
-    rowOf-same 16 (λ c. reached T c q && someBelow (bit (faults T c q)) items) (λ c. fails T c q)
-    (λ c l. ap (λ (t : Bool). reached T c q && t) (some-member items (faults T c q) (faults-below F I c q h)))
+    rowOf-same 16 (λ c. reached T c q && someBelow (bit (faults T c 0 q)) items) (λ c. fails T c 0 q)
+    (λ c l. ap (λ (t : Bool). reached T c q && t) (some-member items (faults T c 0 q) (faults-below F I c q h)))
 
 -- ---- the column rows
 

@@ -17,8 +17,9 @@ use Rattle.report.specs.Typing.{at, leads, present, names, projectSet, setOf, r
 use Rattle.report.specs.Formed.{Formed, QueryLower}
 use Rattle.report.specs.declared.Query.{Query}
 use Rattle.report.proofs.FormedFacts.{query-at, relation-expression}
+use Rattle.comparisons.specs.declared.Gathered.{Gathered}
 use Rattle.conditions.specs.Conditions.{Conditioned, reachRow}
-use Rattle.attribute_rows.specs.AttributeRows.{hasRow, listRow, namedRow, setRow}
+use Rattle.attribute_rows.specs.AttributeRows.{hasRow, listRow, gatheredRow, setRow}
 use Rattle.attribute_rows.proofs.AttributeLaws.{row-same, has-none, has-and}
 use Rattle.fault_rows.specs.FaultRows.{faultRow}
 use Rattle.fault_rows.specs.FaultRules.{unequalRow, absentRow, AbsentRead, faultStep, FaultRead}
@@ -65,21 +66,25 @@ row-if p false = rowOf-same 16 (λ c. false) (λ c. p c && false) (λ c h. sym (
 
 -- ---- one form, cut by what reaches it: a configuration that reaches a form is one of the features' configurations
 
--- a row of attribute a
-cut-row : (T : Tables) (q a : ℕ) (set : ℕ → ℕ) {row : List ℕ} → row ≡ hasRow T a set
-    → rowIntersect 16 row (reachRow T q) ≡ rowOf 16 (λ c. reached T c q && bit (set c) a)
+-- the row of a test
+pub cut-within : (T : Tables) (q : ℕ) (p : ℕ → Bool)
+    → rowIntersect 16 (rowOf 16 (within (T .features) p)) (reachRow T q) ≡ rowOf 16 (λ c. reached T c q && p c)
 unfolding reached permitted
-cut-row T q a set e =
-    ap (λ (r : List ℕ). rowIntersect 16 r (reachRow T q)) e
-    ∙ intersect-rowOf 16 (within (T .features) (λ c. bit (set c) a)) (λ c. reached T c q)
-    ∙ rowOf-same 16 (λ c. within (T .features) (λ d. bit (set d) a) c && reached T c q) (λ c. reached T c q && bit (set c) a)
-    (λ c h. go (ltb c (2 ^ (T .features))) (holds (T .expressions) c (T .model)) (leads T c q (report T)) (bit (set c) a))
+cut-within T q p =
+    intersect-rowOf 16 (within (T .features) p) (λ c. reached T c q)
+    ∙ rowOf-same 16 (λ c. within (T .features) p c && reached T c q) (λ c. reached T c q && p c)
+    (λ c h. go (ltb c (2 ^ (T .features))) (holds (T .expressions) c (T .model)) (leads T c q (report T)) (p c))
   where
     go : (l m d b : Bool) → ((l && b) && ((l && m) && d)) ≡ (((l && m) && d) && b)
     go true true true b = and-true b
     go true true false b = and-false b
     go true false d b = and-false b
     go false m d b = refl
+
+-- that of attribute a
+cut-row : (T : Tables) (q a : ℕ) (set : ℕ → ℕ) {row : List ℕ} → row ≡ hasRow T a set
+    → rowIntersect 16 row (reachRow T q) ≡ rowOf 16 (λ c. reached T c q && bit (set c) a)
+cut-row T q a set e = ap (λ (r : List ℕ). rowIntersect 16 r (reachRow T q)) e ∙ cut-within T q (λ c. bit (set c) a)
 
 -- that of an absent relation, where the expression e is the relation's
 cut-absent : (T : Tables) (q e : ℕ) (t : Bool)
@@ -105,7 +110,7 @@ cut-absent T q e t =
 
 -- the rows that the faults of form q are made of
 module _ {T : Tables} (F : Formed T) (a : ℕ) {conditions named sets : List ℕ} (C : Conditioned T conditions)
-    (compared : RowsAre 16 (comparisonCount T) (namedRow T a) named) {q : ℕ} (B : RowsAre 16 q (setRow T a) sets) where
+    (compared : RowsAre 16 (comparisonCount T) (gatheredRow T Gathered.Names a) named) {q : ℕ} (B : RowsAre 16 q (setRow T a) sets) where
   -- where item a is at fault in a form, cut by what reaches form q
   abbrev cutFaults : Query → List ℕ
   cutFaults x =

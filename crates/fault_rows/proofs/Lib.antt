@@ -1,3 +1,4 @@
+pub mod ClashLaws
 pub mod FaultLaws
 pub mod FormLaws
 pub mod TypeLaws

@@ -6,14 +6,12 @@ use mathlib.Core.List.{List}
 use native.Mathlib.Nat.{le-refl}
 use native.Mathlib.Numerals.{add-one}
 use native.Mathlib.Omega.{arith}
-use lib.Bits.{bitOr}
-use lib.ListN.{length, getD}
+use lib.ListN.{length}
 use Rattle.sets.specs.Search.{someBelow}
 use Rattle.sets.specs.Bits.{bit}
 use Rattle.sets.specs.Rows.{rowIn, rowJoin, rowIntersect, withRow, RowsAre}
 use Rattle.sets.proofs.SearchLaws.{someBelow-suc}
-use Rattle.sets.proofs.ListLaws.{table-length}
-use Rattle.sets.proofs.RowLaws.{rowOf-same, rowOf-row, join-rowOf, rows-are, withRow-other}
+use Rattle.sets.proofs.RowLaws.{rowOf-same, rowOf-row, join-rowOf, rows-are}
 use Rattle.report.specs.Tables.{Tables, query, queryCount, relationsEnd, projectLength, projectedBefore, projectStart}
 use Rattle.report.specs.Typing.{reached, faults}
 use Rattle.report.specs.declared.Query.{Query}
@@ -21,7 +19,7 @@ use Rattle.report.proofs.EntryParts.{project-part, project-in-part}
 use Rattle.attribute_rows.specs.AttributeRows.{listRow, setRow, ListRowReads, ListRowReadable}
 use Rattle.attribute_rows.specs.RowRules.{setStep, SetRead}
 use Rattle.attribute_rows.proofs.AttributeLaws.{set-wide, sets-are}
-use Rattle.attribute_rows.proofs.FillLaws.{RowsFilling, filling-none, filling-more, filling-all}
+use Rattle.attribute_rows.proofs.FillLaws.{RowsFilling, filling-none, filling-more, filling-rest, filling-all}
 use Rattle.attribute_rows.proofs.SetLaws.{set-read, set-is}
 use Rattle.fault_rows.specs.FaultRows.{faultRow, faultyRow}
 use Rattle.fault_rows.specs.FaultRules.{faultStep, FaultRead, FormRowsReads, FormRowsReadable, FormsFilled}
@@ -30,27 +28,24 @@ use Rattle.fault_rows.proofs.FormLaws.{fault-read, fault-is}
 -- one item more
 join-row : (T : Tables) (a q : ℕ) → rowJoin 16 (faultyRow T a q) (faultRow T a q) ≡ faultyRow T (a + 1) q
 join-row T a q =
-    join-rowOf 16 (λ c. reached T c q && someBelow (bit (faults T c q)) a) (λ c. reached T c q && bit (faults T c q) a)
-    ∙ rowOf-same 16 (λ c. (reached T c q && someBelow (bit (faults T c q)) a) || (reached T c q && bit (faults T c q) a))
-    (λ c. reached T c q && someBelow (bit (faults T c q)) (suc a))
-    (λ c h. go (reached T c q) (someBelow (bit (faults T c q)) a) (bit (faults T c q) a)
-    ∙ ap (λ (t : Bool). reached T c q && t) (sym (someBelow-suc (bit (faults T c q)) a)))
+    join-rowOf 16 (λ c. reached T c q && someBelow (bit (faults T c 0 q)) a) (λ c. reached T c q && bit (faults T c 0 q) a)
+    ∙ rowOf-same 16 (λ c. (reached T c q && someBelow (bit (faults T c 0 q)) a) || (reached T c q && bit (faults T c 0 q) a))
+    (λ c. reached T c q && someBelow (bit (faults T c 0 q)) (suc a))
+    (λ c h. go (reached T c q) (someBelow (bit (faults T c 0 q)) a) (bit (faults T c 0 q) a)
+    ∙ ap (λ (t : Bool). reached T c q && t) (sym (someBelow-suc (bit (faults T c 0 q)) a)))
     ∙ ap (λ (k : ℕ). faultyRow T k q) (sym (add-one a))
   where
     go : (r s b : Bool) → ((r && s) || (r && b)) ≡ (r && (s || b))
     go true s b = refl
     go false s b = refl
 
-join-wide : (s t : List ℕ) → length (rowJoin 16 s t) ≡ 16
-join-wide s t = table-length 16 (λ i. bitOr (getD s i 0) (getD t i 0))
-
 pub faulty-wide : (T : Tables) (items q : ℕ) → length (faultyRow T items q) ≡ 16
-faulty-wide T items q = rowOf-row 16 (λ c. reached T c q && someBelow (bit (faults T c q)) items) .size
+faulty-wide T items q = rowOf-row 16 (λ c. reached T c q && someBelow (bit (faults T c 0 q)) items) .size
 
 -- ---- the loop
 
 -- where `lent` starts with the fault rows of the items below a: the rows of the forms below q stand in `sets`, and in `faults` theirs have item a
--- besides, while the others are those of `lent`; the list of the next project starts at `start`
+-- besides; the list of the next project starts at `start`
 pub record FormsTyping (conditions projectEntries relations queries reach named relationRows : List ℕ) (a : ℕ) (before sets lent faults : List ℕ)
     (q start : ℕ)
     : Type 0 where
@@ -58,12 +53,11 @@ pub record FormsTyping (conditions projectEntries relations queries reach named 
       (length queries / 4) before sets q
   pub joined : RowsFilling (λ T. FormRowsReads T conditions projectEntries relations queries reach named relationRows a lent)
       (λ T x k. faultyRow T (x + 1) k) a (length queries / 4) lent faults q
-  pub rest : (k : ℕ) → q ≤ k → rowIn 16 faults k ≡ rowIn 16 lent k
   pub starts : start ≡ projectedBefore queries q
 
 pub typing-none : {conditions projectEntries relations queries reach named relationRows : List ℕ} {a : ℕ} {before lent : List ℕ}
     → FormsTyping conditions projectEntries relations queries reach named relationRows a before before lent lent 0 0
-typing-none = record { shaped = filling-none; joined = filling-none; rest = λ k h. refl; starts = refl }
+typing-none = record { shaped = filling-none; joined = filling-none; starts = refl }
 
 module _ {conditions projectEntries relations queries reach named relationRows : List ℕ} {a : ℕ} {before sets lent faults : List ℕ} {q start : ℕ}
     (S : FormsTyping conditions projectEntries relations queries reach named relationRows a before sets lent faults q start) where
@@ -132,30 +126,23 @@ module _ {conditions projectEntries relations queries reach named relationRows :
                 → here ≡ rowIntersect 16 (faultStep conditions relations named sets listed among a x) among
                 → rowJoin 16 (rowIn 16 faults q) here ≡ faultyRow T (a + 1) q
             own-fault load step =
-                ap₂ (rowJoin 16) (S .rest q (le-refl q) ∙ R .faulty .each q (in-table R))
+                ap₂ (rowJoin 16) (filling-rest (λ T x k. faulty-wide T (x + 1) k) (S .joined) T R q (le-refl q) ∙ R .faulty .each q (in-table R))
                 (fault-is (R .formed) a (R .filled) (R .compared) (lower R) (in-table R) (form R) (R .relationsAre) own-list
                 (load ∙ R .reaching .each q (in-table R)) step)
                 ∙ join-row T a q
 
-          pub typing-more : FormRowsReadable conditions projectEntries relations queries reach named relationRows a before lent
-              → {among here row newFaults newSets : List ℕ} → among ≡ rowIn 16 reach q
+          pub typing-more : {among here row newFaults newSets : List ℕ} → among ≡ rowIn 16 reach q
               → here ≡ rowIntersect 16 (faultStep conditions relations named sets listed among a x) among
               → length newFaults ≡ length faults → newFaults ≡ withRow 16 faults q (rowJoin 16 (rowIn 16 faults q) here)
               → row ≡ setStep conditions relationRows sets listed x → length newSets ≡ length sets → newSets ≡ withRow 16 sets q row
               → FormsTyping conditions projectEntries relations queries reach named relationRows a before newSets lent newFaults (q + 1) (start + n)
-          typing-more A {here = here} {newFaults = newFaults} load fault same joins step alike stores = record {
+          typing-more load fault same joins step alike stores = record {
             shaped = filling-more set-wide (S .shaped) h (λ T R B. own-set R step) alike stores;
             joined = filling-more (λ T x k. faulty-wide T (x + 1) k) (S .joined) h (λ T R B. own-fault R load fault) same joins;
-            rest = λ k l. other k (omega arith) ∙ S .rest k (omega arith);
             starts =
                 let b = S .starts in let m = ap (projectedBefore queries) (add-one q) in let y = p ∙ ap projectLength e in
                 omega arith;
           }
-            where
-              other : (k : ℕ) → (k ≡ q → ⊥) → rowIn 16 newFaults k ≡ rowIn 16 faults k
-              other k i =
-                  ap (λ (l : List ℕ). rowIn 16 l k) joins
-                  ∙ withRow-other 16 faults q (rowJoin 16 (rowIn 16 faults q) here) (join-wide (rowIn 16 faults q) here) (typing-faults A) k i
 
   pub typing-all : length queries / 4 ≤ q → (T : Tables)
       → FormRowsReads T conditions projectEntries relations queries reach named relationRows a lent → FormsFilled T a sets lent faults

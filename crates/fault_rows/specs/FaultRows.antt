@@ -1,46 +1,63 @@
--- Fault rows: the configurations at which an item is at fault in a query form, and at which the form fails; and the column rows.
+-- Fault rows: the configurations at which an item is at fault in a query form in the first phase, and at which the form fails in either; and the
+-- column rows.
 use Prim.Native.Nat.{ℕ, _*_, _≤_}
 use mathlib.Core.Path.{_≡_}
-use mathlib.Core.Bool.{true, _&&_}
+use mathlib.Core.Bool.{Bool, true, cond, _&&_}
 use mathlib.Core.List.{List}
 use lib.ListN.{length, replicate}
 use Rattle.sets.specs.Search.{someBelow}
 use Rattle.sets.specs.Lists.{concat}
 use Rattle.sets.specs.Bits.{bit}
-use Rattle.sets.specs.Rows.{rowOf, within}
-use Rattle.report.specs.Tables.{Tables, relationCount, queryCount}
-use Rattle.report.specs.Expressions.{permitted}
-use Rattle.report.specs.Typing.{reached, faults}
+use Rattle.sets.specs.Rows.{rowOf, within, RowsAre}
+use Rattle.report.specs.Tables.{Tables, relationCount, comparisonCount, queryCount}
+use Rattle.report.specs.Expressions.{configurations, permitted}
+use Rattle.report.specs.Typing.{reached, faults, fails}
 use Rattle.report.specs.ColumnRows.{hasColumn}
 use Rattle.report.specs.Configuring.{written}
+use Rattle.report.specs.Formed.{Formed}
+use Rattle.comparisons.specs.declared.Gathered.{Gathered}
 use Rattle.conditions.specs.Conditions.{Prepared, ReachFilled}
+use Rattle.attribute_rows.specs.AttributeRows.{gatheredRow}
 
 module _ (T : Tables) where
   -- the configurations that reach form q, and at which item a is at fault in it
   abbrev pub faultRow : ℕ → ℕ → List ℕ
-  faultRow a q = rowOf 16 (λ c. reached T c q && bit (faults T c q) a)
+  faultRow a q = rowOf 16 (λ c. reached T c q && bit (faults T c 0 q) a)
 
   -- those at which an item below `items` is
   abbrev pub faultyRow : ℕ → ℕ → List ℕ
-  faultyRow items q = rowOf 16 (λ c. reached T c q && someBelow (bit (faults T c q)) items)
+  faultyRow items q = rowOf 16 (λ c. reached T c q && someBelow (bit (faults T c 0 q)) items)
+
+  -- those at which form q fails in a phase
+  abbrev pub failsRow : ℕ → ℕ → List ℕ
+  failsRow phase q = rowOf 16 (λ c. fails T c phase q)
+
+  -- form q fails at c in its first phase that fails at any configuration
+  abbrev pub failsAt : ℕ → ℕ → Bool
+  failsAt q c = cond (someBelow (λ d. fails T d 0 q) (configurations T)) (fails T c 0 q) (fails T c 1 q)
+
+  abbrev pub failingRow : ℕ → List ℕ
+  failingRow q = rowOf 16 (failsAt q)
 
   -- the column row of attribute a
   abbrev pub columnRow : ℕ → List ℕ
   columnRow a = rowOf 16 (hasColumn T a)
 
--- what fault rows are worked out from: the prepared tables, all configurations, the permitted ones and those that reach each form
-pub record FailReads (T : Tables) (conditions full permits reach relationEntries projectEntries relations comparisons queries : List ℕ)
+-- what the fault rows of the first phase are worked out from: the prepared tables, the kind table, all configurations, the permitted ones and those
+-- that reach each form
+pub record FailReads (T : Tables) (conditions full permits reach relationEntries projectEntries relations comparisons queries kinds : List ℕ)
     : Type 0 where
   pub prepared : Prepared T conditions relationEntries projectEntries relations comparisons queries
+  pub kindsAre : kinds ≡ T .kinds
   pub whole : full ≡ rowOf 16 (within (T .features) (λ c. true))
   pub permitting : permits ≡ rowOf 16 (permitted T)
   pub reaching : ReachFilled T reach
 
 -- there are such tables, `faults` has only zeros and room for a row a form, and `columns` room for a row an item
-pub record FailReadable (conditions full permits reach relationEntries projectEntries relations comparisons queries : List ℕ) (items : ℕ)
+pub record FailReadable (conditions full permits reach relationEntries projectEntries relations comparisons queries kinds : List ℕ) (items : ℕ)
     (faults columns : List ℕ) : Type 0 where
   pub tables : Tables
-  pub reads : FailReads tables conditions full permits reach relationEntries projectEntries relations comparisons queries
+  pub reads : FailReads tables conditions full permits reach relationEntries projectEntries relations comparisons queries kinds
   pub words : ℕ
   pub clear : faults ≡ replicate words 0
   pub room : queryCount tables * 16 ≤ words
@@ -50,6 +67,20 @@ pub record FailReadable (conditions full permits reach relationEntries projectEn
 pub record FailsFilled (T : Tables) (items : ℕ) (lentFaults faults lentColumns columns : List ℕ) : Type 0 where
   pub rows : faults ≡ written (concat (queryCount T) (faultyRow T items)) lentFaults
   pub shown : columns ≡ written (concat items (columnRow T)) lentColumns
+
+-- what the second phase is worked out from: the query forms, the configurations that reach each, those at which each comparison clashes, and those
+-- at which each form fails in the first phase
+pub record ClashReads (T : Tables) (queries reach clashes faults : List ℕ) : Type 0 where
+  pub formed : Formed T
+  pub queriesAre : queries ≡ T .queries
+  pub reaching : ReachFilled T reach
+  pub clashing : RowsAre 16 (comparisonCount T) (gatheredRow T Gathered.Clashes 0) clashes
+  pub failing : RowsAre 16 (queryCount T) (failsRow T 0) faults
+
+-- there are such tables
+pub record ClashReadable (queries reach clashes faults : List ℕ) : Type 0 where
+  pub tables : Tables
+  pub reads : ClashReads tables queries reach clashes faults
 
 -- items are attributes and relations
 pub record Items (T : Tables) (items : ℕ) : Type 0 where

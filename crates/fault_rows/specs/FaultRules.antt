@@ -6,14 +6,15 @@ use mathlib.Core.List.{List}
 use lib.ListN.{length}
 use lib.Dec.{eqb}
 use Rattle.sets.specs.Lists.{concat}
-use Rattle.sets.specs.Rows.{rowOf, rowIn, rowJoin, rowIntersect, rowMinus, RowsAre}
+use Rattle.sets.specs.Rows.{rowOf, rowIn, rowJoin, rowIntersect, rowMinus, rowIsEmpty, RowsAre}
 use Rattle.report.specs.Tables.{Tables, relationExpression, relationCount, comparisonCount, queryCount, entriesOfProjects}
 use Rattle.report.specs.Typing.{reached}
 use Rattle.report.specs.Configuring.{written}
 use Rattle.report.specs.Formed.{Formed, QueryLower}
 use Rattle.report.specs.declared.Query.{Query}
+use Rattle.comparisons.specs.declared.Gathered.{Gathered}
 use Rattle.conditions.specs.Conditions.{Conditioned, ReachFilled}
-use Rattle.attribute_rows.specs.AttributeRows.{relationRow, namedRow, setRow}
+use Rattle.attribute_rows.specs.AttributeRows.{relationRow, gatheredRow, setRow}
 use Rattle.fault_rows.specs.FaultRows.{faultyRow}
 
 -- what one of two rows has and the other lacks
@@ -60,7 +61,7 @@ pub record FormRowsReads (T : Tables) (conditions projectEntries relations queri
   pub relationsAre : relations ≡ T .relations
   pub queriesAre : queries ≡ T .queries
   pub reaching : ReachFilled T reach
-  pub compared : RowsAre 16 (comparisonCount T) (namedRow T a) named
+  pub compared : RowsAre 16 (comparisonCount T) (gatheredRow T Gathered.Names a) named
   pub related : RowsAre 16 (relationCount T) (relationRow T a) relationRows
   pub faulty : RowsAre 16 (queryCount T) (faultyRow T a) faults
 
@@ -74,6 +75,29 @@ pub record FormRowsReadable (conditions projectEntries relations queries reach n
 pub record FormsFilled (T : Tables) (a : ℕ) (sets lent faults : List ℕ) : Type 0 where
   pub shaped : RowsAre 16 (queryCount T) (setRow T a) sets
   pub joined : faults ≡ written (concat (queryCount T) (faultyRow T (a + 1))) lent
+
+-- where a form clashes, of the configurations in `reached`
+abbrev pub clashStep : List ℕ → List ℕ → Query → List ℕ
+clashStep clashes reached Query.Malformed = rowOf 16 (λ c. false)
+clashStep clashes reached Query.Empty = rowOf 16 (λ c. false)
+clashStep clashes reached (Query.Relation r) = rowOf 16 (λ c. false)
+clashStep clashes reached (Query.Select f b) = rowIntersect 16 (rowIn 16 clashes f) reached
+clashStep clashes reached (Query.Project n b) = rowOf 16 (λ c. false)
+clashStep clashes reached (Query.Choice e b d) = rowOf 16 (λ c. false)
+clashStep clashes reached (Query.Product b d) = rowOf 16 (λ c. false)
+clashStep clashes reached (Query.Union b d) = rowOf 16 (λ c. false)
+clashStep clashes reached (Query.Intersection b d) = rowOf 16 (λ c. false)
+
+-- a query stands as a form of some tables, and its comparison has a row
+pub record ClashRead (clashes : List ℕ) (x : Query) : Type 0 where
+  pub tables : Tables
+  pub form : ℕ
+  pub lower : QueryLower tables form x
+  pub compared : comparisonCount tables * 16 ≤ length clashes
+
+-- the first of two rows, or the second if that is empty
+abbrev pub firstFound : List ℕ → List ℕ → List ℕ
+firstFound first second = cond (rowIsEmpty 16 first) second first
 
 -- the column row of an attribute, of whose rows `sets` has those of the forms: that of the last form, the report, where permitted
 abbrev pub storedColumn : List ℕ → List ℕ → List ℕ → List ℕ

@@ -1,9 +1,10 @@
-// Fault rows: for each query form the configurations at which it fails; and the column rows. Both go attribute by attribute, each from the
-// rows of that attribute.
-use attribute_rows::fill_named_rows;
+// Fault rows: for each query form the configurations at which it fails, in two phases; and the column rows. The first phase and the column rows
+// go attribute by attribute, each from the rows of that attribute; the second phase adds the clashes of kinds.
+use attribute_rows::fill_gathered_rows;
 use attribute_rows::fill_relation_rows;
 use attribute_rows::list_row;
 use attribute_rows::set_row;
+use comparisons::Gathered;
 use decoders::project_length;
 use decoders::query_at;
 use decoders::relation_expression;
@@ -13,11 +14,13 @@ use sets::Row;
 ghost use mathlib.Core.Path.{_≡_};
 ghost use Prim.Native.Nat.{_+_, _*_, _≤_};
 ghost use lib.ListN.{length};
+ghost use Rattle.sets.specs.Lists.{concat};
 ghost use Rattle.sets.specs.Rows.{rowIn, rowJoin, rowIntersect, rowMinus, withRow};
-ghost use Rattle.report.specs.Tables.{Tables};
-ghost use Rattle.fault_rows.specs.FaultRows.{FailReads, FailReadable, FailsFilled};
+ghost use Rattle.report.specs.Tables.{Tables, queryCount};
+ghost use Rattle.report.specs.Configuring.{written};
+ghost use Rattle.fault_rows.specs.FaultRows.{failingRow, FailReads, FailReadable, FailsFilled, ClashReads, ClashReadable};
 ghost use Rattle.fault_rows.specs.FaultRules.{unequalRow, absentRow, AbsentRead, faultStep, FaultRead, FormRowsReads, FormRowsReadable, FormsFilled};
-ghost use Rattle.fault_rows.specs.FaultRules.{storedColumn, ColumnRead};
+ghost use Rattle.fault_rows.specs.FaultRules.{clashStep, ClashRead, firstFound, storedColumn, ColumnRead};
 
 // The configurations at which row b or row d has it, and not both.
 fn unequal_row(rows: &[u64], b: usize, d: usize) -> Row
@@ -167,14 +170,15 @@ fn store_column(queries: &[u16], permitted: Row, sets: &[u64], a: usize, columns
     column.store(&mut *columns, a);
 }
 
-// Fills `faults` with the rows of the configurations at which each form fails, and `columns` with the column rows: attribute by attribute, of
-// the items below `items`.
+// The first phase: fills `faults` with the rows of the configurations at which each form fails in it, and `columns` with the column rows: attribute
+// by attribute, of the items below `items`.
 pub fn fill_faults(
     relation_entries: &[u16],
     project_entries: &[u16],
     relations: &[u16],
     comparisons: &[u16],
     queries: &[u16],
+    kinds: &[u16],
     conditions: &[u64],
     full: Row,
     permitted: Row,
@@ -184,11 +188,11 @@ pub fn fill_faults(
     columns: &mut [u64],
 )
     requires { ⌜ FailReadable (now conditions) (full .words) (permitted .words) (now reach) (now «relation_entries») (now «project_entries»)
-        (now relations) (now comparisons) (now queries) items (now faults) (now columns) ⌝ }
+        (now relations) (now comparisons) (now queries) (now kinds) items (now faults) (now columns) ⌝ }
     ensures { λ _.
         ⌜ ((T : Tables)
         → FailReads T (now (conditions .entry)) (full .words) (permitted .words) (now (reach .entry)) (now («relation_entries» .entry))
-        (now («project_entries» .entry)) (now (relations .entry)) (now (comparisons .entry)) (now (queries .entry))
+        (now («project_entries» .entry)) (now (relations .entry)) (now (comparisons .entry)) (now (queries .entry)) (now (kinds .entry))
         → FailsFilled T items (now (faults .entry)) (now (faults .exit)) (now (columns .entry)) (now (columns .exit))) ⌝ }
 {
     let mut named = [0; AttributeSet::MOST_COMPARISONS * Row::WORDS];
@@ -196,7 +200,15 @@ pub fn fill_faults(
     let mut sets = [0; AttributeSet::MOST_QUERIES * Row::WORDS];
     let mut a = 0;
     while a < items {
-        fill_named_rows(comparisons, conditions, full, a, &mut named);
+        fill_gathered_rows(
+            comparisons,
+            kinds,
+            conditions,
+            full,
+            Gathered::Names,
+            a,
+            &mut named,
+        );
         fill_relation_rows(
             relation_entries,
             relations,
@@ -218,5 +230,52 @@ pub fn fill_faults(
         );
         store_column(queries, permitted, &sets, a, &mut *columns);
         a += 1;
+    }
+}
+
+// The configurations of `reached` at which a query form clashes; `clashes` has those of the comparisons.
+fn clash_row(x: Query, clashes: &[u64], reached: Row) -> Row
+    requires { ⌜ ClashRead (now clashes) x ⌝ }
+    ensures { λ r. ⌜ r .words ≡ clashStep (now (clashes .entry)) (reached .words) x ⌝ }
+{
+    match x {
+        Query::Malformed => Row::empty(),
+        Query::Empty => Row::empty(),
+        Query::Relation(_) => Row::empty(),
+        Query::Select(f, _) => Row::load(clashes, f).intersect(reached),
+        Query::Project(_, _) => Row::empty(),
+        Query::Choice(_, _, _) => Row::empty(),
+        Query::Product(_, _) => Row::empty(),
+        Query::Union(_, _) => Row::empty(),
+        Query::Intersection(_, _) => Row::empty(),
+    }
+}
+
+// The first row, or the second if that is empty.
+fn first_found(first: Row, second: Row) -> Row
+    ensures { λ r. ⌜ r .words ≡ firstFound (first .words) (second .words) ⌝ }
+{
+    if first.is_empty() {
+        return second;
+    }
+    first
+}
+
+// The second phase: in `faults` the row of each form that fails nowhere in the first becomes that of the configurations that reach the form and at
+// which it clashes. All other rows stay.
+pub fn add_clashes(queries: &[u16], reach: &[u64], clashes: &[u64], faults: &mut [u64])
+    requires { ⌜ ClashReadable (now queries) (now reach) (now clashes) (now faults) ⌝ }
+    ensures { λ _.
+        ⌜ ((T : Tables) → ClashReads T (now (queries .entry)) (now (reach .entry)) (now (clashes .entry)) (now (faults .entry))
+        → now (faults .exit) ≡ written (concat (queryCount T) (failingRow T)) (now (faults .entry))) ⌝ }
+{
+    let count = queries.len() / 4;
+    let mut q = 0;
+    while q < count {
+        let x = query_at(queries, q);
+        let second = clash_row(x, clashes, Row::load(reach, q));
+        let row = first_found(Row::load(&*faults, q), second);
+        row.store(&mut *faults, q);
+        q += 1;
     }
 }

@@ -1,5 +1,5 @@
 pub mod ReadLaws
 pub mod ListLaws
-pub mod NamedLaws
+pub mod GatheredLaws
 pub mod SetLaws
 pub mod FaultLaws

@@ -6,12 +6,16 @@ use mathlib.Core.Bool.{cond}
 use mathlib.Core.List.{List}
 use lib.ListN.{length}
 use Rattle.sets.specs.Lists.{table, NumbersAre}
-use Rattle.report.specs.Tables.{Tables, comparison, relationCount, comparisonCount, queryCount, relationStart, projectedBefore, entriesOfProjects}
-use Rattle.report.specs.Typing.{present, relationSet, names, setOf}
+use Rattle.report.specs.Tables.{Tables, comparison, query, relationCount, comparisonCount, queryCount}
+use Rattle.report.specs.Tables.{relationStart, projectedBefore, entriesOfProjects}
+use Rattle.report.specs.Operands.{comparisonOperands}
+use Rattle.report.specs.Typing.{present, relationSet, names, clashes, setOf}
 use Rattle.report.specs.Configuring.{written}
-use Rattle.report.specs.declared.Comparison.{Comparison}
+use Rattle.report.specs.Formed.{Formed}
+use Rattle.report.specs.declared.Operands.{Operands}
 use Rattle.report.specs.declared.Query.{Query}
 use Rattle.at_configuration.specs.AtConfiguration.{AtReads, RelationReads, FormAt}
+use Rattle.faults_at.specs.FaultsAt.{GatheredReads}
 
 -- the set of relation r: none where it is absent
 abbrev pub presentSet : Tables → ℕ → ℕ → ℕ
@@ -34,17 +38,24 @@ pub record RelationSetReadable (conditions entries relations : List ℕ) (c r st
 
 -- ---- comparisons
 
--- x is comparison f, and `named` has what the lower ones name
-pub record ComparisonAt (T : Tables) (f : ℕ) (conditions : List ℕ) (c : ℕ) (named : List ℕ) (x : Comparison) : Type 0 where
+-- comparison f refers to these, and `sets` has the sets of the lower ones, which `set` gives
+pub record ComparisonAt (T : Tables) (f : ℕ) (set : ℕ → ℕ) (conditions : List ℕ) (c : ℕ) (sets : List ℕ) (to : Operands) : Type 0 where
   pub reads : AtReads T conditions c
   pub inside : f < comparisonCount T
-  pub form : x ≡ comparison (T .comparisons) f
-  pub below : NumbersAre f (names T c) named
+  pub refers : to ≡ comparisonOperands (comparison (T .comparisons) f)
+  pub below : NumbersAre f set sets
 
-pub record SomeComparison (conditions : List ℕ) (c : ℕ) (named : List ℕ) (x : Comparison) : Type 0 where
+pub record SomeComparison (conditions : List ℕ) (c : ℕ) (sets : List ℕ) (to : Operands) : Type 0 where
   pub tables : Tables
   pub number : ℕ
-  pub at : ComparisonAt tables number conditions c named x
+  pub set : ℕ → ℕ
+  pub at : ComparisonAt tables number set conditions c sets to
+
+-- room for the sets of all
+pub record GatheredReadable (conditions comparisons kinds : List ℕ) (c : ℕ) (lent : List ℕ) : Type 0 where
+  pub tables : Tables
+  pub reads : GatheredReads tables conditions comparisons kinds c
+  pub room : length comparisons / 5 ≤ length lent
 
 -- ---- query forms
 
@@ -88,3 +99,16 @@ pub record FormFaultsReadable (conditions entries relations : List ℕ) (c : ℕ
   pub tables : Tables
   pub number : ℕ
   pub reads : FormFaultsReads tables number conditions entries relations c named sets start x
+
+-- x is query form q, and `clashing` has the left attributes at fault in the comparisons
+pub record FormClashesReads (T : Tables) (q c : ℕ) (clashing : List ℕ) (x : Query) : Type 0 where
+  pub formed : Formed T
+  pub inside : q < queryCount T
+  pub form : x ≡ query (T .queries) q
+  pub compared : NumbersAre (comparisonCount T) (clashes T c) clashing
+
+pub record FormClashesReadable (clashing : List ℕ) (x : Query) : Type 0 where
+  pub tables : Tables
+  pub number : ℕ
+  pub configuration : ℕ
+  pub reads : FormClashesReads tables number configuration clashing x

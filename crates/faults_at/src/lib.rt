@@ -1,13 +1,16 @@
-// What is worked out at one configuration c: the attributes that comparisons name, the sets of relations and query forms, the items at fault in
-// one form. Sets lie one after another, one word a form. Forms go bottom up, each from the sets of lower ones.
+// What is worked out at one configuration c: what is gathered from comparisons, the sets of relations and query forms, the items at fault in one
+// form in each phase. Sets lie one after another, one word a form. Forms go bottom up, each from the sets of lower ones.
 use at_configuration::is_present;
 use at_configuration::joined_at;
 use at_configuration::taken_at;
+use comparisons::Gathered;
+use comparisons::own_set;
 use decoders::comparison_at;
+use decoders::comparison_operands;
 use decoders::project_length;
 use decoders::query_at;
 use decoders::relation_length;
-use report::Comparison;
+use report::Operands;
 use report::Query;
 use sets::AttributeSet;
 ghost use mathlib.Core.Path.{_≡_};
@@ -16,14 +19,16 @@ ghost use Prim.Native.Nat.{ℕ, _+_, _^_, _<_};
 ghost use lib.Bits.{bitAnd, bitOr, bitXor};
 ghost use lib.ListN.{length, getD};
 ghost use Rattle.sets.specs.Lists.{table};
-ghost use Rattle.report.specs.Tables.{Tables, relationCount, comparisonCount};
-ghost use Rattle.report.specs.Typing.{present, namesOf, names, setRule, setOf, faultsOf, faults};
+ghost use Rattle.report.specs.Tables.{Tables, kindOf, relationCount, comparisonCount};
+ghost use Rattle.report.specs.Typing.{present, gatheredOf, gathered, setRule, setOf, faultsOf, clashesIn, faults};
 ghost use Rattle.report.specs.Configuring.{written};
+ghost use Rattle.comparisons.specs.Gathering.{ownOf};
 ghost use Rattle.at_configuration.specs.AtConfiguration.{PresentReads, PresentReadable, RelationReads};
-ghost use Rattle.at_configuration.specs.AtConfiguration.{ComparisonReads, ComparisonNumberable};
-ghost use Rattle.faults_at.specs.FaultsAt.{FaultsReads, FaultsReadable};
-ghost use Rattle.faults_at.specs.SetsAt.{presentSet, RelationSetsReadable, RelationSetReadable, ComparisonAt, SomeComparison};
+ghost use Rattle.faults_at.specs.FaultsAt.{GatheredReads, FaultsReads, FaultsReadable, ClashesReads, ClashesReadable};
+ghost use Rattle.faults_at.specs.SetsAt.{presentSet, RelationSetsReadable, RelationSetReadable};
+ghost use Rattle.faults_at.specs.SetsAt.{ComparisonAt, SomeComparison, GatheredReadable};
 ghost use Rattle.faults_at.specs.SetsAt.{SetsReads, SetsReadable, SetsFilled, QueryAt, SomeQuery, FormFaultsReads, FormFaultsReadable};
+ghost use Rattle.faults_at.specs.SetsAt.{FormClashesReads, FormClashesReadable};
 
 // The set of relation r, whose list starts at `start`: none where it is absent.
 fn relation_set(
@@ -102,39 +107,48 @@ fn unequal_in(sets: &[u64], a: usize, b: usize) -> AttributeSet
     set_in(sets, a).unequal(set_in(sets, b))
 }
 
-// The attributes that a comparison names at c, from those that lower ones name.
-fn named_at(x: Comparison, conditions: &[u64], c: usize, named: &[u64]) -> AttributeSet
-    requires { ⌜ SomeComparison (now conditions) c (now named) x ⌝ }
+// What is gathered at c from a comparison that refers to these: `sets` has what is gathered from lower ones. One that refers to none gives its own.
+fn gathered_at(
+    to: Operands,
+    conditions: &[u64],
+    c: usize,
+    sets: &[u64],
+    own: AttributeSet,
+) -> AttributeSet
+    requires { ⌜ SomeComparison (now conditions) c (now sets) to ⌝ }
     ensures { λ s.
-        ⌜ ((T : Tables) (f : ℕ) → ComparisonAt T f (now (conditions .entry)) c (now (named .entry)) x
-        → s .bits ≡ namesOf T c (names T c) x) ⌝ }
+        ⌜ ((T : Tables) (f : ℕ) (set : ℕ → ℕ) → ComparisonAt T f set (now (conditions .entry)) c (now (sets .entry)) to
+        → s .bits ≡ gatheredOf T c set (own .bits) to) ⌝ }
 {
-    match x {
-        Comparison::Malformed => AttributeSet::empty(),
-        Comparison::Never => AttributeSet::empty(),
-        Comparison::Always => AttributeSet::empty(),
-        Comparison::Constant(_, a, _) => AttributeSet::single(a),
-        Comparison::Attribute(_, a, b) => AttributeSet::single(a).with(b),
-        Comparison::Not(a) => set_in(named, a),
-        Comparison::And(a, b) => union_in(named, a, b),
-        Comparison::Or(a, b) => union_in(named, a, b),
-        Comparison::Choice(e, a, b) => set_in(named, taken_at(conditions, c, e, a, b)),
+    match to {
+        Operands::Nothing => own,
+        Operands::One(a) => set_in(sets, a),
+        Operands::Both(a, b) => union_in(sets, a, b),
+        Operands::Choice(e, a, b) => set_in(sets, taken_at(conditions, c, e, a, b)),
     }
 }
 
-// Fills `named` with the attributes that each comparison names at c.
-fn fill_named(comparisons: &[u16], conditions: &[u64], c: usize, named: &mut [u64])
-    requires { ⌜ ComparisonNumberable (now conditions) (now comparisons) c (now named) ⌝ }
+// Fills `sets` with what is gathered from each comparison at c.
+fn fill_gathered(
+    comparisons: &[u16],
+    kinds: &[u16],
+    conditions: &[u64],
+    c: usize,
+    what: Gathered,
+    sets: &mut [u64],
+)
+    requires { ⌜ GatheredReadable (now conditions) (now comparisons) (now kinds) c (now sets) ⌝ }
     ensures { λ _.
-        ⌜ ((T : Tables) → ComparisonReads T (now (conditions .entry)) (now (comparisons .entry)) c
-        → now (named .exit) ≡ written (table (comparisonCount T) (names T c)) (now (named .entry))) ⌝ }
+        ⌜ ((T : Tables) → GatheredReads T (now (conditions .entry)) (now (comparisons .entry)) (now (kinds .entry)) c
+        → now (sets .exit) ≡ written (table (comparisonCount T) (gathered T c (ownOf (kindOf T) what))) (now (sets .entry))) ⌝ }
 {
     let count = comparisons.len() / 5;
     let mut f = 0;
     while f < count {
         let x = comparison_at(comparisons, f);
-        let s = named_at(x, conditions, c, &*named);
-        named[f] = s.bits;
+        let own = own_set(what, x, kinds);
+        let s = gathered_at(comparison_operands(x), conditions, c, &*sets, own);
+        sets[f] = s.bits;
         f += 1;
     }
 }
@@ -244,29 +258,37 @@ fn faults_of(
     }
 }
 
-// The items at fault in form q at configuration c, of tables whose expression rows `conditions` starts with.
+// The items at fault in form q at configuration c in phase 0, of tables whose expression rows `conditions` starts with.
 pub fn faults_at(
     relation_entries: &[u16],
     project_entries: &[u16],
     relations: &[u16],
     comparisons: &[u16],
     queries: &[u16],
+    kinds: &[u16],
     conditions: &[u64],
     q: usize,
     c: usize,
 ) -> AttributeSet
     requires { ⌜ FaultsReadable (now conditions) (now «relation_entries») (now «project_entries») (now relations) (now comparisons) (now queries)
-        q c ⌝ }
+        (now kinds) q c ⌝ }
     ensures { λ s.
         ⌜ ((T : Tables)
         → FaultsReads T (now (conditions .entry)) (now («relation_entries» .entry)) (now («project_entries» .entry)) (now (relations .entry))
-        (now (comparisons .entry)) (now (queries .entry)) q c
-        → s .bits ≡ faults T c q) ⌝ }
+        (now (comparisons .entry)) (now (queries .entry)) (now (kinds .entry)) q c
+        → s .bits ≡ faults T c 0 q) ⌝ }
 {
     let mut named = [0; AttributeSet::MOST_COMPARISONS];
     let mut relation_sets = [0; AttributeSet::MOST_RELATIONS];
     let mut sets = [0; AttributeSet::MOST_QUERIES];
-    fill_named(comparisons, conditions, c, &mut named);
+    fill_gathered(
+        comparisons,
+        kinds,
+        conditions,
+        c,
+        Gathered::Names,
+        &mut named,
+    );
     fill_relation_sets(
         relation_entries,
         relations,
@@ -294,4 +316,41 @@ pub fn faults_at(
         &sets,
         start,
     )
+}
+
+// The left attributes at fault in a query form at c; `clashes` has those of the comparisons. Only a select compares.
+fn clashes_in(x: Query, clashes: &[u64]) -> AttributeSet
+    requires { ⌜ FormClashesReadable (now clashes) x ⌝ }
+    ensures { λ s. ⌜ ((T : Tables) (q c : ℕ) → FormClashesReads T q c (now (clashes .entry)) x → s .bits ≡ clashesIn T c x) ⌝ }
+{
+    if let Query::Select(f, _) = x {
+        return set_in(clashes, f);
+    }
+    AttributeSet::empty()
+}
+
+// The items at fault in form q at configuration c in phase 1: the left attributes that are compared with another kind.
+pub fn clashes_at(
+    comparisons: &[u16],
+    queries: &[u16],
+    kinds: &[u16],
+    conditions: &[u64],
+    q: usize,
+    c: usize,
+) -> AttributeSet
+    requires { ⌜ ClashesReadable (now conditions) (now comparisons) (now queries) (now kinds) q c ⌝ }
+    ensures { λ s.
+        ⌜ ((T : Tables) → ClashesReads T (now (conditions .entry)) (now (comparisons .entry)) (now (queries .entry)) (now (kinds .entry)) q c
+        → s .bits ≡ faults T c 1 q) ⌝ }
+{
+    let mut clashes = [0; AttributeSet::MOST_COMPARISONS];
+    fill_gathered(
+        comparisons,
+        kinds,
+        conditions,
+        c,
+        Gathered::Clashes,
+        &mut clashes,
+    );
+    clashes_in(query_at(queries, q), &clashes)
 }

@@ -4,7 +4,7 @@ use Prim.Native.Nat.{ℕ, _-_, _^_}
 use mathlib.Core.List.{List, [], _∷_}
 use Rattle.report.specs.Tables.{Tables, tablesOf}
 use Rattle.report.specs.Verdicts.{refusal}
-use Rattle.report.specs.Examples.{harbour, h1Expressions, h1Entries, h1Queries, h1}
+use Rattle.report.specs.Examples.{moments, harbour, h1Expressions, h1Entries, h1Queries, h1}
 use Rattle.finding.specs.declared.FindAnswer.{FindAnswer}
 
 -- tables, the wanted set, and the answer
@@ -18,15 +18,15 @@ example T wanted answer = record { of = T; wanted = wanted; gives = answer }
 
 -- H1 with expression e for the feature model
 abbrev modelled : ℕ → Tables
-modelled e = tablesOf 2 3 e h1Expressions (h1Entries 2) (0 ∷ 3 ∷ []) [] h1Queries
+modelled e = tablesOf 2 3 e h1Expressions (h1Entries 2) (0 ∷ 3 ∷ []) [] h1Queries (moments 3)
 
 -- one relation: attribute 0 where feature 0 is on, attribute 1 where it is off
 abbrev apart : Tables
-apart = tablesOf 1 2 0 (1 ∷ 0 ∷ 0 ∷ 2 ∷ 0 ∷ 0 ∷ 3 ∷ 1 ∷ 0 ∷ []) (0 ∷ 1 ∷ 1 ∷ 2 ∷ []) (0 ∷ 2 ∷ []) [] (1 ∷ 0 ∷ 0 ∷ 0 ∷ [])
+apart = tablesOf 1 2 0 (1 ∷ 0 ∷ 0 ∷ 2 ∷ 0 ∷ 0 ∷ 3 ∷ 1 ∷ 0 ∷ []) (0 ∷ 1 ∷ 1 ∷ 2 ∷ []) (0 ∷ 2 ∷ []) [] (1 ∷ 0 ∷ 0 ∷ 0 ∷ []) (moments 2)
 
 -- no feature, m attributes, one relation with these entries
 abbrev plain : ℕ → List ℕ → ℕ → Tables
-plain m entries count = tablesOf 0 m 0 (1 ∷ 0 ∷ 0 ∷ []) entries (0 ∷ count ∷ []) [] (1 ∷ 0 ∷ 0 ∷ 0 ∷ [])
+plain m entries count = tablesOf 0 m 0 (1 ∷ 0 ∷ 0 ∷ []) entries (0 ∷ count ∷ []) [] (1 ∷ 0 ∷ 0 ∷ 0 ∷ []) (moments m)
 
 abbrev pub findExamples : List FindExample
 findExamples =

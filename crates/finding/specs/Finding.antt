@@ -19,7 +19,7 @@ use Rattle.finding.specs.declared.FindAnswer.{FindAnswer}
 abbrev pub wantedCondition : ℕ → Tables → List Condition
 wantedCondition wanted T = hasFrom wanted (T .attributes) gives refusal 22 0 0 0
 
--- the call: 1 to 10, 12 to 19, 22
+-- the call: 1 to 10, 24, 12 to 19, 25, 22
 abbrev pub finding : ℕ → Call
 finding wanted = record { beforeModel = λ T. []; afterTyping = wantedCondition wanted }
 

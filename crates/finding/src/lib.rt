@@ -50,12 +50,13 @@ pub fn find(
     relations: &[u16],
     comparisons: &[u16],
     queries: &[u16],
+    kinds: &[u16],
     wanted: u64,
 ) -> FindAnswer
     ensures { λ r.
         ⌜ Finds
         (tablesOf features attributes model (now (expressions .entry)) (now (entries .entry)) (now (relations .entry)) (now (comparisons .entry))
-        (now (queries .entry))) wanted r ⌝ }
+        (now (queries .entry)) (now (kinds .entry))) wanted r ⌝ }
 {
     let m = attributes as usize;
     let model = model as usize;
@@ -72,6 +73,7 @@ pub fn find(
         relations,
         comparisons,
         queries,
+        kinds,
         &mut conditions,
         &mut reach,
         &mut columns,

@@ -1,4 +1,5 @@
-// Checks 6 and 8 to 10 of the table of refusals (docs/FORMAT.md, "Refusals"), and checks 1 to 10 one after another.
+// Checks 6 and 8 to 10 of the table of refusals (docs/FORMAT.md, "Refusals"), and checks 1 to 10 and 24 one after another.
+use comparisons::check_kinds;
 use decoders::project_length;
 use decoders::query_at;
 use decoders::query_operands;
@@ -18,11 +19,12 @@ use table_checks::or_else;
 use table_checks::refuse;
 use table_checks::refuse_if;
 ghost use mathlib.Core.Path.{_≡_};
+ghost use mathlib.Core.List.{[]};
 ghost use Prim.Native.Nat.{_/_, _<_, _≤_};
 ghost use lib.ListN.{length, set};
 ghost use Rattle.report.specs.Tables.{tablesOf, relationStart};
 ghost use Rattle.report.specs.Verdicts.{orElse};
-ghost use Rattle.report.specs.FormChecks.{free, freePair, listFits, queryFits, relationsCheck, leftEntryCheck, formCheck};
+ghost use Rattle.report.specs.FormChecks.{free, freePair, listFits, queryFits, relationsCheck, leftEntryCheck, tablesCheck, formCheck};
 ghost use Rattle.report.specs.Formed.{OperandsBelow};
 ghost use Rattle.forms.specs.Steps.{marked, FormRoom, markedBy, untakenBy};
 ghost use Rattle.forms.specs.Steps.{queriesRest, QueriesReady, listsRest, ListsReady, contentsRest};
@@ -264,8 +266,8 @@ fn check_contents(
     check_lists(m, e, entries, relations, comparisons, queries)
 }
 
-// Checks 1 to 10. Where they accept, report's law `formed` gives a caller `Formed` of the tables in one line: `formed _ (sym ensures ∙ accepted)`.
-pub fn check_forms(
+// Checks 1 to 10.
+fn check_tables(
     n: usize,
     m: usize,
     model: usize,
@@ -275,9 +277,9 @@ pub fn check_forms(
     comparisons: &[u16],
     queries: &[u16],
 ) -> Verdict
-    ensures { λ r. ⌜ r ≡ formCheck
-        (tablesOf n m model (now (expressions .entry)) (now (entries .entry)) (now (relations .entry)) (now (comparisons .entry)) (now (queries .entry)))
-        ⌝ }
+    ensures { λ r. ⌜ r ≡ tablesCheck
+        (tablesOf n m model (now (expressions .entry)) (now (entries .entry)) (now (relations .entry)) (now (comparisons .entry)) (now (queries .entry))
+        []) ⌝ }
 {
     let v = check_head(n, m);
     if let Verdict::Refused(_) = v {
@@ -297,4 +299,37 @@ pub fn check_forms(
         comparisons,
         queries,
     )
+}
+
+// Checks 1 to 10, then 24. Where they accept, report's law `formed` gives a caller `Formed` of the tables in one line:
+// `formed _ (sym ensures ∙ accepted)`.
+pub fn check_forms(
+    n: usize,
+    m: usize,
+    model: usize,
+    expressions: &[u16],
+    entries: &[u16],
+    relations: &[u16],
+    comparisons: &[u16],
+    queries: &[u16],
+    kinds: &[u16],
+) -> Verdict
+    ensures { λ r. ⌜ r ≡ formCheck
+        (tablesOf n m model (now (expressions .entry)) (now (entries .entry)) (now (relations .entry)) (now (comparisons .entry)) (now (queries .entry))
+        (now (kinds .entry))) ⌝ }
+{
+    let v = check_tables(
+        n,
+        m,
+        model,
+        expressions,
+        entries,
+        relations,
+        comparisons,
+        queries,
+    );
+    if let Verdict::Refused(_) = v {
+        return v;
+    }
+    check_kinds(m, kinds, comparisons)
 }

@@ -41,6 +41,7 @@ pub extern "C" fn gelvomas_check(
     relations: &[u16],
     comparisons: &[u16],
     queries: &[u16],
+    kinds: &[u16],
     rows: &mut [u64],
     refusal: &mut AnswerWords,
 ) -> u64
@@ -48,22 +49,22 @@ pub extern "C" fn gelvomas_check(
         ⌜ r
         ≡ answerNumber (checkAnswer
         (tablesOf features attributes model (now (expressions .entry)) (now (entries .entry)) (now (relations .entry))
-        (now (comparisons .entry)) (now (queries .entry)))
+        (now (comparisons .entry)) (now (queries .entry)) (now (kinds .entry)))
         (now (rows .entry))) ⌝ }
     ensures { λ _.
         ⌜ now (refusal .exit)
         ≡ answerWords (checkAnswer
         (tablesOf features attributes model (now (expressions .entry)) (now (entries .entry)) (now (relations .entry))
-        (now (comparisons .entry)) (now (queries .entry)))
+        (now (comparisons .entry)) (now (queries .entry)) (now (kinds .entry)))
         (now (rows .entry)))
         (now (refusal .entry)) ⌝ }
     ensures { λ _.
         ⌜ Checks (tablesOf features attributes model (now (expressions .entry)) (now (entries .entry)) (now (relations .entry))
-        (now (comparisons .entry)) (now (queries .entry)))
+        (now (comparisons .entry)) (now (queries .entry)) (now (kinds .entry)))
         (now (rows .entry))
         (checkAnswer
         (tablesOf features attributes model (now (expressions .entry)) (now (entries .entry)) (now (relations .entry))
-        (now (comparisons .entry)) (now (queries .entry)))
+        (now (comparisons .entry)) (now (queries .entry)) (now (kinds .entry)))
         (now (rows .entry)))
         (now (rows .exit)) ⌝ }
 {
@@ -76,6 +77,7 @@ pub extern "C" fn gelvomas_check(
         relations,
         comparisons,
         queries,
+        kinds,
         rows,
     );
     if let Verdict::Refused(r) = v {
@@ -97,6 +99,7 @@ pub extern "C" fn gelvomas_configure(
     relations: &[u16],
     comparisons: &[u16],
     queries: &[u16],
+    kinds: &[u16],
     c: u64,
     new_entries: &mut [u16],
     new_relations: &mut [u16],
@@ -108,21 +111,21 @@ pub extern "C" fn gelvomas_configure(
         ⌜ r
         ≡ configuredNumber (configureAnswer
         (tablesOf features attributes model (now (expressions .entry)) (now (entries .entry)) (now (relations .entry)) (now (comparisons .entry))
-        (now (queries .entry)))
+        (now (queries .entry)) (now (kinds .entry)))
         c (now («new_entries» .entry)) (now («new_relations» .entry)) (now («new_comparisons» .entry)) (now («new_queries» .entry))) ⌝ }
     ensures { λ _.
         ⌜ now (answer .exit)
         ≡ configuredWords (configureAnswer
         (tablesOf features attributes model (now (expressions .entry)) (now (entries .entry)) (now (relations .entry)) (now (comparisons .entry))
-        (now (queries .entry)))
+        (now (queries .entry)) (now (kinds .entry)))
         c (now («new_entries» .entry)) (now («new_relations» .entry)) (now («new_comparisons» .entry)) (now («new_queries» .entry))) ⌝ }
     ensures { λ _.
         ⌜ Configures (tablesOf features attributes model (now (expressions .entry)) (now (entries .entry)) (now (relations .entry))
-        (now (comparisons .entry)) (now (queries .entry)))
+        (now (comparisons .entry)) (now (queries .entry)) (now (kinds .entry)))
         c (now («new_entries» .entry)) (now («new_relations» .entry)) (now («new_comparisons» .entry)) (now («new_queries» .entry))
         (configureAnswer
         (tablesOf features attributes model (now (expressions .entry)) (now (entries .entry)) (now (relations .entry)) (now (comparisons .entry))
-        (now (queries .entry)))
+        (now (queries .entry)) (now (kinds .entry)))
         c (now («new_entries» .entry)) (now («new_relations» .entry)) (now («new_comparisons» .entry)) (now («new_queries» .entry)))
         (now («new_entries» .exit)) (now («new_relations» .exit)) (now («new_comparisons» .exit)) (now («new_queries» .exit)) ⌝ }
 {
@@ -135,6 +138,7 @@ pub extern "C" fn gelvomas_configure(
         relations,
         comparisons,
         queries,
+        kinds,
         c,
         new_entries,
         new_relations,
@@ -167,6 +171,7 @@ pub extern "C" fn gelvomas_find(
     relations: &[u16],
     comparisons: &[u16],
     queries: &[u16],
+    kinds: &[u16],
     wanted: u64,
     answer: &mut AnswerWords,
 ) -> u64
@@ -174,13 +179,13 @@ pub extern "C" fn gelvomas_find(
         ⌜ r
         ≡ foundNumber (findAnswer
         (tablesOf features attributes model (now (expressions .entry)) (now (entries .entry)) (now (relations .entry)) (now (comparisons .entry))
-        (now (queries .entry)))
+        (now (queries .entry)) (now (kinds .entry)))
         wanted) ⌝ }
     ensures { λ _.
         ⌜ now (answer .exit)
         ≡ foundWords (findAnswer
         (tablesOf features attributes model (now (expressions .entry)) (now (entries .entry)) (now (relations .entry)) (now (comparisons .entry))
-        (now (queries .entry)))
+        (now (queries .entry)) (now (kinds .entry)))
         wanted) ⌝ }
 {
     let found = find(
@@ -192,6 +197,7 @@ pub extern "C" fn gelvomas_find(
         relations,
         comparisons,
         queries,
+        kinds,
         wanted,
     );
     match found {
@@ -219,6 +225,7 @@ pub extern "C" fn gelvomas_page(
     relations: &[u16],
     comparisons: &[u16],
     queries: &[u16],
+    kinds: &[u16],
     page: &mut [u8],
     answer: &mut AnswerWords,
 ) -> u64
@@ -226,19 +233,19 @@ pub extern "C" fn gelvomas_page(
         ⌜ r
         ≡ pageNumber (pageGives
         (tablesOf features attributes model (now (expressions .entry)) (now (entries .entry)) (now (relations .entry)) (now (comparisons .entry))
-        (now (queries .entry)))
+        (now (queries .entry)) (now (kinds .entry)))
         (now (page .entry))) ⌝ }
     ensures { λ _.
         ⌜ now (answer .exit)
         ≡ pageWords (pageGives
         (tablesOf features attributes model (now (expressions .entry)) (now (entries .entry)) (now (relations .entry)) (now (comparisons .entry))
-        (now (queries .entry)))
+        (now (queries .entry)) (now (kinds .entry)))
         (now (page .entry))) ⌝ }
     ensures { λ _.
         ⌜ now (page .exit)
         ≡ pageAfter
         (tablesOf features attributes model (now (expressions .entry)) (now (entries .entry)) (now (relations .entry)) (now (comparisons .entry))
-        (now (queries .entry)))
+        (now (queries .entry)) (now (kinds .entry)))
         (now (page .entry)) ⌝ }
 {
     let written = write_page(
@@ -250,6 +257,7 @@ pub extern "C" fn gelvomas_page(
         relations,
         comparisons,
         queries,
+        kinds,
         page,
     );
     match written {

@@ -42,7 +42,7 @@ pub answer-parts : (T : Tables) (call : Call)
     → answer T call ≡ orElse (formCheck T) (orElse (firstOf (call .beforeModel T)) (orElse (meaningCheck T) (firstOf (call .afterTyping T))))
 answer-parts T call = answer-run T call ∙ simp or-else-assoc
 
--- a call whose own conditions before 12 do not hold answers what 1 to 10 and 12 to 19 answer, and then what its own after typing do
+-- a call whose own conditions before 12 do not hold answers what 1 to 10, 24, 12 to 19 and 25 answer, and then what its own after typing do
 module _ (T : Tables) (call : Call) (none : firstOf (call .beforeModel T) ≡ Verdict.Accepted) where
   pub call-parts : answer T call ≡ orElse (reportCheck T) (firstOf (call .afterTyping T))
   call-parts =
@@ -81,8 +81,8 @@ enough {T} F e f g =
       most = max-le (F .narrow) (let s = F .sized2 .fits in omega arith);
     }
 
-module _ {T : Tables} {n m model : ℕ} {conditions relationEntries projectEntries relations comparisons queries : List ℕ}
-    (R : JudgeReads T n m model conditions relationEntries projectEntries relations comparisons queries) where
+module _ {T : Tables} {n m model : ℕ} {conditions relationEntries projectEntries relations comparisons queries kinds : List ℕ}
+    (R : JudgeReads T n m model conditions relationEntries projectEntries relations comparisons queries kinds) where
   pub few-features : n ≤ 10
   few-features = let f = R .prepared .formed .few in let e = R .features in omega arith
 
@@ -104,24 +104,25 @@ module _ {T : Tables} {n m model : ℕ} {conditions relationEntries projectEntri
 
     pub typing-reads : {words : ℕ} {reach full : List ℕ} {items : ℕ} → queryCount T * 16 ≤ words → reach ≡ reachRows T words
         → full ≡ rowOf 16 (within n (λ c. true)) → items ≡ max m (length relations / 2)
-        → TypingReads T conditions full permits reach relationEntries projectEntries relations comparisons queries items
+        → TypingReads T conditions full permits reach relationEntries projectEntries relations comparisons queries kinds items
     typing-reads room reaching whole most = record {
       reads = record {
         prepared = R .prepared;
         whole = whole ∙ ap (λ (k : ℕ). rowOf 16 (within k (λ c. true))) (R .features);
         permitting = permitting;
         reaching = reach-rows T room reaching;
+        kindsAre = R .kindsAre;
       };
       enough = enough (R .prepared .formed) (R .attributes) (ap (λ (t : List ℕ). length t / 2) (R .prepared .relationsAre)) most;
     }
 
 -- there is room for the reach rows of all such tables
-pub reach-room : {T : Tables} {n m model : ℕ} {conditions relationEntries projectEntries relations comparisons queries reach columns : List ℕ}
-    → JudgeReadable n m model conditions relationEntries projectEntries relations comparisons queries reach columns
-    → JudgeReads T n m model conditions relationEntries projectEntries relations comparisons queries → queryCount T * 16 ≤ length reach
+pub reach-room : {T : Tables} {n m model : ℕ} {conditions relationEntries projectEntries relations comparisons queries kinds reach columns : List ℕ}
+    → JudgeReadable n m model conditions relationEntries projectEntries relations comparisons queries kinds reach columns
+    → JudgeReads T n m model conditions relationEntries projectEntries relations comparisons queries kinds → queryCount T * 16 ≤ length reach
 reach-room A R = let l = A .forms in let e = ap length (sym (A .reads .prepared .queriesAre) ∙ R .prepared .queriesAre) in omega arith
 
--- ---- 12 to 19
+-- ---- 12 to 19 and 25
 
 module _ {T : Tables} {v : Verdict} (early : v ≡ modelAndSchemaCheck T) (lentReach lentColumns : List ℕ) where
   -- 12 to 14 refuse
@@ -132,7 +133,7 @@ module _ {T : Tables} {v : Verdict} (early : v ≡ modelAndSchemaCheck T) (lentR
     shows = ap (λ (x : Verdict). after x (columnRows T) lentColumns) (sym f ∙ early);
   }
 
-  -- 15 to 19 answer
+  -- 15 to 19 and 25 answer
   pub typing-answers : v ≡ Verdict.Accepted → {w : Verdict} {reach columns : List ℕ} → reach ≡ reachRows T (length lentReach) → Checked T w columns
       → Judged T w lentReach lentColumns reach columns
   typing-answers f reaching C = record {
@@ -151,8 +152,8 @@ module _ {T : Tables} (F : Formed T) where
     -- the tables, with the expression rows and table 1 in its parts
     pub tables-read : {conditions : List ℕ} → Conditioned T conditions
         → JudgeReads T (T .features) (T .attributes) (T .model) conditions (take (split * 2) (T .entries))
-        (take (length (T .entries) - split * 2) (drop (split * 2) (T .entries))) (T .relations) (T .comparisons) (T .queries)
-    tables-read C = record { prepared = prepare F C is refl refl refl refl; features = refl; attributes = refl; number = refl }
+        (take (length (T .entries) - split * 2) (drop (split * 2) (T .entries))) (T .relations) (T .comparisons) (T .queries) (T .kinds)
+    tables-read C = record { prepared = prepare F C is refl refl refl refl; features = refl; attributes = refl; number = refl; kindsAre = refl }
 
 module _ {T : Tables} {v : Verdict} (forms : v ≡ formCheck T) {lentConditions lentReach lentColumns : List ℕ} where
   -- a form check refuses

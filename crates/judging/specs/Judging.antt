@@ -15,32 +15,34 @@ use Rattle.conditions.specs.Conditions.{expressionRows, Prepared}
 use Rattle.reach.specs.Reach.{reachRows}
 
 module _ (T : Tables) where
-  -- 12 to 19
+  -- 12 to 19 and 25
   abbrev pub meaningCheck : Verdict
   meaningCheck = orElse (modelAndSchemaCheck T) (typingCheck T)
 
-  -- 1 to 10 and 12 to 19: what configuring runs before its own checks
+  -- 1 to 10, 24, 12 to 19 and 25: what configuring runs before its own checks
   abbrev pub reportCheck : Verdict
   reportCheck = orElse (formCheck T) meaningCheck
 
-  -- 1 to 10 and 12 to 14: what it runs before typing
+  -- 1 to 10, 24 and 12 to 14: what it runs before typing
   abbrev pub earlyCheck : Verdict
   earlyCheck = orElse (formCheck T) (modelAndSchemaCheck T)
 
--- ---- 12 to 19
+-- ---- 12 to 19 and 25
 
 -- the prepared tables and their head
-pub record JudgeReads (T : Tables) (n m model : ℕ) (conditions relationEntries projectEntries relations comparisons queries : List ℕ) : Type 0 where
+pub record JudgeReads (T : Tables) (n m model : ℕ) (conditions relationEntries projectEntries relations comparisons queries kinds : List ℕ)
+    : Type 0 where
   pub prepared : Prepared T conditions relationEntries projectEntries relations comparisons queries
   pub features : n ≡ T .features
   pub attributes : m ≡ T .attributes
   pub number : model ≡ T .model
+  pub kindsAre : kinds ≡ T .kinds
 
 -- there are such tables, and room for the reach rows and the column rows
-pub record JudgeReadable (n m model : ℕ) (conditions relationEntries projectEntries relations comparisons queries reach columns : List ℕ)
+pub record JudgeReadable (n m model : ℕ) (conditions relationEntries projectEntries relations comparisons queries kinds reach columns : List ℕ)
     : Type 0 where
   pub tables : Tables
-  pub reads : JudgeReads tables n m model conditions relationEntries projectEntries relations comparisons queries
+  pub reads : JudgeReads tables n m model conditions relationEntries projectEntries relations comparisons queries kinds
   pub forms : queryCount tables * 16 ≤ length reach
   pub attributes : length columns ≡ 1024
 

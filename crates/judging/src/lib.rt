@@ -1,4 +1,5 @@
-// What every call runs before its own: 1 to 10, the expression rows, 12 to 19, the reach rows and the column rows, into rows that the caller lends.
+// What every call runs before its own: 1 to 10 and 24, the expression rows, 12 to 19 and 25, the reach rows and the column rows, into rows that
+// the caller lends.
 use conditions::check_permitted;
 use conditions::check_schema;
 use conditions::fill_rows;
@@ -53,7 +54,7 @@ fn check_model(
     check_schema(conditions, permitted, relation_entries, relations)
 }
 
-// Checks 12 to 19 of tables that have passed 1 to 10, whose expression rows `conditions` starts with. Fills `reach` with the reach rows and
+// Checks 12 to 19 and 25 of tables that have passed 1 to 10 and 24, whose expression rows `conditions` starts with. Fills `reach` with the reach rows and
 // `columns` with the column rows, unless 12 to 14 refuse.
 pub fn judge(
     n: usize,
@@ -65,15 +66,16 @@ pub fn judge(
     relations: &[u16],
     comparisons: &[u16],
     queries: &[u16],
+    kinds: &[u16],
     reach: &mut [u64],
     columns: &mut [u64],
 ) -> Verdict
     requires { ⌜ JudgeReadable n m model (now conditions) (now «relation_entries») (now «project_entries») (now relations) (now comparisons)
-        (now queries) (now reach) (now columns) ⌝ }
+        (now queries) (now kinds) (now reach) (now columns) ⌝ }
     ensures { λ v.
         ⌜ ((T : Tables)
         → JudgeReads T n m model (now (conditions .entry)) (now («relation_entries» .entry)) (now («project_entries» .entry))
-        (now (relations .entry)) (now (comparisons .entry)) (now (queries .entry))
+        (now (relations .entry)) (now (comparisons .entry)) (now (queries .entry)) (now (kinds .entry))
         → Judged T v (now (reach .entry)) (now (columns .entry)) (now (reach .exit)) (now (columns .exit))) ⌝ }
 {
     let permitted = Row::load(conditions, model);
@@ -89,6 +91,7 @@ pub fn judge(
         relations,
         comparisons,
         queries,
+        kinds,
         conditions,
         Row::full(n),
         permitted,
@@ -108,16 +111,17 @@ pub fn judge_tables(
     relations: &[u16],
     comparisons: &[u16],
     queries: &[u16],
+    kinds: &[u16],
     conditions: &mut [u64],
     reach: &mut [u64],
     columns: &mut [u64],
 ) -> Verdict
-    requires { ⌜ TablesJudgeable (tablesOf n m model (now expressions) (now entries) (now relations) (now comparisons) (now queries))
+    requires { ⌜ TablesJudgeable (tablesOf n m model (now expressions) (now entries) (now relations) (now comparisons) (now queries) (now kinds))
         (now conditions) (now reach) (now columns) ⌝ }
     ensures { λ v.
         ⌜ TablesJudged
         (tablesOf n m model (now (expressions .entry)) (now (entries .entry)) (now (relations .entry)) (now (comparisons .entry))
-        (now (queries .entry)))
+        (now (queries .entry)) (now (kinds .entry)))
         v (now (conditions .entry)) (now (reach .entry)) (now (columns .entry)) (now (conditions .exit)) (now (reach .exit)) (now (columns .exit)) ⌝ }
 {
     fill_rows(n, expressions, &mut *conditions);
@@ -132,12 +136,13 @@ pub fn judge_tables(
         relations,
         comparisons,
         queries,
+        kinds,
         reach,
         columns,
     )
 }
 
-// Checks 1 to 10 and 12 to 19, with the rows that they fill.
+// Checks 1 to 10, 24, 12 to 19 and 25, with the rows that they fill.
 pub fn typed(
     n: usize,
     m: usize,
@@ -147,6 +152,7 @@ pub fn typed(
     relations: &[u16],
     comparisons: &[u16],
     queries: &[u16],
+    kinds: &[u16],
     conditions: &mut [u64],
     reach: &mut [u64],
     columns: &mut [u64],
@@ -155,7 +161,7 @@ pub fn typed(
     ensures { λ v.
         ⌜ Typed
         (tablesOf n m model (now (expressions .entry)) (now (entries .entry)) (now (relations .entry)) (now (comparisons .entry))
-        (now (queries .entry)))
+        (now (queries .entry)) (now (kinds .entry)))
         v (now (conditions .entry)) (now (reach .entry)) (now (columns .entry)) (now (conditions .exit)) (now (reach .exit)) (now (columns .exit)) ⌝ }
 {
     let form = check_forms(
@@ -167,6 +173,7 @@ pub fn typed(
         relations,
         comparisons,
         queries,
+        kinds,
     );
     if let Verdict::Refused(_) = form {
         return form;
@@ -180,6 +187,7 @@ pub fn typed(
         relations,
         comparisons,
         queries,
+        kinds,
         conditions,
         reach,
         columns,

@@ -29,11 +29,11 @@ comparison-whole rest x h = go (allZero rest)
     go true = h
     go false = tt
 
-comparison-of-small : (kind o a b c : ℕ) → (o < 65536) × (a < 65536) × (b < 65536) → ComparisonSmall (comparisonOf kind o a b c)
+comparison-of-small : (kind o a b c : ℕ) → (o < 65536) × (a < 65536) × (b < 65536) × (c < 65536) → ComparisonSmall (comparisonOf kind o a b c)
 comparison-of-small zero o a b c h = comparison-whole (o ∷ a ∷ b ∷ c ∷ []) Comparison.Never tt
 comparison-of-small (suc zero) o a b c h = comparison-whole (o ∷ a ∷ b ∷ c ∷ []) Comparison.Always tt
-comparison-of-small (suc (suc zero)) o a b c h = comparison-whole (c ∷ []) (Comparison.Constant o a b) h
-comparison-of-small (suc (suc (suc zero))) o a b c h = comparison-whole (c ∷ []) (Comparison.Attribute o a b) h
+comparison-of-small (suc (suc zero)) o a b c h = h
+comparison-of-small (suc (suc (suc zero))) o a b c h = comparison-whole (c ∷ []) (Comparison.Attribute o a b) (h .0, h .1, h .2)
 comparison-of-small (suc (suc (suc (suc zero)))) o a b c h = comparison-whole (o ∷ b ∷ c ∷ []) (Comparison.Not a) tt
 comparison-of-small (suc (suc (suc (suc (suc zero))))) o a b c h = comparison-whole (o ∷ c ∷ []) (Comparison.And a b) tt
 comparison-of-small (suc (suc (suc (suc (suc (suc zero)))))) o a b c h = comparison-whole (o ∷ c ∷ []) (Comparison.Or a b) tt
@@ -44,7 +44,7 @@ comparison-small : (comparisons : List ℕ) (f : ℕ) → ((i : ℕ) → getD co
 comparison-small comparisons f words =
     comparison-of-small (getD comparisons (f * 5) 0) (word comparisons 5 f 1) (word comparisons 5 f 2) (word comparisons 5 f 3)
     (word comparisons 5 f 4)
-    (words (f * 5 + 1), words (f * 5 + 2), words (f * 5 + 3))
+    (words (f * 5 + 1), words (f * 5 + 2), words (f * 5 + 3), words (f * 5 + 4))
 
 -- what a comparison writes: a choice nothing, any other its words
 module _ (T : Tables) (c : ℕ) where
@@ -57,7 +57,7 @@ module _ (T : Tables) (c : ℕ) where
   comparison-words numbers f each Comparison.Malformed l = refl
   comparison-words numbers f each Comparison.Never l = refl
   comparison-words numbers f each Comparison.Always l = refl
-  comparison-words numbers f each (Comparison.Constant o a b) l = refl
+  comparison-words numbers f each (Comparison.Constant o a b k) l = refl
   comparison-words numbers f each (Comparison.Attribute o a b) l = refl
   comparison-words numbers f each (Comparison.Not a) l = sym (ap (λ (i : ℕ). 4 ∷ 0 ∷ i ∷ 0 ∷ 0 ∷ []) (each a l))
   comparison-words numbers f each (Comparison.And a b) l = sym (ap₂ (λ (i j : ℕ). 5 ∷ 0 ∷ i ∷ j ∷ 0 ∷ []) (each a (l .0)) (each b (l .1)))

@@ -32,11 +32,12 @@ abbrev pub comparisonWords : List ℕ → Comparison → List ℕ
 comparisonWords numbers = comparisonWordsOf (λ k. getD numbers k 0)
 
 -- the numbers are words, and there is room for them
-pub record AtomWritable (kind o a b : ℕ) (out : List ℕ) (at : ℕ) : Type 0 where
+pub record AtomWritable (kind o a b k : ℕ) (out : List ℕ) (at : ℕ) : Type 0 where
   pub operator : o < 65536
   pub first : a < 65536
   pub second : b < 65536
-  pub room : Room (kind ∷ o ∷ a ∷ b ∷ 0 ∷ []) out at
+  pub third : k < 65536
+  pub room : Room (kind ∷ o ∷ a ∷ b ∷ k ∷ []) out at
 
 -- a and b have numbers, and there is room for them
 pub record BothWritable (numbers : List ℕ) (kind a b : ℕ) (out : List ℕ) (at : ℕ) : Type 0 where
@@ -44,12 +45,12 @@ pub record BothWritable (numbers : List ℕ) (kind a b : ℕ) (out : List ℕ) (
   pub second : b < length numbers
   pub room : Room (kind ∷ 0 ∷ getD numbers a 0 ∷ getD numbers b 0 ∷ 0 ∷ []) out at
 
--- the operator, the attributes and the constant of a comparison are words of 16 bits
+-- the operator, the attributes, the constant and its kind in a comparison are words of 16 bits
 abbrev pub ComparisonSmall : Comparison → Type 0
 ComparisonSmall Comparison.Malformed = Unit {0}
 ComparisonSmall Comparison.Never = Unit {0}
 ComparisonSmall Comparison.Always = Unit {0}
-ComparisonSmall (Comparison.Constant o a b) = (o < 65536) × (a < 65536) × (b < 65536)
+ComparisonSmall (Comparison.Constant o a b k) = (o < 65536) × (a < 65536) × (b < 65536) × (k < 65536)
 ComparisonSmall (Comparison.Attribute o a b) = (o < 65536) × (a < 65536) × (b < 65536)
 ComparisonSmall (Comparison.Not a) = Unit {0}
 ComparisonSmall (Comparison.And a b) = Unit {0}

@@ -112,20 +112,20 @@ fn put_words(out: &mut [u16], at: usize, words: &[u16]) -> usize
     at + i
 }
 
-// Writes a comparison of the kind, with its operator and two more words.
-fn put_comparison(out: &mut [u16], at: usize, kind: u16, o: u16, a: u16, b: u16) -> usize
-    requires { ⌜ Room (kind ∷ o ∷ a ∷ b ∷ 0 ∷ []) (now out) at ⌝ }
-    ensures { λ r. ⌜ WrittenAt (kind ∷ o ∷ a ∷ b ∷ 0 ∷ []) (now (out .entry)) at (now (out .exit)) r ⌝ }
+// Writes a comparison of the kind, which has no operator, with two words.
+fn put_comparison(out: &mut [u16], at: usize, kind: u16, a: u16, b: u16) -> usize
+    requires { ⌜ Room (kind ∷ 0 ∷ a ∷ b ∷ 0 ∷ []) (now out) at ⌝ }
+    ensures { λ r. ⌜ WrittenAt (kind ∷ 0 ∷ a ∷ b ∷ 0 ∷ []) (now (out .entry)) at (now (out .exit)) r ⌝ }
 {
-    put_words(out, at, &[kind, o, a, b, 0])
+    put_words(out, at, &[kind, 0, a, b, 0])
 }
 
-// Writes a comparison of an attribute with a constant or an attribute.
-fn put_atom(out: &mut [u16], at: usize, kind: u16, o: usize, a: usize, b: usize) -> usize
-    requires { ⌜ AtomWritable kind o a b (now out) at ⌝ }
-    ensures { λ r. ⌜ WrittenAt (kind ∷ o ∷ a ∷ b ∷ 0 ∷ []) (now (out .entry)) at (now (out .exit)) r ⌝ }
+// Writes a comparison of an attribute with a constant, whose kind is k, or with an attribute, where k is 0.
+fn put_atom(out: &mut [u16], at: usize, kind: u16, o: usize, a: usize, b: usize, k: usize) -> usize
+    requires { ⌜ AtomWritable kind o a b k (now out) at ⌝ }
+    ensures { λ r. ⌜ WrittenAt (kind ∷ o ∷ a ∷ b ∷ k ∷ []) (now (out .entry)) at (now (out .exit)) r ⌝ }
 {
-    put_comparison(out, at, kind, o as u16, a as u16, b as u16)
+    put_words(out, at, &[kind, o as u16, a as u16, b as u16, k as u16])
 }
 
 // Writes a comparison of two lower ones, with their new numbers.
@@ -135,7 +135,7 @@ fn put_both(out: &mut [u16], at: usize, kind: u16, numbers: &[u16], a: usize, b:
         ⌜ WrittenAt (kind ∷ 0 ∷ getD (now (numbers .entry)) a 0 ∷ getD (now (numbers .entry)) b 0 ∷ 0 ∷ []) (now (out .entry)) at
         (now (out .exit)) r ⌝ }
 {
-    put_comparison(out, at, kind, 0, numbers[a], numbers[b])
+    put_comparison(out, at, kind, numbers[a], numbers[b])
 }
 
 // Writes a comparison that is no choice, with the new numbers of its operands.
@@ -145,11 +145,11 @@ fn write_comparison(x: Comparison, numbers: &[u16], out: &mut [u16], at: usize) 
 {
     match x {
         Comparison::Malformed => at,
-        Comparison::Never => put_comparison(out, at, 0, 0, 0, 0),
-        Comparison::Always => put_comparison(out, at, 1, 0, 0, 0),
-        Comparison::Constant(o, a, b) => put_atom(out, at, 2, o, a, b),
-        Comparison::Attribute(o, a, b) => put_atom(out, at, 3, o, a, b),
-        Comparison::Not(a) => put_comparison(out, at, 4, 0, numbers[a], 0),
+        Comparison::Never => put_comparison(out, at, 0, 0, 0),
+        Comparison::Always => put_comparison(out, at, 1, 0, 0),
+        Comparison::Constant(o, a, b, k) => put_atom(out, at, 2, o, a, b, k),
+        Comparison::Attribute(o, a, b) => put_atom(out, at, 3, o, a, b, 0),
+        Comparison::Not(a) => put_comparison(out, at, 4, numbers[a], 0),
         Comparison::And(a, b) => put_both(out, at, 5, numbers, a, b),
         Comparison::Or(a, b) => put_both(out, at, 6, numbers, a, b),
         Comparison::Choice(_, _, _) => at,

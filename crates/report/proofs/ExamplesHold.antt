@@ -2,28 +2,29 @@
 use Prim.Native.Nat.{ℕ, zero, suc, _+_, _*_, _%_, _^_}
 use native.Mathlib.Nat.{zero-div}
 use lib.Dec.{eqb}
-use mathlib.Core.Path.{_≡_, refl, sym, ap, _∙_, fun-ext}
+use mathlib.Core.Path.{_≡_, refl, sym, ap, ap₂, _∙_, fun-ext}
 use mathlib.Core.Bool.{Bool, true, false, cond, _&&_}
-use mathlib.Core.List.{List, [], _∷_, map}
+use mathlib.Core.List.{List, [], _∷_, _++_, map, map-append}
 use Rattle.sets.specs.Lists.{table, concat}
 use Rattle.sets.specs.Bits.{bit, bitsOf, digit}
 use Rattle.report.specs.Tables.{Tables, report}
 use Rattle.report.specs.Expressions.{holds, permitted}
-use Rattle.report.specs.Typing.{names, setOf, leads, reached, joinedSet, faults}
+use Rattle.report.specs.Typing.{gathered, compares, setOf, leads, reached, joinedSet, faults}
 use Rattle.report.specs.ColumnRows.{hasColumn, columnRows}
 use Rattle.report.specs.Configuring.{comparisonTarget, queryTarget, entryKept, configured}
-use Rattle.report.specs.FormChecks.{formCheck, expressionsCheck, entriesCheck, relationsCheck, comparisonsCheck, queriesCheck, untakenCheck}
+use Rattle.report.specs.FormChecks.{formCheck, tablesCheck, kindsCheck, expressionsCheck, entriesCheck, relationsCheck, comparisonsCheck, queriesCheck, untakenCheck}
 use Rattle.report.specs.Verdicts.{_gives_, firstOf}
 use Rattle.report.specs.Checks.{typingCheck}
 use Rattle.report.specs.Calls.{answer}
 use Rattle.report.specs.Text.{decimal, numbersIn}
 use Rattle.report.specs.HarbourFile.{linesOf, fileLines, fileOf}
 use Rattle.report.specs.Print.{print}
-use Rattle.report.specs.Examples.{Case, Outcome, outcomeBy, outcome, Example, examples}
+use Rattle.report.specs.Examples.{Case, Outcome, outcomeBy, outcome, Example}
+use Rattle.report.specs.Examples.{harbourExamples, repeatExamples, quayExamples, kindExamples, examples}
 
 -- to unfold this is to unfold all that an outcome is computed with
 unfoldable pub computed : Unit {0}
-unfolding bitsOf holds permitted names setOf leads reached joinedSet faults columnRows comparisonTarget queryTarget entryKept configured formCheck expressionsCheck entriesCheck relationsCheck comparisonsCheck queriesCheck untakenCheck typingCheck _gives_ firstOf answer decimal numbersIn linesOf fileLines fileOf print
+unfolding bitsOf holds permitted gathered compares setOf leads reached joinedSet faults columnRows comparisonTarget queryTarget entryKept configured formCheck tablesCheck kindsCheck expressionsCheck entriesCheck relationsCheck comparisonsCheck queriesCheck untakenCheck typingCheck _gives_ firstOf answer decimal numbersIn linesOf fileLines fileOf print
 computed = tt
 
 -- ---- the column rows, each configuration's set worked out once
@@ -71,9 +72,34 @@ rows-shared T =
 outcome-shared : outcomeBy sharedRows ≡ outcome
 outcome-shared = ap outcomeBy (fun-ext rows-shared)
 
-shared-hold : map (λ (e : Example). outcomeBy sharedRows (e .of)) examples ≡ map (λ (e : Example). e .gives) examples
+-- that each of some examples gives what it says
+abbrev Hold : List Example → Type 0
+Hold xs = map (λ (e : Example). outcomeBy sharedRows (e .of)) xs ≡ map (λ (e : Example). e .gives) xs
+
+hold-both : (xs ys : List Example) → Hold xs → Hold ys → Hold (xs ++ ys)
+hold-both xs ys p q = map-append _ xs ys ∙ ap₂ _++_ p q ∙ sym (map-append _ xs ys)
+
+-- by computation, in four parts: what one declaration may compute is limited
+harbours-hold : Hold harbourExamples
 unfolding computed sharedRows
-shared-hold = refl
+harbours-hold = refl
+
+repeats-hold : Hold repeatExamples
+unfolding computed sharedRows
+repeats-hold = refl
+
+quays-hold : Hold quayExamples
+unfolding computed sharedRows
+quays-hold = refl
+
+kinds-hold : Hold kindExamples
+unfolding computed sharedRows
+kinds-hold = refl
+
+shared-hold : Hold examples
+shared-hold =
+    hold-both harbourExamples (repeatExamples ++ quayExamples ++ kindExamples) harbours-hold
+    (hold-both repeatExamples (quayExamples ++ kindExamples) repeats-hold (hold-both quayExamples kindExamples quays-hold kinds-hold))
 
 -- each of them gives what docs/FORMAT.md says
 pub examples-hold : map (λ (e : Example). outcome (e .of)) examples ≡ map (λ (e : Example). e .gives) examples

@@ -1,5 +1,5 @@
 -- Laws of specs/HarbourFile, its files: the group of a line, the first bad line, the words of a table.
-use Prim.Native.Nat.{ℕ, zero, suc, _*_, _≤_, _<_}
+use Prim.Native.Nat.{ℕ, zero, suc, _*_, _≤_, _<_, min}
 use mathlib.Core.Path.{_≡_, refl, sym, ap, ap₂, _∙_}
 use mathlib.Core.Logic.{_↔_}
 use mathlib.Core.Bool.{Bool, true, false, not, _&&_, _||_, false≢true}
@@ -7,7 +7,7 @@ use mathlib.Core.List.{List, [], _∷_, map}
 use native.Mathlib.Nat.{le-of-suc-le-suc, not-suc-le-zero, le-refl}
 use native.Mathlib.Decide.{decLt}
 use native.Mathlib.Omega.{arith}
-use lib.ListN.{length, getD, List·getD-eq-default, List·getD-map}
+use lib.ListN.{length, getD, replicate, List·getD-eq-default, List·getD-map}
 use lib.Dec.{leb, ltb, eqb}
 use borrow.Author.Tests.{lt-ltb, le-ltb, ltb-true, leb-true, le-leb, lt-leb, leb-false, eq-eqb, eqb-true, not-true, not-false}
 use Rattle.sets.specs.declared.Found.{Found}
@@ -17,7 +17,7 @@ use Rattle.sets.proofs.ListLaws.{kept-length}
 use Rattle.report.specs.Tables.{Tables, shapeOf}
 use Rattle.report.specs.Text.{line, same, numbersIn}
 use Rattle.report.specs.HarbourFile.{Group, groupOf, groups, linesOf, isLineOf, groupNumber, isBad, wordsOf}
-use Rattle.report.specs.HarbourFile.{File, tablesFrom, fileOr, atLeastOne, fileLines, fileOf}
+use Rattle.report.specs.HarbourFile.{File, kindsOr, tablesFrom, fileOr, atLeastOne, fileLines, fileOf}
 use Rattle.report.proofs.TextLaws.{every-at, isWord, line-same, same-iff}
 use Rattle.report.proofs.LineLaws.{line-of-iff, line-of-numbers}
 
@@ -29,14 +29,14 @@ groupAt g = getD groups g (groupOf [] (shapeOf 0 0 0))
 
 -- every group's word is one
 pub group-word : (g : ℕ) → isWord (groupAt g .word) ≡ true
-group-word g = go (decLt g 6)
+group-word g = go (decLt g (length groups))
   where
-    go : Dec (g < 6) → isWord (groupAt g .word) ≡ true
+    go : Dec (g < length groups) → isWord (groupAt g .word) ≡ true
     go (yes h) = every-at (λ (x : Group). isWord (x .word)) (groupOf [] (shapeOf 0 0 0)) groups refl g h
     go (no h) = ap (λ (x : Group). isWord (x .word)) (List·getD-eq-default groups (groupOf [] (shapeOf 0 0 0)) {n = g} (omega arith))
 
 -- its forms have words
-pub group-wide : (g : ℕ) → g < 6 → 0 < groupAt g .shape .width
+pub group-wide : (g : ℕ) → g < length groups → 0 < groupAt g .shape .width
 group-wide g h =
     ltb-true 0 (groupAt g .shape .width) (every-at (λ (x : Group). ltb 0 (x .shape .width)) (groupOf [] (shapeOf 0 0 0)) groups refl g h)
 
@@ -44,8 +44,9 @@ group-wide g h =
 abbrev differ : ℕ → ℕ → Bool
 differ i j = eqb i j || not (same (groupAt i .word) (groupAt j .word))
 
-words-differ : (i j : ℕ) → i < 6 → j < 6 → groupAt i .word ≡ groupAt j .word → i ≡ j
-words-differ i j p q e = go (eqb i j) refl (all-at (differ i) 6 (all-at (λ k. allBelow (differ k) 6) 6 refl i p) j q)
+words-differ : (i j : ℕ) → i < length groups → j < length groups → groupAt i .word ≡ groupAt j .word → i ≡ j
+words-differ i j p q e =
+    go (eqb i j) refl (all-at (differ i) (length groups) (all-at (λ k. allBelow (differ k) (length groups)) (length groups) refl i p) j q)
   where
     go : (b : Bool) → eqb i j ≡ b → (b || not (same (groupAt i .word) (groupAt j .word))) ≡ true → i ≡ j
     go true f h = eqb-true i j f
@@ -53,7 +54,8 @@ words-differ i j p q e = go (eqb i j) refl (all-at (differ i) 6 (all-at (λ k. a
         absurd (false≢true (sym (not-true (same (groupAt i .word) (groupAt j .word)) h) ∙ same-iff (groupAt i .word) (groupAt j .word) .1 e))
 
 -- a text is a line of one group at most
-pub one-group : (text : List ℕ) (i j : ℕ) → i < 6 → j < 6 → isLineOf (groupAt i) text ≡ true → isLineOf (groupAt j) text ≡ true → i ≡ j
+pub one-group : (text : List ℕ) (i j : ℕ) → i < length groups → j < length groups → isLineOf (groupAt i) text ≡ true
+    → isLineOf (groupAt j) text ≡ true → i ≡ j
 one-group text i j p q e f =
     let l = line-of-iff (groupAt i) text (group-word i) .0 e in
     let m = line-of-iff (groupAt j) text (group-word j) .0 f in
@@ -88,7 +90,7 @@ module _ (d : Group) (text : List ℕ) where
       go false f later (suc i) q l = later i (let z = number-later g gs f in omega arith) (le-of-suc-le-suc l)
 
 -- a line has the number of the group that it is a line of
-pub group-iff : (text : List ℕ) (g : ℕ) → g < 6 → (groupNumber groups text ≡ g) ↔ (isLineOf (groupAt g) text ≡ true)
+pub group-iff : (text : List ℕ) (g : ℕ) → g < length groups → (groupNumber groups text ≡ g) ↔ (isLineOf (groupAt g) text ≡ true)
 group-iff text g h = (
   λ e. number-at (groupOf [] (shapeOf 0 0 0)) text groups g e h,
   λ e. number-first (groupOf [] (shapeOf 0 0 0)) text groups g (omega arith) (λ l. e) (before e),
@@ -101,12 +103,12 @@ group-iff text g h = (
         go true f = absurd (let z = one-group text j g (omega arith) h f e in omega arith)
         go false f = f
 
--- and 6 where it is no group's
-pub group-none : (text : List ℕ) → ((g : ℕ) → g < 6 → isLineOf (groupAt g) text ≡ false) → groupNumber groups text ≡ 6
-group-none text h = number-first (groupOf [] (shapeOf 0 0 0)) text groups 6 (omega arith) (λ l. absurd (omega arith)) h
+-- and how many groups there are where it is none's
+pub group-none : (text : List ℕ) → ((g : ℕ) → g < length groups → isLineOf (groupAt g) text ≡ false) → groupNumber groups text ≡ length groups
+group-none text h = number-first (groupOf [] (shapeOf 0 0 0)) text groups (length groups) (omega arith) (λ l. absurd (omega arith)) h
 
 -- the line that a group's word and fitting numbers make
-pub line-group : (g : ℕ) (ns : List ℕ) → g < 6 → length ns ≡ groupAt g .shape .width → ((i : ℕ) → i < length ns → getD ns i 0 ≤ 65535)
+pub line-group : (g : ℕ) (ns : List ℕ) → g < length groups → length ns ≡ groupAt g .shape .width → ((i : ℕ) → i < length ns → getD ns i 0 ≤ 65535)
     → groupNumber groups (line (groupAt g .word) ns) ≡ g
 line-group g ns h c s =
     group-iff (line (groupAt g .word) ns) g h .1
@@ -133,11 +135,11 @@ file-empty = refl
 
 -- the group of each line of a file, as `fileLines` takes it
 abbrev pub groupIn : List (List ℕ) → ℕ → ℕ
-groupIn lines k = getD (map (groupNumber groups) lines) k 6
+groupIn lines k = getD (map (groupNumber groups) lines) k (length groups)
 
 -- Line k is not bad: it is of a group; lines before it are of no later group; there is room for it; the first is a head
 pub record Good (group : ℕ → ℕ) (k : ℕ) : Type 0 where
-  pub known : group k < 6
+  pub known : group k < length groups
   pub order : (j : ℕ) → j < k → group j ≤ group k
   pub room : countBelow (λ j. eqb (group j) (group k)) k < groupAt (group k) .shape .most
   pub head : k ≡ 0 → group k ≡ 0
@@ -151,7 +153,7 @@ pub good-iff : (group : ℕ → ℕ) (k : ℕ) → (isBad group k ≡ false) ↔
 good-iff group k = (to, from)
   where
     unknown : Bool
-    unknown = leb 6 (group k)
+    unknown = leb (length groups) (group k)
 
     before : Bool
     before = allBelow (λ j. leb (group j) (group k)) k
@@ -168,7 +170,7 @@ good-iff group k = (to, from)
         let i = either-false (unknown || not before) full (h .0) in
         let j = either-false unknown (not before) (i .0) in
         record {
-          known = leb-false 6 (group k) (j .0);
+          known = leb-false (length groups) (group k) (j .0);
           order = λ x l. leb-true (group x) (group k) (all-at (λ y. leb (group y) (group k)) k (not-false before (j .1)) x l);
           room = leb-false (groupAt (group k) .shape .most) (countBelow (λ y. eqb (group y) (group k)) k) (i .1);
           head = λ q. eqb-true (group k) 0 (not-false (eqb (group k) 0) (ap headless (sym (eq-eqb k 0 q)) ∙ h .1));
@@ -182,7 +184,7 @@ good-iff group k = (to, from)
     from r =
         ap₂ _||_
         (ap₂ _||_
-        (ap₂ _||_ (lt-leb 6 (group k) (r .known))
+        (ap₂ _||_ (lt-leb (length groups) (group k) (r .known))
         (ap not (at-all (λ j. leb (group j) (group k)) k (λ j l. le-leb (group j) (group k) (r .order j l)))))
         (lt-leb (groupAt (group k) .shape .most) (countBelow (λ j. eqb (group j) (group k)) k) (r .room)))
         (no-head r (eqb k 0) refl)
@@ -221,7 +223,7 @@ pub group-of : (lines : List (List ℕ)) (k : ℕ) → groupIn lines k ≡ group
 unfolding numbersIn
 group-of lines k = List·getD-map (groupNumber groups) lines k []
 
-module _ (lines : List (List ℕ)) (g : ℕ) (h : g < 6) where
+module _ (lines : List (List ℕ)) (g : ℕ) (h : g < length groups) where
   -- a line of group g has as many numbers as its form has words
   pub group-width : (k : ℕ) → groupIn lines k ≡ g → length (numbersIn (getD lines k [])) ≡ groupAt g .shape .width
   group-width k e =
@@ -234,3 +236,15 @@ module _ (lines : List (List ℕ)) (g : ℕ) (h : g < 6) where
   words-count =
       kept-length (λ k. eqb (groupIn lines k) g) (λ k. numbersIn (getD lines k [])) (groupAt g .shape .width) (length lines)
       (λ i l e. group-width i (eqb-true (groupIn lines i) g e)) (length lines) (le-refl (length lines))
+
+-- ---- the kind table
+
+-- where the file has no kind lines every kind is 0
+pub kinds-none : (m : ℕ) (kinds : List ℕ) → length kinds ≡ 0 → kindsOr m kinds ≡ replicate (min m 64) 0
+kinds-none m [] e = refl
+kinds-none m (k ∷ kinds) e = absurd (omega arith)
+
+-- where it has some, or needs none, they are the kinds
+pub kinds-stand : (m : ℕ) (kinds : List ℕ) → (length kinds ≡ 0 → m ≡ 0) → kindsOr m kinds ≡ kinds
+kinds-stand m [] h = ap (λ (n : ℕ). replicate (min n 64) 0) (h refl)
+kinds-stand m (k ∷ kinds) h = refl

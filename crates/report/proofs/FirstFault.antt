@@ -20,8 +20,8 @@ use Rattle.report.specs.Expressions.{configurations, permitted}
 use Rattle.report.specs.Typing.{reached, faults, fails}
 use Rattle.report.specs.Verdicts.{refusal, refuseIf, refuseAt, orElse, firstFrom}
 use Rattle.report.specs.Verdicts.{Condition, _gives_, each, firstOf, condition, NoneHolds, Foremost}
-use Rattle.report.specs.FormChecks.{formCheck, lengthFits, lengthsCheck, expressionsCheck, entriesCheck, relationsCheck, comparisonsCheck, queriesCheck, untakenCheck}
-use Rattle.report.specs.Checks.{ruleNumber, somewhere, absentEverywhere, apartEverywhere, modelCheck, relationCheck, schemaCheck, modelAndSchemaCheck, typingAt, typingCheck}
+use Rattle.report.specs.FormChecks.{formCheck, tablesCheck, kindsCheck, lengthFits, lengthsCheck, expressionsCheck, entriesCheck, relationsCheck, comparisonsCheck, queriesCheck, untakenCheck}
+use Rattle.report.specs.Checks.{faultNumber, somewhere, absentEverywhere, apartEverywhere, modelCheck, relationCheck, schemaCheck, modelAndSchemaCheck, phaseAt, typingAt, typingCheck}
 use Rattle.report.specs.Conditions.{formConditions, relationConditions, schemaConditions, typingConditions}
 use Rattle.report.specs.Calls.{Call, conditions, beforeTyping, answer, Sound, permittedCondition, roomConditions, configuring}
 use Rattle.report.specs.declared.Refusal.{Refusal}
@@ -106,7 +106,7 @@ module _ (T : Tables) where
   first-lengths = first-every 5 _ _
 
   first-form : firstOf (formConditions T) ≡ formCheck T
-  unfolding formCheck formConditions expressionsCheck entriesCheck relationsCheck comparisonsCheck queriesCheck untakenCheck
+  unfolding formCheck tablesCheck kindsCheck formConditions expressionsCheck entriesCheck relationsCheck comparisonsCheck queriesCheck untakenCheck
   first-form = simp (first-append, first-one, first-lengths, first-each, or-else-assoc)
 
   first-relation : (r : ℕ) → firstOf (relationConditions T r) ≡ relationCheck T r
@@ -140,18 +140,26 @@ first-fault : (t : Bool) (s : ℕ) (r : ℕ → Refusal) → s < 2 ^ 64
 first-fault true s r h = first-each 64 (bit s) r ∙ sym (first-item s r h)
 first-fault false s r h = first-each 64 (λ a. false) r ∙ ap (refuseAt r) (nothing-lowest (λ a. false) 64 (λ k l. refl))
 
-module _ (T : Tables) (narrow : (c q : ℕ) → q < queryCount T → faults T c q < 2 ^ 64) where
-  first-at : (q : ℕ) → q < queryCount T
-      → firstOf (concat (configurations T) (λ c. each 64 (λ a. reached T c q && bit (faults T c q) a) (λ a. refusal (ruleNumber (query (T .queries) q)) q a c)))
-      ≡ typingAt T q
-  first-at q h =
+module _ (T : Tables) (narrow : (c phase q : ℕ) → q < queryCount T → faults T c phase q < 2 ^ 64) where
+  -- one form in one phase
+  abbrev phaseConditions : ℕ → ℕ → List Condition
+  phaseConditions q phase =
+      concat (configurations T)
+      (λ c. each 64 (λ a. reached T c q && bit (faults T c phase q) a) (λ a. refusal (faultNumber phase (query (T .queries) q)) q a c))
+
+  first-at : (q phase : ℕ) → q < queryCount T → firstOf (phaseConditions q phase) ≡ phaseAt T q phase
+  first-at q phase h =
       first-concat (configurations T) _
-      ∙ ap (λ (check : ℕ → Verdict). firstFrom check (configurations T) 0) (fun-ext (λ c. first-fault (reached T c q) (faults T c q) _ (narrow c q h)))
-      ∙ sym (first-search _ (λ c. fails T c q) (configurations T) 0)
+      ∙ ap (λ (check : ℕ → Verdict). firstFrom check (configurations T) 0)
+      (fun-ext (λ c. first-fault (reached T c q) (faults T c phase q) _ (narrow c phase q h)))
+      ∙ sym (first-search _ (λ c. fails T c phase q) (configurations T) 0)
+
+  first-phases : (q : ℕ) → q < queryCount T → firstOf (concat 2 (phaseConditions q)) ≡ typingAt T q
+  first-phases q h = first-concat 2 (phaseConditions q) ∙ first-same _ (phaseAt T q) 2 0 (λ phase l n. first-at q phase h)
 
   first-typing : firstOf (typingConditions T) ≡ typingCheck T
   unfolding typingCheck typingConditions
-  first-typing = first-concat (queryCount T) _ ∙ first-same _ (typingAt T) (queryCount T) 0 (λ q l h. first-at q (omega arith))
+  first-typing = first-concat (queryCount T) _ ∙ first-same _ (typingAt T) (queryCount T) 0 (λ q l h. first-phases q (omega arith))
 
 -- ---- the answer of a call
 
@@ -260,7 +268,7 @@ accepted-none T call = (
 
 -- ---- "sound in form and schema"
 
--- 1 to 10 and 12 to 14 accept exactly the tables that are sound
+-- 1 to 10, 24 and 12 to 14 accept exactly the tables that are sound
 pub sound-accepted : (T : Tables) → Sound T ↔ (orElse (formCheck T) (modelAndSchemaCheck T) ≡ Verdict.Accepted)
 sound-accepted T = (λ s. sym early ∙ holds-none xs s, λ e. none-holds xs (early ∙ e))
   where

@@ -33,7 +33,7 @@ pub comparison-fits : (m e f : ℕ) (x : Comparison) → ComparisonLower m e f x
 comparison-fits m e f Comparison.Malformed l = absurd l
 comparison-fits m e f Comparison.Never l = refl
 comparison-fits m e f Comparison.Always l = refl
-comparison-fits m e f (Comparison.Constant o a b) l = ap₂ _&&_ (le-leb o 5 (l .0)) (lt-ltb a m (l .1))
+comparison-fits m e f (Comparison.Constant o a b k) l = ap₂ _&&_ (le-leb o 5 (l .0)) (lt-ltb a m (l .1))
 comparison-fits m e f (Comparison.Attribute o a b) l = ap₂ _&&_ (ap₂ _&&_ (le-leb o 5 (l .0)) (lt-ltb a m (l .1))) (lt-ltb b m (l .2))
 comparison-fits m e f (Comparison.Not a) l = lt-ltb a f l
 comparison-fits m e f (Comparison.And a b) l = lower-both l

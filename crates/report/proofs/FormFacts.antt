@@ -45,7 +45,7 @@ pub comparison-lower : (m e f : ℕ) (x : Comparison) → comparisonFits m e f x
 comparison-lower m e f Comparison.Malformed t = false≢true t
 comparison-lower m e f Comparison.Never t = tt
 comparison-lower m e f Comparison.Always t = tt
-comparison-lower m e f (Comparison.Constant o a b) t = let p = and-eq-true-iff _ _ .0 t in (leb-true o 5 (p .0), ltb-true a m (p .1))
+comparison-lower m e f (Comparison.Constant o a b k) t = let p = and-eq-true-iff _ _ .0 t in (leb-true o 5 (p .0), ltb-true a m (p .1))
 comparison-lower m e f (Comparison.Attribute o a b) t =
     let p = and-eq-true-iff _ (ltb b m) .0 t in
     let q = and-eq-true-iff _ _ .0 (p .0) in
@@ -63,7 +63,7 @@ pub comparison-below : (m e f : ℕ) (x : Comparison) → ComparisonLower m e f 
 comparison-below m e f Comparison.Malformed l = tt
 comparison-below m e f Comparison.Never l = tt
 comparison-below m e f Comparison.Always l = tt
-comparison-below m e f (Comparison.Constant o a b) l = tt
+comparison-below m e f (Comparison.Constant o a b k) l = tt
 comparison-below m e f (Comparison.Attribute o a b) l = tt
 comparison-below m e f (Comparison.Not a) l = l
 comparison-below m e f (Comparison.And a b) l = l

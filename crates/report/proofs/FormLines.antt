@@ -15,7 +15,7 @@ use borrow.Author.Tests.{eq-eqb, eqb-true, ne-eqb}
 use Rattle.sets.specs.Search.{countBelow}
 use Rattle.sets.specs.Lists.{concat}
 use Rattle.sets.proofs.SearchLaws.{count-lt}
-use Rattle.sets.proofs.ListLaws.{concat-same}
+use Rattle.sets.proofs.ListLaws.{table-same, concat-same}
 use Rattle.report.specs.Text.{line, numbersIn}
 use Rattle.report.specs.HarbourFile.{groups, linesOf, allAtMost, groupNumber, wordsOf, File, tablesFrom, atLeastOne, fileLines, fileOf}
 use Rattle.report.proofs.TextLaws.{both-true, every, line-numbers}
@@ -82,7 +82,7 @@ picked-append g (x ∷ xs) ys =
     ∙ sym (append-assoc (cond (eqb (groupNumber groups x) g) (numbersIn x) []) (picked g xs) (picked g ys))
 
 -- the lines of one group's forms
-module _ (h : ℕ) (small : h < 6) where
+module _ (h : ℕ) (small : h < length groups) where
   group-lines : (forms : List (List ℕ)) (rest : List ℕ)
       → linesOf (groupText h forms ++ rest) ≡ map (line (groupAt h .word)) forms ++ linesOf rest
   unfolding flatten
@@ -135,57 +135,72 @@ module _ (forms : ℕ → List (List ℕ)) where
   abbrev blocks : ℕ → List ℕ
   blocks n = concat n (λ g. map (λ ns. g) (forms g))
 
-  abbrev Earlier : ℕ → ℕ → Type 0
-  Earlier n k = (k < length (blocks n)) × (getD (blocks (suc n)) k 6 ≡ getD (blocks n) k 6)
+  -- and past the last no group's, as `groupIn` has it
+  abbrev blockAt : ℕ → ℕ → ℕ
+  blockAt n k = getD (blocks n) k (length groups)
 
-  last-block : (n k : ℕ) → k < length (blocks (suc n)) → Earlier n k ⊎ (getD (blocks (suc n)) k 6 ≡ n)
+  abbrev Earlier : ℕ → ℕ → Type 0
+  Earlier n k = (k < length (blocks n)) × (blockAt (suc n) k ≡ blockAt n k)
+
+  last-block : (n k : ℕ) → k < length (blocks (suc n)) → Earlier n k ⊎ (blockAt (suc n) k ≡ n)
   last-block n k h = go (decLt k (length (blocks n)))
     where
-      same : (l : List (List ℕ)) (i : ℕ) → i < length (map (λ ns. n) l) → getD (map (λ ns. n) l) i 6 ≡ n
+      same : (l : List (List ℕ)) (i : ℕ) → i < length (map (λ ns. n) l) → getD (map (λ ns. n) l) i (length groups) ≡ n
       same [] i h = absurd (not-suc-le-zero h)
       same (x ∷ l) zero h = refl
       same (x ∷ l) (suc i) h = same l i (le-of-suc-le-suc h)
 
-      go : Dec (k < length (blocks n)) → Earlier n k ⊎ (getD (blocks (suc n)) k 6 ≡ n)
-      go (yes l) = inl (l, List·getD-append (blocks n) (map (λ ns. n) (forms n)) 6 k l)
+      go : Dec (k < length (blocks n)) → Earlier n k ⊎ (blockAt (suc n) k ≡ n)
+      go (yes l) = inl (l, List·getD-append (blocks n) (map (λ ns. n) (forms n)) (length groups) k l)
       go (no l) =
           let e : k ≡ length (blocks n) + (k - length (blocks n)) = omega arith in
           inr
-          (ap (λ (x : ℕ). getD (blocks (suc n)) x 6) e
-          ∙ getD-append-add (blocks n) (map (λ ns. n) (forms n)) (k - length (blocks n)) 6
+          (ap (λ (x : ℕ). blockAt (suc n) x) e
+          ∙ getD-append-add (blocks n) (map (λ ns. n) (forms n)) (k - length (blocks n)) (length groups)
           ∙ same (forms n) (k - length (blocks n)) (omega (arith, length-append (blocks n) (map (λ ns. n) (forms n)))))
 
-  blocks-known : (n k : ℕ) → k < length (blocks n) → getD (blocks n) k 6 < n
+  blocks-known : (n k : ℕ) → k < length (blocks n) → blockAt n k < n
   blocks-known zero k h = absurd (not-suc-le-zero h)
   blocks-known (suc n) k h =
       ⊎-elim (λ (l : Earlier n k). let b = blocks-known n k (l .0) in omega (arith, l .1))
       (λ e. omega arith) (last-block n k h)
 
-  blocks-order : (n j k : ℕ) → j < k → k < length (blocks n) → getD (blocks n) j 6 ≤ getD (blocks n) k 6
+  blocks-order : (n j k : ℕ) → j < k → k < length (blocks n) → blockAt n j ≤ blockAt n k
   blocks-order zero j k l h = absurd (not-suc-le-zero h)
   blocks-order (suc n) j k l h =
       ⊎-elim
       (λ (b : Earlier n k).
-      let e = List·getD-append (blocks n) (map (λ ns. n) (forms n)) 6 j (omega (arith, b .0)) in
+      let e = List·getD-append (blocks n) (map (λ ns. n) (forms n)) (length groups) j (omega (arith, b .0)) in
       let i = blocks-order n j k l (b .0) in
       omega (arith, b .1))
-      (λ (e : getD (blocks (suc n)) k 6 ≡ n). let b = blocks-known (suc n) j (omega arith) in omega arith) (last-block n k h)
+      (λ (e : blockAt (suc n) k ≡ n). let b = blocks-known (suc n) j (omega arith) in omega arith) (last-block n k h)
 
 -- tables of the same words are the same
-pub tables-same : (u v : ℕ → List ℕ) → ((g : ℕ) → g < 6 → u g ≡ v g) → tablesFrom u ≡ tablesFrom v
-tables-same u v h = rw (h 0 (omega arith), h 1 (omega arith), h 2 (omega arith), h 3 (omega arith), h 4 (omega arith), h 5 (omega arith))
+pub tables-same : (u v : ℕ → List ℕ) → ((g : ℕ) → g < length groups → u g ≡ v g) → tablesFrom u ≡ tablesFrom v
+tables-same u v h = ap (λ (l : List (List ℕ)). tablesFrom (λ g. getD l g [])) (table-same (length groups) u v h)
 
 -- Forms that fit: as many numbers as the form has words, each at most 65535, no more than the range, and a head
 pub record Forms (forms : ℕ → List (List ℕ)) : Type 0 where
-  pub fit : (g : ℕ) → g < 6 → every (fits g) (forms g) ≡ true
-  pub range : (g : ℕ) → g < 6 → length (forms g) ≤ groupAt g .shape .most
+  pub fit : (g : ℕ) → g < length groups → every (fits g) (forms g) ≡ true
+  pub range : (g : ℕ) → g < length groups → length (forms g) ≤ groupAt g .shape .most
   pub head : 0 < length (forms 0)
+
+-- the text: the lines of all groups
+abbrev pub formsText : (ℕ → List (List ℕ)) → List ℕ
+formsText forms = concat (length groups) (λ g. groupText g (forms g))
 
 module _ (forms : ℕ → List (List ℕ)) (F : Forms forms) where
   abbrev linesTo : ℕ → List (List ℕ)
   linesTo n = concat n (λ g. map (line (groupAt g .word)) (forms g))
 
-  text-lines : (n : ℕ) → n ≤ 6 → (rest : List ℕ) → linesOf (concat n (λ g. groupText g (forms g)) ++ rest) ≡ linesTo n ++ linesOf rest
+  abbrev allLines : List (List ℕ)
+  allLines = linesTo (length groups)
+
+  -- the groups of all lines
+  abbrev allBlocks : List ℕ
+  allBlocks = blocks forms (length groups)
+
+  text-lines : (n : ℕ) → n ≤ length groups → (rest : List ℕ) → linesOf (concat n (λ g. groupText g (forms g)) ++ rest) ≡ linesTo n ++ linesOf rest
   text-lines zero h rest = refl
   text-lines (suc n) h rest =
       ap linesOf (append-assoc (concat n (λ g. groupText g (forms g))) (groupText n (forms n)) rest)
@@ -193,64 +208,69 @@ module _ (forms : ℕ → List (List ℕ)) (F : Forms forms) where
       ∙ ap (λ (l : List (List ℕ)). linesTo n ++ l) (group-lines n h (forms n) rest)
       ∙ sym (append-assoc (linesTo n) (map (line (groupAt n .word)) (forms n)) (linesOf rest))
 
-  line-groups : map (groupNumber groups) (linesTo 6) ≡ blocks forms 6
+  line-groups : map (groupNumber groups) allLines ≡ allBlocks
   line-groups =
-      map-concat (groupNumber groups) 6 (λ g. map (line (groupAt g .word)) (forms g))
-      ∙ concat-same 6 (λ g. map (groupNumber groups) (map (line (groupAt g .word)) (forms g))) (λ g. map (λ ns. g) (forms g))
+      map-concat (groupNumber groups) (length groups) (λ g. map (line (groupAt g .word)) (forms g))
+      ∙ concat-same (length groups) (λ g. map (groupNumber groups) (map (line (groupAt g .word)) (forms g))) (λ g. map (λ ns. g) (forms g))
       (λ g h. group-numbers g h (forms g) (F .fit g h))
 
-  picked-to : (g n : ℕ) → n ≤ 6 → picked g (linesTo n) ≡ concat n (λ h. cond (eqb h g) (flatten (forms h)) [])
+  picked-to : (g n : ℕ) → n ≤ length groups → picked g (linesTo n) ≡ concat n (λ h. cond (eqb h g) (flatten (forms h)) [])
   picked-to g zero h = refl
   picked-to g (suc n) h =
       picked-append g (linesTo n) (map (line (groupAt n .word)) (forms n))
       ∙ ap₂ _++_ (picked-to g n (omega arith)) (group-picked n h g (forms n) (F .fit n h))
 
-  words-back : (g : ℕ) → g < 6 → wordsOf (groupIn (linesTo 6)) (linesTo 6) g ≡ flatten (forms g)
+  words-back : (g : ℕ) → g < length groups → wordsOf (groupIn allLines) allLines g ≡ flatten (forms g)
   unfolding one
-  words-back g h = words-picked g (linesTo 6) ∙ picked-to g 6 (le-refl 6) ∙ concat-one (λ h. flatten (forms h)) g 6 h
+  words-back g h =
+      words-picked g allLines ∙ picked-to g (length groups) (le-refl (length groups)) ∙ concat-one (λ h. flatten (forms h)) g (length groups) h
 
-  group-count : (g : ℕ) → g < 6 → countBelow (λ k. eqb (groupIn (linesTo 6) k) g) (length (linesTo 6)) ≤ groupAt g .shape .most
+  group-count : (g : ℕ) → g < length groups → countBelow (λ k. eqb (groupIn allLines k) g) (length allLines) ≤ groupAt g .shape .most
   group-count g h =
       le-of-mul-le-mul-right {k = groupAt g .shape .width}
       (le-trans
-      (le-of-eq (sym (words-count (linesTo 6) g h) ∙ ap length (words-back g h) ∙ forms-length g h (forms g) (F .fit g h)))
+      (le-of-eq (sym (words-count allLines g h) ∙ ap length (words-back g h) ∙ forms-length g h (forms g) (F .fit g h)))
       (mul-le-mul-right (groupAt g .shape .width) (F .range g h)))
       (group-wide g h)
 
-  group-at : (k : ℕ) → groupIn (linesTo 6) k ≡ getD (blocks forms 6) k 6
-  group-at k = ap (λ (l : List ℕ). getD l k 6) line-groups
+  group-at : (k : ℕ) → groupIn allLines k ≡ blockAt forms (length groups) k
+  group-at k = ap (λ (l : List ℕ). getD l k (length groups)) line-groups
 
-  in-blocks : (k : ℕ) → k < length (linesTo 6) → k < length (blocks forms 6)
-  in-blocks k h = subst (λ (n : ℕ). k < n) (sym (length-map (linesTo 6) (groupNumber groups)) ∙ ap length line-groups) h
+  in-blocks : (k : ℕ) → k < length allLines → k < length allBlocks
+  in-blocks k h = subst (λ (n : ℕ). k < n) (sym (length-map allLines (groupNumber groups)) ∙ ap length line-groups) h
 
   -- the first line is the head
-  first-head : groupIn (linesTo 6) 0 ≡ 0
-  first-head = group-at 0 ∙ ap (λ (l : List ℕ). getD l 0 6) (concat-head 5 (λ g. map (λ ns. g) (forms g))) ∙ go (forms 0) (F .head) _
+  first-head : groupIn allLines 0 ≡ 0
+  first-head =
+      group-at 0
+      ∙ ap (λ (l : List ℕ). getD l 0 (length groups)) (concat-head (length groups - 1) (λ g. map (λ ns. g) (forms g)))
+      ∙ go (forms 0) (F .head) _
     where
-      go : (l : List (List ℕ)) → 0 < length l → (rest : List ℕ) → getD (map (λ ns. 0) l ++ rest) 0 6 ≡ 0
+      go : (l : List (List ℕ)) → 0 < length l → (rest : List ℕ) → getD (map (λ ns. 0) l ++ rest) 0 (length groups) ≡ 0
       go [] h rest = absurd (not-suc-le-zero h)
       go (x ∷ l) h rest = refl
 
-  good : (k : ℕ) → k < length (linesTo 6) → Good (groupIn (linesTo 6)) k
+  good : (k : ℕ) → k < length allLines → Good (groupIn allLines) k
   good k h =
       let b = in-blocks k h in
-      let known : groupIn (linesTo 6) k < 6 = subst (λ (x : ℕ). x < 6) (sym (group-at k)) (blocks-known forms 6 k b) in
+      let known : groupIn allLines k < length groups =
+      subst (λ (x : ℕ). x < length groups) (sym (group-at k)) (blocks-known forms (length groups) k b) in
       record {
         known = known;
-        order = λ j l. subst₂ (λ (x y : ℕ). x ≤ y) (sym (group-at j)) (sym (group-at k)) (blocks-order forms 6 j k l b);
+        order = λ j l. subst₂ (λ (x y : ℕ). x ≤ y) (sym (group-at j)) (sym (group-at k)) (blocks-order forms (length groups) j k l b);
         room =
             le-trans
-            (count-lt (λ j. eqb (groupIn (linesTo 6) j) (groupIn (linesTo 6) k)) k (length (linesTo 6)) h (eq-eqb (groupIn (linesTo 6) k) _ refl))
-            (group-count (groupIn (linesTo 6) k) known);
-        head = λ e. ap (groupIn (linesTo 6)) e ∙ first-head;
+            (count-lt (λ j. eqb (groupIn allLines j) (groupIn allLines k)) k (length allLines) h (eq-eqb (groupIn allLines k) _ refl))
+            (group-count (groupIn allLines k) known);
+        head = λ e. ap (groupIn allLines) e ∙ first-head;
       }
 
-  lines-some : (k : ℕ) → k < atLeastOne (length (linesTo 6)) → k < length (linesTo 6)
-  lines-some k h = go (length (linesTo 6)) some h
+  lines-some : (k : ℕ) → k < atLeastOne (length allLines) → k < length allLines
+  lines-some k h = go (length allLines) some h
     where
-      some : 0 < length (linesTo 6)
+      some : 0 < length allLines
       some =
-          subst (λ (l : List (List ℕ)). 0 < length l) (sym (concat-head 5 (λ g. map (line (groupAt g .word)) (forms g))))
+          subst (λ (l : List (List ℕ)). 0 < length l) (sym (concat-head (length groups - 1) (λ g. map (line (groupAt g .word)) (forms g))))
           (subst (λ (n : ℕ). 0 < n) (sym (length-append (map (line (groupAt 0 .word)) (forms 0)) _))
           (let e = length-map (forms 0) (line (groupAt 0 .word)) in let f = F .head in omega arith))
 
@@ -259,11 +279,10 @@ module _ (forms : ℕ → List (List ℕ)) (F : Forms forms) where
       go (suc n) p q = q
 
   -- a file made of forms that fit is read, and holds their numbers
-  pub forms-read : length (concat 6 (λ g. groupText g (forms g))) ≤ 65536
-      → fileOf (concat 6 (λ g. groupText g (forms g))) ≡ File.holds (tablesFrom (λ g. flatten (forms g)))
+  pub forms-read : length (formsText forms) ≤ 65536 → fileOf (formsText forms) ≡ File.holds (tablesFrom (λ g. flatten (forms g)))
   forms-read short =
-      file-short (concat 6 (λ g. groupText g (forms g))) short
-      ∙ ap fileLines (ap linesOf (sym (append-nil (concat 6 (λ g. groupText g (forms g))))) ∙ text-lines 6 (le-refl 6) []
-      ∙ ap (λ (l : List (List ℕ)). linesTo 6 ++ l) lines-none ∙ append-nil (linesTo 6))
-      ∙ file-holds (linesTo 6) (tablesFrom (λ g. flatten (forms g))) .1
-      (λ k h. good-iff (groupIn (linesTo 6)) k .1 (good k (lines-some k h)), tables-same _ (λ g. flatten (forms g)) words-back)
+      file-short (formsText forms) short
+      ∙ ap fileLines (ap linesOf (sym (append-nil (formsText forms))) ∙ text-lines (length groups) (le-refl (length groups)) []
+      ∙ ap (λ (l : List (List ℕ)). allLines ++ l) lines-none ∙ append-nil allLines)
+      ∙ file-holds allLines (tablesFrom (λ g. flatten (forms g))) .1
+      (λ k h. good-iff (groupIn allLines) k .1 (good k (lines-some k h)), tables-same _ (λ g. flatten (forms g)) words-back)

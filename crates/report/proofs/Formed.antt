@@ -11,8 +11,9 @@ use Rattle.sets.specs.Search.{lowest}
 use Rattle.sets.proofs.SearchLaws.{lowest-nothing, nothing-lowest}
 use Rattle.report.specs.Tables.{Tables, Shape, shapeOf, shapes, words, expressionCount, entryCount, relationCount, comparisonCount, queryCount}
 use Rattle.report.specs.Verdicts.{refusal, refuseIf, refuseAt}
-use Rattle.report.specs.FormChecks.{lengthFits, expressionOk, entryOk, relationOk, comparisonOk, queryOk, takenBelow, listsEnd}
-use Rattle.report.specs.FormChecks.{lengthsCheck, expressionsCheck, entriesCheck, relationsCheck, comparisonsCheck, queriesCheck, untakenCheck, formCheck}
+use Rattle.report.specs.FormChecks.{lengthFits, expressionOk, entryOk, relationOk, comparisonOk, queryOk, kindOk, constantOk, takenBelow, listsEnd}
+use Rattle.report.specs.FormChecks.{lengthsCheck, expressionsCheck, entriesCheck, relationsCheck, comparisonsCheck, queriesCheck, untakenCheck, tablesCheck}
+use Rattle.report.specs.FormChecks.{kindTableCheck, constantsCheck, kindsCheck, formCheck}
 use Rattle.report.specs.Formed.{Sized, Formed}
 use Rattle.report.specs.declared.Refusal.{Refusal}
 use Rattle.report.specs.declared.Verdict.{Verdict}
@@ -56,9 +57,12 @@ module _ (T : Tables) where
 
   -- the form checks accept such tables alone
   pub formed : formCheck T ≡ Verdict.Accepted → Formed T
-  unfolding formCheck expressionsCheck entriesCheck relationsCheck comparisonsCheck queriesCheck untakenCheck
+  unfolding formCheck tablesCheck kindsCheck expressionsCheck entriesCheck relationsCheck comparisonsCheck queriesCheck untakenCheck
   formed e =
-      let head = both-accepted _ _ e in
+      let all = both-accepted (tablesCheck T) _ e in
+      let kinds = both-accepted (kindTableCheck (T .attributes) (T .kinds)) (constantsCheck (T .comparisons)) (all .1) in
+      let kindTable = both-accepted _ _ (kinds .0) in
+      let head = both-accepted _ _ (all .0) in
       let limits = both-accepted _ _ (head .0) in
       let t2 = both-accepted _ _ (head .1) in
       let t3 = both-accepted _ _ (t2 .1) in
@@ -85,13 +89,17 @@ module _ (T : Tables) where
         queriesOk = all-fit _ (queryOk T) (queryCount T) (t8 .0);
         allTaken = all-fit _ (takenBelow (T .queries) (queryCount T)) (queryCount T - 1) (t9 .0);
         allUsed = ltb-false (listsEnd T) (entryCount T) (if-accepted _ _ (t9 .1));
+        kinded = eqb-true (length (T .kinds)) (T .attributes) (not-false _ (if-accepted _ _ (kindTable .0)));
+        kindsOk = all-fit _ (kindOk T) (length (T .kinds)) (kindTable .1);
+        constantsOk = all-fit _ (constantOk T) (comparisonCount T) (kinds .1);
       }
 
   -- and all of them
   pub formed-accepted : Formed T → formCheck T ≡ Verdict.Accepted
-  unfolding formCheck expressionsCheck entriesCheck relationsCheck comparisonsCheck queriesCheck untakenCheck
+  unfolding formCheck tablesCheck kindsCheck expressionsCheck entriesCheck relationsCheck comparisonsCheck queriesCheck untakenCheck
   formed-accepted F =
       accepted-both
+      (accepted-both
       (accepted-both (accepted-if _ (le-ltb 10 (T .features) (F .few))) (accepted-if _ (le-ltb 64 (T .attributes) (F .narrow))))
       (accepted-both (fit-lengths lengths)
       (accepted-both (fit-all _ (expressionOk T) (expressionCount T) (F .expressionsOk))
@@ -101,7 +109,11 @@ module _ (T : Tables) where
       (accepted-both (fit-all _ (comparisonOk T) (comparisonCount T) (F .comparisonsOk))
       (accepted-both (fit-all _ (queryOk T) (queryCount T) (F .queriesOk))
       (accepted-both (fit-all _ (takenBelow (T .queries) (queryCount T)) (queryCount T - 1) (F .allTaken))
-      (accepted-if _ (le-ltb (listsEnd T) (entryCount T) (F .allUsed)))))))))))
+      (accepted-if _ (le-ltb (listsEnd T) (entryCount T) (F .allUsed))))))))))))
+      (accepted-both
+      (accepted-both (accepted-if _ (ap not (eq-eqb (length (T .kinds)) (T .attributes) (F .kinded))))
+      (fit-all _ (kindOk T) (length (T .kinds)) (F .kindsOk)))
+      (fit-all _ (constantOk T) (comparisonCount T) (F .constantsOk)))
     where
       lengths : (t : ℕ) → t < 5 → tableFits T t ≡ true
       lengths zero h = sized-fits (F .sized0)

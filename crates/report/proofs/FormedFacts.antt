@@ -1,4 +1,4 @@
--- What holds of tables that checks 1 to 10 accept: how many forms there are, what each is, where the lists lie, what is whose operand.
+-- What holds of tables that checks 1 to 10 and 24 accept: how many forms there are, what each is, where the lists lie, what is whose operand.
 use Prim.Native.Nat.{ℕ, zero, suc, _+_, _*_, _<_, _≤_}
 use mathlib.Core.Path.{_≡_, sym, _∙_}
 use mathlib.Core.Bool.{true, and-eq-true-iff, false≢true}

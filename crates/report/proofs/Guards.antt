@@ -2,13 +2,14 @@
 -- that are not, forms that fail and that do not, reports that pass and that break a rule.
 use Prim.Native.Nat.{ℕ, zero, suc}
 use mathlib.Core.Path.{_≡_, refl, ap}
-use mathlib.Core.Bool.{true, false}
+use mathlib.Core.Bool.{true, false, cond}
+use lib.Dec.{eqb}
 use mathlib.Core.List.{[], _∷_}
 use mathlib.Core.Option.{none, some}
-use Rattle.report.specs.Tables.{Tables, tablesOf}
+use Rattle.report.specs.Tables.{Tables, tablesOf, kindOf}
 use Rattle.report.specs.Expressions.{permitted}
 use Rattle.report.specs.Typing.{present, reached, fails}
-use Rattle.report.specs.PlainAlgebra.{PlainComparison, PlainQuery, Schema, passes, columns}
+use Rattle.report.specs.PlainAlgebra.{PlainComparison, PlainQuery, Schema, Kinds, passes, columns}
 use Rattle.report.specs.ConfiguredReport.{plainComparisonAt, keptAttributes, plainQueryAt, configuredReport, configuredSchema}
 use Rattle.report.specs.Verdicts.{refusal}
 use Rattle.report.specs.Checks.{isTypingFault}
@@ -29,18 +30,23 @@ abbrev schema : Schema
 schema zero = some 3
 schema (suc r) = none
 
+-- attribute 2 is a count, all others are moments
+abbrev kinds : Kinds
+kinds a = cond (eqb a 2) 1 0
+
 -- one that passes, and its columns
-pub plain-passes : (passes schema (PlainQuery.project (1 ∷ []) (PlainQuery.select (PlainComparison.constant 2 0 7) (PlainQuery.relation 0))) ≡ true)
-    × (columns schema (PlainQuery.project (1 ∷ []) (PlainQuery.select (PlainComparison.constant 2 0 7) (PlainQuery.relation 0))) ≡ 2)
+pub plain-passes : (passes kinds schema (PlainQuery.project (1 ∷ []) (PlainQuery.select (PlainComparison.constant 2 0 7 0) (PlainQuery.relation 0))) ≡ true)
+    × (columns schema (PlainQuery.project (1 ∷ []) (PlainQuery.select (PlainComparison.constant 2 0 7 0) (PlainQuery.relation 0))) ≡ 2)
 plain-passes = (refl, refl)
 
--- one that breaks a rule in each of the five ways
-pub plain-breaks : (passes schema (PlainQuery.relation 1) ≡ false)
-    × (passes schema (PlainQuery.select (PlainComparison.attribute 0 1 2) (PlainQuery.relation 0)) ≡ false)
-    × (passes schema (PlainQuery.project (2 ∷ []) (PlainQuery.relation 0)) ≡ false)
-    × (passes schema (PlainQuery.product (PlainQuery.relation 0) (PlainQuery.relation 0)) ≡ false)
-    × (passes schema (PlainQuery.union PlainQuery.empty (PlainQuery.relation 0)) ≡ false)
-plain-breaks = (refl, refl, refl, refl, refl)
+-- one that breaks a rule in each of the six ways
+pub plain-breaks : (passes kinds schema (PlainQuery.relation 1) ≡ false)
+    × (passes kinds schema (PlainQuery.select (PlainComparison.attribute 0 1 2) (PlainQuery.relation 0)) ≡ false)
+    × (passes kinds schema (PlainQuery.select (PlainComparison.constant 2 0 7 1) (PlainQuery.relation 0)) ≡ false)
+    × (passes kinds schema (PlainQuery.project (2 ∷ []) (PlainQuery.relation 0)) ≡ false)
+    × (passes kinds schema (PlainQuery.product (PlainQuery.relation 0) (PlainQuery.relation 0)) ≡ false)
+    × (passes kinds schema (PlainQuery.union PlainQuery.empty (PlainQuery.relation 0)) ≡ false)
+plain-breaks = (refl, refl, refl, refl, refl, refl)
 
 -- ---- H1: sound, and accepted; so its report passes at every permitted configuration, and no call refuses it for a typing fault
 
@@ -57,9 +63,9 @@ pub h1-permitted : (permitted (h1 2) 3 ≡ true) × (permitted (h1 2) 4 ≡ fals
 unfolding computed
 h1-permitted = (refl, refl)
 
-pub h1-passes : (c : ℕ) → permitted (h1 2) c ≡ true → passes (configuredSchema (h1 2) c) (configuredReport (h1 2) c) ≡ true
+pub h1-passes : (c : ℕ) → permitted (h1 2) c ≡ true → passes (kindOf (h1 2)) (configuredSchema (h1 2) c) (configuredReport (h1 2) c) ≡ true
 h1-passes c p =
-    report-passes (sound-formed (h1 2) h1-sound) c p .1 (λ q h. accepted-exactly (h1 2) h1-sound .0 h1-accepted c q (permitted-within (h1 2) c p) h)
+    report-passes (sound-formed (h1 2) h1-sound) c p .1 (λ q phase. accepted-exactly (h1 2) h1-sound .0 h1-accepted c q phase (permitted-within (h1 2) c p))
 
 pub h1-never : (c r1 r2 r3 r4 : ℕ) → isTypingFault (answer (h1 2) (configuring c r1 r2 r3 r4)) ≡ false
 h1-never c r1 r2 r3 r4 = never-refused (h1 2) h1-sound (configuring-own c r1 r2 r3 r4) (configure-gets (h1 2) h1-sound c r1 r2 r3 r4) h1-passes
@@ -89,12 +95,12 @@ h2-named = refused-named h2 h2-sound (checking-own 1024) (check-gets h2 h2-sound
 pub h2-configure : (c r1 r2 r3 r4 : ℕ) → isTypingFault (answer h2 (configuring c r1 r2 r3 r4)) ≡ true
 h2-configure c r1 r2 r3 r4 = refused-broken h2 h2-sound (configuring-own c r1 r2 r3 r4) (configure-gets h2 h2-sound c r1 r2 r3 r4) .1 h2-broken
 
-pub h2-fails : (fails h2 1 1 ≡ true) × (fails h2 0 1 ≡ false)
+pub h2-fails : (fails h2 1 0 1 ≡ true) × (fails h2 0 0 1 ≡ false)
 unfolding computed
 h2-fails = (refl, refl)
 
 -- computed as a tree, without the theorem
-pub h2-tree : (passes (configuredSchema h2 1) (configuredReport h2 1) ≡ false) × (passes (configuredSchema h2 0) (configuredReport h2 0) ≡ true)
+pub h2-tree : (passes (kindOf h2) (configuredSchema h2 1) (configuredReport h2 1) ≡ false) × (passes (kindOf h2) (configuredSchema h2 0) (configuredReport h2 0) ≡ true)
 unfolding computed plainComparisonAt keptAttributes plainQueryAt
 h2-tree = (refl, refl)
 
@@ -125,7 +131,7 @@ untaken-absent = (refl, refl, refl)
 
 -- the same report without the choice is refused, at 0
 abbrev unguarded : Tables
-unguarded = tablesOf 1 2 0 (1 ∷ 0 ∷ 0 ∷ 2 ∷ 0 ∷ 0 ∷ []) (0 ∷ 0 ∷ []) (1 ∷ 1 ∷ []) [] (1 ∷ 0 ∷ 0 ∷ 0 ∷ [])
+unguarded = tablesOf 1 2 0 (1 ∷ 0 ∷ 0 ∷ 2 ∷ 0 ∷ 0 ∷ []) (0 ∷ 0 ∷ []) (1 ∷ 1 ∷ []) [] (1 ∷ 0 ∷ 0 ∷ 0 ∷ []) (0 ∷ 0 ∷ [])
 
 pub unguarded-refused : answer unguarded (checking 1024) ≡ Verdict.Refused (refusal 15 0 0 0)
 unfolding computed

@@ -33,7 +33,7 @@ module _ {e a b : ℕ} where
   choice-comparison Comparison.Malformed h = absurd (false≢true (ap isChoice h))
   choice-comparison Comparison.Never h = absurd (false≢true (ap isChoice h))
   choice-comparison Comparison.Always h = absurd (false≢true (ap isChoice h))
-  choice-comparison (Comparison.Constant o i j) h = absurd (false≢true (ap isChoice h))
+  choice-comparison (Comparison.Constant o i j k) h = absurd (false≢true (ap isChoice h))
   choice-comparison (Comparison.Attribute o i j) h = absurd (false≢true (ap isChoice h))
   choice-comparison (Comparison.Not i) h = absurd (false≢true (ap isChoice h))
   choice-comparison (Comparison.And i j) h = absurd (false≢true (ap isChoice h))

@@ -3,30 +3,31 @@
 use Prim.Native.Nat.{ℕ, zero, suc, _-_, _<_}
 use mathlib.Core.Path.{_≡_, refl, sym, ap, _∙_}
 use mathlib.Core.Bool.{Bool, true, false, _||_, not, and-eq-true-iff, false≢true}
-use mathlib.Core.Logic.{_↔_, ⊎-elim}
+use mathlib.Core.Logic.{_↔_, _≢_, ⊎-elim}
 use native.Mathlib.Nat.{eq-or-lt-of-le}
 use mathlib.Core.List.{List, [], _∷_}
 use native.Mathlib.Omega.{arith}
-use borrow.Author.Tests.{eqb-true, eq-eqb, not-true, not-false}
+use borrow.Author.Tests.{eqb-true, eq-eqb, ne-eqb, not-true, not-false}
 use lib.ListN.{length, getD}
 use lib.Dec.{leb, ltb, eqb}
 use Rattle.sets.specs.declared.Found.{Found}
 use Rattle.sets.specs.Search.{seek, lowest}
-use Rattle.report.specs.Tables.{Tables, shapes, shapeOf, words, entryAttribute, relationLength, relationStart}
+use Rattle.report.specs.Tables.{Tables, kindOf, shapes, shapeOf, words, entryAttribute, relationLength, relationStart}
 use Rattle.report.specs.Tables.{expressionCount, entryCount, relationCount, comparisonCount, queryCount}
 use Rattle.report.specs.Expressions.{configurations, permitted}
-use Rattle.report.specs.Typing.{reached, fails}
+use Rattle.report.specs.Typing.{reached, clashesIn, faults, fails}
 use Rattle.report.specs.PlainAlgebra.{passes}
 use Rattle.report.specs.ConfiguredReport.{plainQueryAt, configuredReport, configuredSchema}
 use Rattle.report.specs.Verdicts.{refusal, refuseIf, refuseAt, orElse, firstFrom, Condition, _gives_, firstOf}
-use Rattle.report.specs.FormChecks.{lengthFits, expressionOk, entryOk, relationOk, comparisonOk, queryOk, takenBelow, listsEnd}
-use Rattle.report.specs.FormChecks.{lengthCheck, lengthsCheck, expressionsCheck, entriesCheck, relationsCheck, comparisonsCheck, queriesCheck, untakenCheck, formCheck}
+use Rattle.report.specs.FormChecks.{lengthFits, expressionOk, entryOk, relationOk, comparisonOk, queryOk, kindOk, constantOk, takenBelow, listsEnd}
+use Rattle.report.specs.FormChecks.{lengthCheck, lengthsCheck, expressionsCheck, entriesCheck, relationsCheck, comparisonsCheck, queriesCheck, untakenCheck, tablesCheck, kindsCheck, formCheck}
 use Rattle.report.specs.Formed.{Formed}
 use Rattle.report.specs.Checks.{somewhere, absentEverywhere, apartEverywhere, modelCheck, relationCheck, schemaCheck, modelAndSchemaCheck, typingCheck}
-use Rattle.report.specs.Checks.{typingNumbers, isOneOf, isEarly, isOfTyping, isLate, isTypingFault}
+use Rattle.report.specs.Checks.{ruleNumber, faultNumber, typingNumbers, isOneOf, isEarly, isOfTyping, isLate, isTypingFault}
 use Rattle.report.specs.Calls.{Call, beforeTyping, answer, Sound, GetsAsFarAsTyping, allGive, OwnNumbers, checking, configuring}
 use Rattle.report.specs.TypingFaults.{Broken, TypingFault, Breaks, Named}
 use Rattle.report.specs.declared.Refusal.{Refusal}
+use Rattle.report.specs.declared.Query.{Query}
 use Rattle.report.specs.declared.Verdict.{Verdict}
 use Rattle.report.proofs.VerdictLaws.{accepted-not-refused, both-accepted, accepted-both, then-next, then-refused, if-accepted, accepted-if, or-else-accepted}
 use Rattle.report.proofs.FirstFault.{first-none, first-one, sound-accepted}
@@ -34,13 +35,14 @@ use Rattle.report.proofs.TextLaws.{every}
 use Rattle.report.proofs.PassingOn.{or-either}
 use Rattle.report.proofs.Formed.{formed}
 use Rattle.report.proofs.LeadLaws.{formAt}
-use Rattle.report.proofs.TreeLaws.{operandsPass, operands-pass, reached-permitted, fails-where, reached-passes, lowest-breaks, report-passes, reached-part}
+use Rattle.report.proofs.TreeLaws.{operandsPass, operands-pass, reached-permitted, fails-where, holds-where, reached-passes, compared-where, lowest-breaks, report-passes}
+use Rattle.report.proofs.TreeLaws.{reached-part}
 use Rattle.report.proofs.TypingLaws.{permitted-within, fails-permitted, typing-accepted, typing-passes, typing-refused, fault-number, fault-item}
 
 -- ---- "sound in form and schema", and "gets as far as typing"
 
 module _ (T : Tables) where
-  -- what 1 to 10, 12 and 13 to 14 accept is sound
+  -- what 1 to 10, 24, 12 and 13 to 14 accept is sound
   pub sound-checks : Sound T ↔ ((formCheck T ≡ Verdict.Accepted) × (modelCheck T ≡ Verdict.Accepted) × (schemaCheck T ≡ Verdict.Accepted))
   sound-checks = (
     λ s.
@@ -131,9 +133,10 @@ module _ (T : Tables) where
       (λ t. numbered-if (not (lengthFits (getD shapes t (shapeOf 1 0 0)) (length (getD (words T) t [])))) (refusal 2 t 0 0) refl)
 
   form-numbered : Numbered isEarly (formCheck T)
-  unfolding formCheck expressionsCheck entriesCheck relationsCheck comparisonsCheck queriesCheck untakenCheck
+  unfolding formCheck tablesCheck kindsCheck expressionsCheck entriesCheck relationsCheck comparisonsCheck queriesCheck untakenCheck
   form-numbered =
-      numbered-or (numbered-or (numbered-if (ltb 10 (T .features)) (refusal 1 0 0 0) refl) (numbered-if (ltb 64 (T .attributes)) (refusal 1 1 0 0) refl))
+      numbered-or
+      (numbered-or (numbered-or (numbered-if (ltb 10 (T .features)) (refusal 1 0 0 0) refl) (numbered-if (ltb 64 (T .attributes)) (refusal 1 1 0 0) refl))
       (numbered-or lengths-numbered
       (numbered-or (forms-numbered 3 (λ f. not (expressionOk T f)) (expressionCount T) refl)
       (numbered-or (numbered-if (leb (expressionCount T) (T .model)) (refusal 4 0 0 0) refl)
@@ -142,7 +145,11 @@ module _ (T : Tables) where
       (numbered-or (forms-numbered 7 (λ f. not (comparisonOk T f)) (comparisonCount T) refl)
       (numbered-or (forms-numbered 8 (λ q. not (queryOk T q)) (queryCount T) refl)
       (numbered-or (forms-numbered 9 (λ q. not (takenBelow (T .queries) (queryCount T) q)) (queryCount T - 1) refl)
-      (numbered-if (ltb (listsEnd T) (entryCount T)) (refusal 10 (listsEnd T) 0 0) refl)))))))))
+      (numbered-if (ltb (listsEnd T) (entryCount T)) (refusal 10 (listsEnd T) 0 0) refl))))))))))
+      (numbered-or
+      (numbered-or (numbered-if (not (eqb (length (T .kinds)) (T .attributes))) (refusal 24 0 0 0) refl)
+      (forms-numbered 24 (λ a. not (kindOk T a)) (length (T .kinds)) refl))
+      (forms-numbered 24 (λ f. not (constantOk T f)) (comparisonCount T) refl))
 
   relation-numbered : (r : ℕ) → Numbered isEarly (relationCheck T r)
   relation-numbered r =
@@ -244,47 +251,151 @@ module _ (T : Tables) where
 
   -- so it accepts them exactly where no form fails at any configuration
   pub accepted-exactly : Sound T
-      → (answer T (checking 1024) ≡ Verdict.Accepted) ↔ ((c q : ℕ) → c < configurations T → q < queryCount T → fails T c q ≡ false)
+      → (answer T (checking 1024) ≡ Verdict.Accepted)
+      ↔ ((c q phase : ℕ) → c < configurations T → q < queryCount T → phase < 2 → fails T c phase q ≡ false)
   accepted-exactly s = let e = check-typing s in (λ a. typing-accepted T .0 (sym e ∙ a), λ f. e ∙ typing-accepted T .1 f)
 
 -- ---- refused for a typing fault
 
+-- the second phase finds nothing in a form that is no select
+other-phase : (T : Tables) (c q : ℕ) → ruleNumber (formAt T q) ≢ 16 → fails T c 1 q ≡ false
+unfolding faults
+other-phase T c q n = holds-where T c q 1 .1 (λ r. go (formAt T q) n)
+  where
+    go : (y : Query) → ruleNumber y ≢ 16 → clashesIn T c y ≡ 0
+    go Query.Malformed n = refl
+    go Query.Empty n = refl
+    go (Query.Relation a) n = refl
+    go (Query.Select a b) n = absurd (n refl)
+    go (Query.Project a b) n = refl
+    go (Query.Choice a b d) n = refl
+    go (Query.Product a b) n = refl
+    go (Query.Union a b) n = refl
+    go (Query.Intersection a b) n = refl
+
+-- the number of a rule is below 25
+pub rule-below : (y : Query) → ruleNumber y ≢ 25
+rule-below Query.Malformed e = omega arith
+rule-below Query.Empty e = omega arith
+rule-below (Query.Relation a) e = omega arith
+rule-below (Query.Select a b) e = omega arith
+rule-below (Query.Project a b) e = omega arith
+rule-below (Query.Choice a b d) e = omega arith
+rule-below (Query.Product a b) e = omega arith
+rule-below (Query.Union a b) e = omega arith
+rule-below (Query.Intersection a b) e = omega arith
+
+-- 16 is of the first phase of a select
+first-number : (phase : ℕ) (y : Query) → faultNumber phase y ≡ 16 → (phase ≡ 0) × (a : ℕ) × (b : ℕ) × (y ≡ Query.Select a b)
+first-number zero Query.Malformed e = absurd (omega arith)
+first-number zero Query.Empty e = absurd (omega arith)
+first-number zero (Query.Relation a) e = absurd (omega arith)
+first-number zero (Query.Select a b) e = (refl, a, b, refl)
+first-number zero (Query.Project a b) e = absurd (omega arith)
+first-number zero (Query.Choice a b d) e = absurd (omega arith)
+first-number zero (Query.Product a b) e = absurd (omega arith)
+first-number zero (Query.Union a b) e = absurd (omega arith)
+first-number zero (Query.Intersection a b) e = absurd (omega arith)
+first-number (suc phase) y e = absurd (omega arith)
+
+-- 25 is of a later phase, and in that a select alone has faults
+clash-select : (T : Tables) (phase c q : ℕ) → faultNumber phase (formAt T q) ≡ 25 → faults T c phase q ≢ 0
+    → (0 < phase) × (a : ℕ) × (b : ℕ) × (formAt T q ≡ Query.Select a b)
+unfolding faults
+clash-select T zero c q e n = absurd (rule-below (formAt T q) e)
+clash-select T (suc zero) c q e n = go (formAt T q) refl n
+  where
+    go : (y : Query) → formAt T q ≡ y → clashesIn T c y ≢ 0 → (0 < 1) × (a : ℕ) × (b : ℕ) × (formAt T q ≡ Query.Select a b)
+    go Query.Malformed p n = absurd (n refl)
+    go Query.Empty p n = absurd (n refl)
+    go (Query.Relation a) p n = absurd (n refl)
+    go (Query.Select a b) p n = (omega arith, a, b, p)
+    go (Query.Project a b) p n = absurd (n refl)
+    go (Query.Choice a b d) p n = absurd (n refl)
+    go (Query.Product a b) p n = absurd (n refl)
+    go (Query.Union a b) p n = absurd (n refl)
+    go (Query.Intersection a b) p n = absurd (n refl)
+clash-select T (suc (suc phase)) c q e n = absurd (n refl)
+
 module _ {T : Tables} (F : Formed T) where
   -- where a form fails the report breaks a rule
-  fails-breaks : (c q : ℕ) → q < queryCount T → fails T c q ≡ true → passes (configuredSchema T c) (configuredReport T c) ≡ false
-  fails-breaks c q h e = go (passes (configuredSchema T c) (configuredReport T c)) refl
+  report-breaks : (c phase q : ℕ) → q < queryCount T → phase < 2 → fails T c phase q ≡ true
+      → passes (kindOf T) (configuredSchema T c) (configuredReport T c) ≡ false
+  report-breaks c phase q h n e = go (passes (kindOf T) (configuredSchema T c) (configuredReport T c)) refl
     where
-      go : (t : Bool) → passes (configuredSchema T c) (configuredReport T c) ≡ t → t ≡ false
-      go true p = absurd (false≢true (sym (report-passes F c (fails-permitted T c q e) .0 p q h) ∙ e))
+      go : (t : Bool) → passes (kindOf T) (configuredSchema T c) (configuredReport T c) ≡ t → t ≡ false
+      go true p = absurd (false≢true (sym (report-passes F c (fails-permitted T c phase q e) .0 p q phase h n) ∙ e))
       go false p = refl
 
   fault-breaks : (r : Refusal) → TypingFault T r → Breaks T r
   fault-breaks r f = record {
     permits = f .permits;
-    reportBreaks = fails-breaks (r .configuration) (r .place) (f .inside) (f .failing);
+    reportBreaks = report-breaks (r .configuration) (f .phase) (r .place) (f .inside) (f .isPhase) (f .failing);
     reaches = here;
     part = reached-part F (r .configuration) (r .place) here;
     operandsKeep = operands-pass T (r .configuration) (formAt T (r .place)) .0 (node .0);
     formBreaks = node .1;
-    lowerForms = λ q c l e. reached-passes F c q e (λ x k. f .lowerForms x c (omega arith) (within c q e));
+    lowerForms = λ q c l e. reached-passes F c q e (λ x phase k n. f .lowerForms x phase c (omega arith) n (within c q e));
     lowerConfigurations =
-        λ c l e.
+        λ not16 c l e.
         reached-passes F c (r .place) e
-        (λ x k. ⊎-elim (λ (s : x ≡ r .place). ap (fails T c) s ∙ f .lowerConfigurations c l) (λ (s : x < r .place). f .lowerForms x c s (within c (r .place) e))
-        (eq-or-lt-of-le k));
+        (λ x phase k n.
+        ⊎-elim (λ (s : x ≡ r .place). ap (fails T c phase) s ∙ own-phases not16 c l e phase n)
+        (λ (s : x < r .place). f .lowerForms x phase c s n (within c (r .place) e)) (eq-or-lt-of-le k));
+    lowerCompared = λ is16 c l e.
+        let s = the-select is16 in
+        compared-where F c (r .place) (s .0) (s .1) (s .2) e (below-forms c e)
+        ∙ eq-eqb (faults T c 0 (r .place)) 0 (holds-where T c (r .place) 0 .0 (first-phase is16 c l) e);
+    missing = λ is16.
+        let s = the-select is16 in
+        compared-where F (r .configuration) (r .place) (s .0) (s .1) (s .2) here (below-forms (r .configuration) here)
+        ∙ ne-eqb (faults T (r .configuration) 0 (r .place)) 0 (rw (is-first is16) at (fails-where T (r .configuration) (r .place) (f .phase) .0 (f .failing) .1));
+    comparedAlways = λ is25 c e.
+        let s = clash-select T (f .phase) (r .configuration) (r .place) (sym (f .numbered) ∙ is25)
+        (fails-where T (r .configuration) (r .place) (f .phase) .0 (f .failing) .1) in
+        compared-where F c (r .place) (s .1) (s .2) (s .3) e (below-forms c e)
+        ∙ eq-eqb (faults T c 0 (r .place)) 0 (holds-where T c (r .place) 0 .0 (f .lowerPhases 0 c (let z = s .0 in omega arith) (within c (r .place) e)) e);
   }
     where
       here : reached T (r .configuration) (r .place) ≡ true
-      here = fails-where T (r .configuration) (r .place) .0 (f .failing) .0
+      here = fails-where T (r .configuration) (r .place) (f .phase) .0 (f .failing) .0
 
       within : (c q : ℕ) → reached T c q ≡ true → c < configurations T
       within c q e = permitted-within T c (reached-permitted T c q e)
 
       node : (operandsPass T (r .configuration) (formAt T (r .place)) ≡ true)
-          × (passes (configuredSchema T (r .configuration)) (plainQueryAt T (r .configuration) (r .place)) ≡ false)
+          × (passes (kindOf T) (configuredSchema T (r .configuration)) (plainQueryAt T (r .configuration) (r .place)) ≡ false)
       node =
-          lowest-breaks F (r .configuration) (r .place) (f .failing)
-          (λ x l. f .lowerForms x (r .configuration) l (permitted-within T (r .configuration) (f .permits)))
+          lowest-breaks F (r .configuration) (r .place) (f .phase) (f .isPhase) (f .failing)
+          (λ x phase l n. f .lowerForms x phase (r .configuration) l n (permitted-within T (r .configuration) (f .permits)))
+
+      -- at a lower configuration the forms below keep their rules
+      below-forms : (c : ℕ) → reached T c (r .place) ≡ true → (x phase : ℕ) → x < r .place → phase < 2 → fails T c phase x ≡ false
+      below-forms c e x phase l n = f .lowerForms x phase c l n (within c (r .place) e)
+
+      -- 25 is of the second phase, so 16 of the first
+      is-first : r .number ≡ 16 → f .phase ≡ 0
+      is-first is16 = first-number (f .phase) (formAt T (r .place)) (sym (f .numbered) ∙ is16) .0
+
+      the-select : r .number ≡ 16 → (a : ℕ) × (b : ℕ) × (formAt T (r .place) ≡ Query.Select a b)
+      the-select is16 = let s = first-number (f .phase) (formAt T (r .place)) (sym (f .numbered) ∙ is16) in (s .1, s .2, s .3)
+
+      first-phase : r .number ≡ 16 → (c : ℕ) → c < r .configuration → fails T c 0 (r .place) ≡ false
+      first-phase is16 c l = ap (λ (i : ℕ). fails T c i (r .place)) (sym (is-first is16)) ∙ f .lowerConfigurations c l
+
+      -- where it is not 16 the form fails at no lower configuration in either phase: a form other than a select has one phase, and before the second
+      -- the first has found nothing anywhere
+      own-phases : r .number ≢ 16 → (c : ℕ) → c < r .configuration → reached T c (r .place) ≡ true → (phase : ℕ) → phase < 2
+          → fails T c phase (r .place) ≡ false
+      own-phases not16 c l e phase n = go (f .phase) refl phase n
+        where
+          go : (i : ℕ) → f .phase ≡ i → (phase : ℕ) → phase < 2 → fails T c phase (r .place) ≡ false
+          go zero p zero m = ap (λ (i : ℕ). fails T c i (r .place)) (sym p) ∙ f .lowerConfigurations c l
+          go zero p (suc zero) m = other-phase T c (r .place) (λ s. not16 (f .numbered ∙ ap (λ (i : ℕ). faultNumber i (formAt T (r .place))) p ∙ s))
+          go (suc i) p zero m = f .lowerPhases 0 c (omega arith) (within c (r .place) e)
+          go (suc zero) p (suc zero) m = ap (λ (i : ℕ). fails T c i (r .place)) (sym p) ∙ f .lowerConfigurations c l
+          go (suc (suc i)) p (suc zero) m = absurd (let k = f .isPhase in omega arith)
+          go i p (suc (suc phase)) m = absurd (omega arith)
 
   typing-broken : (isTypingFault (typingCheck T) ≡ true) ↔ Broken T
   typing-broken = (forth (typingCheck T) refl, back (typingCheck T) refl)
@@ -332,7 +443,7 @@ module _ (T : Tables) (sound : Sound T) {call : Call} (own : OwnNumbers call) (g
           }
 
   -- no report that passes at every permitted configuration is refused so
-  pub never-refused : ((c : ℕ) → permitted T c ≡ true → passes (configuredSchema T c) (configuredReport T c) ≡ true) → isTypingFault (answer T call) ≡ false
+  pub never-refused : ((c : ℕ) → permitted T c ≡ true → passes (kindOf T) (configuredSchema T c) (configuredReport T c) ≡ true) → isTypingFault (answer T call) ≡ false
   never-refused h = go (isTypingFault (answer T call)) refl
     where
       go : (t : Bool) → isTypingFault (answer T call) ≡ t → t ≡ false

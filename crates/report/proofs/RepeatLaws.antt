@@ -14,7 +14,7 @@ use Rattle.report.specs.Tables.{Tables, tablesOf, entryAttribute, relati
 use Rattle.report.specs.Tables.{expressionCount, relationCount, comparisonCount, queryCount}
 use Rattle.report.specs.Tables.{relationStart, relationsEnd, projectLength, projectStart}
 use Rattle.report.specs.Typing.{entryHolds, present}
-use Rattle.report.specs.FormChecks.{listFits, relationOk, queryOk, relationsCheck, queriesCheck, formCheck}
+use Rattle.report.specs.FormChecks.{listFits, relationOk, queryOk, relationsCheck, comparisonsCheck, queriesCheck, tablesCheck, kindsCheck, formCheck}
 use Rattle.report.specs.Verdicts.{refusal, refuseAt, orElse, firstOf}
 use Rattle.report.specs.Checks.{modelAndSchemaCheck, typingCheck}
 use Rattle.report.specs.Calls.{Call, answer}
@@ -22,7 +22,7 @@ use Rattle.report.specs.Configuring.{queryWordsOf, queryKept, newRelatio
 use Rattle.report.specs.Configuring.{entryKept, keptLength, keptList, queryFormOf, configured}
 use Rattle.report.specs.ConfiguredReport.{keptAttributes}
 use Rattle.report.specs.Repeats.{repeats, NoRepeats, relationRepeats, projectRepeats, relationsCheckBefore, queriesCheckBefore}
-use Rattle.report.specs.Repeats.{formCheckWith, answerBefore, heldLength, heldList, heldAttributes, configuredBefore}
+use Rattle.report.specs.Repeats.{tablesCheckWith, answerBefore, heldLength, heldList, heldAttributes, configuredBefore}
 use Rattle.report.specs.declared.Verdict.{Verdict}
 use Rattle.report.specs.declared.Query.{Query}
 use Rattle.report.proofs.FormFacts.{Listing, project, unlisted, listing}
@@ -91,18 +91,22 @@ module _ {T : Tables} (N : NoRepeats T) where
       (lowest-same _ _ (queryCount T)
       (λ q h. fits-before (queryOk T q) (projectRepeats T q) (fitting-query q h (listing (query (T .queries) q)))))
 
-  form-check-before : formCheck T ≡ formCheckWith T (relationsCheckBefore T) (queriesCheckBefore T)
-  unfolding formCheck
-  form-check-before = ap₂ (formCheckWith T) relations-check-before queries-check-before
+  tables-check-before : tablesCheck T
+      ≡ tablesCheckWith T (relationsCheckBefore T) (comparisonsCheck (T .attributes) (expressionCount T) (T .comparisons)) (queriesCheckBefore T)
+  unfolding tablesCheck
+  tables-check-before =
+      ap₂ (λ (six eight : Verdict). tablesCheckWith T six (comparisonsCheck (T .attributes) (expressionCount T) (T .comparisons)) eight)
+      relations-check-before queries-check-before
 
   -- every answer is what it was
   pub answer-before : (call : Call) → answer T call ≡ answerBefore T call
-  unfolding answer answerBefore
+  unfolding answer answerBefore formCheck
   answer-before call =
       ap
       (λ (v : Verdict).
-      orElse (orElse v (orElse (firstOf (call .beforeModel T)) (modelAndSchemaCheck T))) (orElse (typingCheck T) (firstOf (call .afterTyping T))))
-      form-check-before
+      orElse (orElse (orElse v (kindsCheck (T .attributes) (T .kinds) (T .comparisons))) (orElse (firstOf (call .beforeModel T)) (modelAndSchemaCheck T)))
+      (orElse (typingCheck T) (firstOf (call .afterTyping T))))
+      tables-check-before
 
 -- ---- the written tables
 
@@ -143,4 +147,4 @@ module _ {T : Tables} (accepted : formCheck T ≡ Verdict.Accepted) (N : NoRepea
       let queries =
       kept-same (queryCount T) {keep = queryKept T c} (λ q h. refl)
       (λ q h. words-before q (form q) (length-before T c (projectStart T q) (projectLength (form q)) (project-once q h))) in
-      λ i. tablesOf 0 (T .attributes) 0 (1 ∷ 0 ∷ 0 ∷ []) (ofRelations i ++ ofProjects i) (relations i) (configured T c .comparisons) (queries i)
+      λ i. tablesOf 0 (T .attributes) 0 (1 ∷ 0 ∷ 0 ∷ []) (ofRelations i ++ ofProjects i) (relations i) (configured T c .comparisons) (queries i) (T .kinds)

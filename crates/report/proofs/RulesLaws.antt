@@ -12,7 +12,7 @@ use Rattle.sets.specs.Rows.{rowOf}
 use Rattle.sets.proofs.BitLaws.{xor-zero, subset-and}
 use Rattle.report.specs.Tables.{Tables, queryCount, report}
 use Rattle.report.specs.Expressions.{permitted}
-use Rattle.report.specs.Typing.{taken, reached, relationSet, projectSet, names, setRule, setOf, faultsOf, faults, fails}
+use Rattle.report.specs.Typing.{taken, reached, relationSet, projectSet, names, setRule, setOf, faultsOf, clashesIn, faults, fails, keeps}
 use Rattle.report.specs.ColumnRows.{hasColumn, columnRows, shown}
 use Rattle.report.specs.Rules.{Rule, Rules, ruledRows}
 use Rattle.report.specs.Formed.{Formed}
@@ -22,6 +22,7 @@ use Rattle.report.specs.declared.Verdict.{Verdict}
 use Rattle.report.proofs.ValueLaws.{strong}
 use Rattle.report.proofs.StepLaws.{set-in}
 use Rattle.report.proofs.SetLaws.{kept-sets}
+use Rattle.report.proofs.KindMembers.{no-clash}
 use Rattle.report.proofs.PassingOn.{passesTo, same-number, or-first, or-second}
 use Rattle.report.proofs.LeadLaws.{formAt, passed-lower}
 use Rattle.report.proofs.ReachLaws.{reached-in, reached-next, reached-report}
@@ -39,54 +40,57 @@ module _ (T : Tables) (c : ℕ) where
 
     -- a union or an intersection
     equal : (q a b : ℕ) → ((x : ℕ) → (eqb x a || eqb x b) ≡ true → S x ≡ setOf T c x) → setOf T c q ≡ setOf T c a → (S a ≡ S b) × (S q ≡ S a)
-        → (S q ≡ setOf T c q) × (bitXor (setOf T c a) (setOf T c b) ≡ 0)
+        → (S q ≡ setOf T c q) × (bitXor (setOf T c a) (setOf T c b) ≡ 0) × (_≡_ {A = ℕ} 0 0)
     equal q a b ih s k =
         let e = both a b ih in
         let same = sym (e .0) ∙ k .0 ∙ e .1 in
-        (k .1 ∙ e .0 ∙ sym s, eqb-true _ 0 (xor-zero (setOf T c a) (setOf T c b) ∙ eq-eqb (setOf T c a) (setOf T c b) same))
+        (k .1 ∙ e .0 ∙ sym s, eqb-true _ 0 (xor-zero (setOf T c a) (setOf T c b) ∙ eq-eqb (setOf T c a) (setOf T c b) same), refl)
 
-  -- where the rules' sets of the forms to which y passes c on are the definition's, so is that of y, which has no fault
+  -- where the rules' sets of the forms to which y passes c on are the definition's, so is that of y, in which nothing is at fault
   by-rule : (S : ℕ → ℕ) (q : ℕ) (y : Query) → ((x : ℕ) → passesTo T c x y ≡ true → S x ≡ setOf T c x)
-      → setOf T c q ≡ setRule T c (setOf T c) q y → Rule T c S q y → (S q ≡ setOf T c q) × (faultsOf T c q y ≡ 0)
+      → setOf T c q ≡ setRule T c (setOf T c) q y → Rule T c S q y
+      → (S q ≡ setOf T c q) × (faultsOf T c q y ≡ 0) × (clashesIn T c y ≡ 0)
   by-rule S q Query.Malformed ih s k = absurd k
-  by-rule S q Query.Empty ih s k = (k ∙ sym s, refl)
+  by-rule S q Query.Empty ih s k = (k ∙ sym s, refl, refl)
   by-rule S q (Query.Relation a) ih s k = (
     k .1 ∙ sym (s ∙ ap (λ (t : Bool). cond t (relationSet T c a) 0) (k .0)),
     ap (λ (t : Bool). cond t 0 (2 ^ a)) (k .0),
+    refl,
   )
   by-rule S q (Query.Select a b) ih s k =
       let e = ih b (same-number b) in
-      (k .1 ∙ e ∙ sym s, ap (difference (names T c a)) (sym e) ∙ eqb-true (difference (names T c a) (S b)) 0 (k .0))
+      (k .2 ∙ e ∙ sym s, ap (difference (names T c a)) (sym e) ∙ eqb-true (difference (names T c a) (S b)) 0 (k .0), no-clash T c a .1 (k .1))
   by-rule S q (Query.Project a b) ih s k =
       let e = ih b (same-number b) in
       let f = ap (difference (projectSet T c q a)) (sym e) ∙ eqb-true (difference (projectSet T c q a) (S b)) 0 (k .0) in
-      (k .1 ∙ sym (s ∙ subset-and (projectSet T c q a) (setOf T c b) f), f)
-  by-rule S q (Query.Choice a b d) ih s k = (k ∙ ih (taken T c a b d) (same-number (taken T c a b d)) ∙ sym s, refl)
+      (k .1 ∙ sym (s ∙ subset-and (projectSet T c q a) (setOf T c b) f), f, refl)
+  by-rule S q (Query.Choice a b d) ih s k = (k ∙ ih (taken T c a b d) (same-number (taken T c a b d)) ∙ sym s, refl, refl)
   by-rule S q (Query.Product a b) ih s k =
       let e = both S a b ih in
-      (k .1 ∙ ap₂ bitOr (e .0) (e .1) ∙ sym s, sym (ap₂ bitAnd (e .0) (e .1)) ∙ k .0)
+      (k .1 ∙ ap₂ bitOr (e .0) (e .1) ∙ sym s, sym (ap₂ bitAnd (e .0) (e .1)) ∙ k .0, refl)
   by-rule S q (Query.Union a b) ih s k = equal S q a b ih s k
   by-rule S q (Query.Intersection a b) ih s k = equal S q a b ih s k
 
 -- ---- all forms that c reaches
 
 module _ {T : Tables} (F : Formed T) (c : ℕ) (ok : permitted T c ≡ true) where
-  -- sets that keep the rules are, at each form that c reaches, the definition's, and the form has no fault
-  pub rules-sets : (S : ℕ → ℕ) → Rules T c S → (q : ℕ) → reached T c q ≡ true → (S q ≡ setOf T c q) × (faults T c q ≡ 0)
+  -- sets that keep the rules are, at each form that c reaches, the definition's, and nothing is at fault in the form
+  pub rules-sets : (S : ℕ → ℕ) → Rules T c S → (q : ℕ) → reached T c q ≡ true → (S q ≡ setOf T c q) × (keeps T c q ≡ true)
   unfolding faults
   rules-sets S k =
-      strong (λ q. reached T c q ≡ true → (S q ≡ setOf T c q) × (faults T c q ≡ 0))
+      strong (λ q. reached T c q ≡ true → (S q ≡ setOf T c q) × (keeps T c q ≡ true))
       (λ q ih r.
       let h = reached-in F c ok q r in
-      by-rule T c S q (formAt T q) (λ x e. ih x (passed-lower F c x q h e) (reached-next F c ok x q r e) .0) (set-in F c q h) (k q r))
+      let b = by-rule T c S q (formAt T q) (λ x e. ih x (passed-lower F c x q h e) (reached-next F c ok x q r e) .0) (set-in F c q h) (k q r) in
+      (b .0, ap₂ _&&_ (eq-eqb _ 0 (b .1)) (eq-eqb _ 0 (b .2))))
 
   -- where no form fails the definition's sets keep the rules
-  pub sets-rules : ((q : ℕ) → q < queryCount T → fails T c q ≡ false) → Rules T c (setOf T c)
-  sets-rules f q r = let h = reached-in F c ok q r in kept-sets F c q h (keeps-where T c q .0 (f q h) r)
+  pub sets-rules : ((q phase : ℕ) → q < queryCount T → phase < 2 → fails T c phase q ≡ false) → Rules T c (setOf T c)
+  sets-rules f q r = let h = reached-in F c ok q r in kept-sets F c q h (keeps-where T c q .0 (λ phase. f q phase h) r)
 
   -- there are sets that keep the rules exactly where no form fails
-  pub rules-exactly : ((S : ℕ → ℕ) × Rules T c S) ↔ ((q : ℕ) → q < queryCount T → fails T c q ≡ false)
-  rules-exactly = (λ p q h. keeps-where T c q .1 (λ r. rules-sets (p .0) (p .1) q r .1), λ f. (setOf T c, sets-rules f))
+  pub rules-exactly : ((S : ℕ → ℕ) × Rules T c S) ↔ ((q phase : ℕ) → q < queryCount T → phase < 2 → fails T c phase q ≡ false)
+  rules-exactly = (λ p q phase h. keeps-where T c q .1 (λ r. rules-sets (p .0) (p .1) q r .1) phase, λ f. (setOf T c, sets-rules f))
 
   -- then the forms that c reaches have one set each
   pub rules-one : (S S′ : ℕ → ℕ) → Rules T c S → Rules T c S′ → (q : ℕ) → reached T c q ≡ true → S q ≡ S′ q
@@ -117,14 +121,15 @@ module _ {T : Tables} (F : Formed T) (S : ℕ → ℕ → ℕ) (keep : (c : ℕ)
 module _ (T : Tables) (sound : Sound T) where
   -- where a check accepts the definition's sets keep the rules
   pub accepted-sets : answer T (checking 1024) ≡ Verdict.Accepted → (c : ℕ) → permitted T c ≡ true → Rules T c (setOf T c)
-  accepted-sets e c p = sets-rules (sound-formed T sound) c p (λ q h. accepted-exactly T sound .0 e c q (permitted-within T c p) h)
+  accepted-sets e c p = sets-rules (sound-formed T sound) c p (λ q phase. accepted-exactly T sound .0 e c q phase (permitted-within T c p))
 
   -- of sound tables a check with 1,024 words of rows accepts exactly where at each permitted configuration there are sets that keep the rules
   pub accepted-rules : (answer T (checking 1024) ≡ Verdict.Accepted) ↔ ((c : ℕ) → permitted T c ≡ true → (S : ℕ → ℕ) × Rules T c S)
   accepted-rules = (
     λ e c p. (setOf T c, accepted-sets e c p),
     λ f. accepted-exactly T sound .1
-        (λ c q h l. keeps-where T c q .1 (λ r. let p = reached-permitted T c q r in rules-sets (sound-formed T sound) c p (f c p .0) (f c p .1) q r .1)),
+        (λ c q phase h l.
+        keeps-where T c q .1 (λ r. let p = reached-permitted T c q r in rules-sets (sound-formed T sound) c p (f c p .0) (f c p .1) q r .1) phase),
   )
 
   -- there the report has one set, and the column rows show it

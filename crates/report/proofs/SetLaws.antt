@@ -1,24 +1,29 @@
 -- Where a form keeps its rule its set is the one of docs/FORMAT.md, "Typing rules". And sets are of attributes: they fit 64 bits.
 use Prim.Native.Nat.{ℕ, zero, suc, _+_, _^_, _<_, _≤_}
 use mathlib.Core.Path.{_≡_, refl, ap, _∙_}
-use mathlib.Core.Bool.{Bool, true, false, cond}
+use mathlib.Core.Bool.{Bool, true, false, cond, and-eq-true-iff}
 use native.Mathlib.Nat.{lt-of-lt-of-le}
 use native.Mathlib.Omega.{arith}
-use borrow.Author.Tests.{eq-eqb}
+use borrow.Author.Tests.{eq-eqb, eqb-true}
+use lib.Dec.{eqb}
 use lib.Bits.{and-lt, or-lt, xor-lt}
 use lib.Pow.{pow-pos, pow-lt, pow-mono}
 use Rattle.sets.specs.Bits.{difference}
 use Rattle.sets.proofs.BitLaws.{difference-lt, subset-and, xor-same}
-use Rattle.report.specs.Tables.{Tables, entryExpression, comparison, query}
+use Rattle.report.specs.Tables.{Tables, kindOf, entryExpression, comparison, query}
+use Rattle.report.specs.Operands.{comparisonOperands}
 use Rattle.report.specs.Tables.{expressionCount, entryCount, comparisonCount, queryCount}
-use Rattle.report.specs.Typing.{at, joinedSet, present, relationSet, projectSet, namesOf, names, setRule, setOf, faultsOf, faults}
+use Rattle.report.specs.Typing.{at, joinedSet, present, relationSet, projectSet, gatheredOf, gathered, namesOf, names, kindsDiffer, leftOf, clashOf, clashes}
+use Rattle.report.specs.Typing.{setRule, setOf, faultsOf, clashesIn, faults, keeps}
 use Rattle.report.specs.Rules.{Rule}
-use Rattle.report.specs.Formed.{Formed, ComparisonLower, QueryLower}
+use Rattle.report.specs.Formed.{Formed, ComparisonLower, OperandsBelow, QueryLower}
 use Rattle.report.specs.declared.Comparison.{Comparison}
 use Rattle.report.specs.declared.Query.{Query}
+use Rattle.report.specs.declared.Operands.{Operands}
 use Rattle.report.proofs.ValueLaws.{strong}
-use Rattle.report.proofs.FormedFacts.{comparison-at, query-at, entry-attribute, relation-list, counts}
-use Rattle.report.proofs.StepLaws.{taken-below, names-in, set-in}
+use Rattle.report.proofs.FormedFacts.{comparison-at, comparison-operands, query-at, entry-attribute, relation-list, counts}
+use Rattle.report.proofs.StepLaws.{taken-below, gathered-in, set-in}
+use Rattle.report.proofs.KindMembers.{no-clash}
 
 -- ---- the sets of forms that keep their rule
 
@@ -27,24 +32,27 @@ module _ (T : Tables) (c : ℕ) where
   is-present true a e = refl
   is-present false a e = absurd (let p = pow-pos a in omega arith)
 
-  keeps : (q : ℕ) (x : Query) → QueryLower T q x → setOf T c q ≡ setRule T c (setOf T c) q x → faultsOf T c q x ≡ 0 → Rule T c (setOf T c) q x
-  keeps q Query.Malformed l s e = l
-  keeps q Query.Empty l s e = s
-  keeps q (Query.Relation a) l s e =
+  keeps-rule : (q : ℕ) (x : Query) → QueryLower T q x → setOf T c q ≡ setRule T c (setOf T c) q x → faultsOf T c q x ≡ 0 → clashesIn T c x ≡ 0
+      → Rule T c (setOf T c) q x
+  keeps-rule q Query.Malformed l s e k = l
+  keeps-rule q Query.Empty l s e k = s
+  keeps-rule q (Query.Relation a) l s e k =
       let p = is-present (present T c a) a e in
       (p, s ∙ ap (λ (t : Bool). cond t (relationSet T c a) 0) p)
-  keeps q (Query.Select a b) l s e = (eq-eqb (difference (names T c a) (setOf T c b)) 0 e, s)
-  keeps q (Query.Project a b) l s e =
+  keeps-rule q (Query.Select a b) l s e k = (eq-eqb (difference (names T c a) (setOf T c b)) 0 e, no-clash T c a .0 k, s)
+  keeps-rule q (Query.Project a b) l s e k =
       (eq-eqb (difference (projectSet T c q a) (setOf T c b)) 0 e, s ∙ subset-and (projectSet T c q a) (setOf T c b) e)
-  keeps q (Query.Choice a b d) l s e = s
-  keeps q (Query.Product a b) l s e = (e, s)
-  keeps q (Query.Union a b) l s e = (xor-same (setOf T c a) (setOf T c b) e, s)
-  keeps q (Query.Intersection a b) l s e = (xor-same (setOf T c a) (setOf T c b) e, s)
+  keeps-rule q (Query.Choice a b d) l s e k = s
+  keeps-rule q (Query.Product a b) l s e k = (e, s)
+  keeps-rule q (Query.Union a b) l s e k = (xor-same (setOf T c a) (setOf T c b) e, s)
+  keeps-rule q (Query.Intersection a b) l s e k = (xor-same (setOf T c a) (setOf T c b) e, s)
 
--- a form of accepted tables that has no fault at c keeps its rule there, and has the set that the rule gives it
-pub kept-sets : {T : Tables} → Formed T → (c q : ℕ) → q < queryCount T → faults T c q ≡ 0 → Rule T c (setOf T c) q (query (T .queries) q)
+-- a form of accepted tables in which nothing is at fault at c keeps its rule there, and has the set that the rule gives it
+pub kept-sets : {T : Tables} → Formed T → (c q : ℕ) → q < queryCount T → keeps T c q ≡ true → Rule T c (setOf T c) q (query (T .queries) q)
 unfolding faults
-kept-sets {T} F c q h e = keeps T c q (query (T .queries) q) (query-at F q h) (set-in F c q h) e
+kept-sets {T} F c q h e =
+    let p = and-eq-true-iff (eqb (faults T c 0 q) 0) (eqb (faults T c 1 q) 0) .0 e in
+    keeps-rule T c q (query (T .queries) q) (query-at F q h) (set-in F c q h) (eqb-true _ 0 (p .0)) (eqb-true _ 0 (p .1))
 
 -- ---- sets are of attributes
 
@@ -65,23 +73,54 @@ module _ {T : Tables} (F : Formed T) (c : ℕ) where
       or-lt (T .attributes) _ _ (joined-narrow start count (omega arith))
       (zero-narrow (T .attributes) (at T c (entryExpression (T .entries) (start + count))) (pow-lt (entry-attribute F (start + count) (omega arith))))
 
-  names-rule : (f : ℕ) (x : Comparison) → ComparisonLower (T .attributes) (expressionCount T) f x → ((k : ℕ) → k < f → names T c k < 2 ^ (T .attributes))
-      → namesOf T c (names T c) x < 2 ^ (T .attributes)
-  names-rule f Comparison.Malformed l ih = absurd l
-  names-rule f Comparison.Never l ih = pow-pos (T .attributes)
-  names-rule f Comparison.Always l ih = pow-pos (T .attributes)
-  names-rule f (Comparison.Constant o a b) l ih = pow-lt (l .1)
-  names-rule f (Comparison.Attribute o a b) l ih = or-lt (T .attributes) _ _ (pow-lt (l .1)) (pow-lt (l .2))
-  names-rule f (Comparison.Not a) l ih = ih a l
-  names-rule f (Comparison.And a b) l ih = or-lt (T .attributes) _ _ (ih a (l .0)) (ih b (l .1))
-  names-rule f (Comparison.Or a b) l ih = or-lt (T .attributes) _ _ (ih a (l .0)) (ih b (l .1))
-  names-rule f (Comparison.Choice a b d) l ih = ih _ (taken-below (at T c a) (l .1, l .2))
+  -- what is gathered of a comparison, where what each gives by itself is a set of attributes
+  module _ (own : Comparison → ℕ)
+      (narrow : (f : ℕ) (x : Comparison) → ComparisonLower (T .attributes) (expressionCount T) f x → own x < 2 ^ (T .attributes))
+    where
+      gathered-rule : (f own : ℕ) → own < 2 ^ (T .attributes) → (o : Operands) → OperandsBelow f o → (set : ℕ → ℕ)
+          → ((k : ℕ) → k < f → set k < 2 ^ (T .attributes)) → gatheredOf T c set own o < 2 ^ (T .attributes)
+      gathered-rule f own n Operands.Nothing l set ih = n
+      gathered-rule f own n (Operands.One a) l set ih = ih a l
+      gathered-rule f own n (Operands.Both a b) l set ih = or-lt (T .attributes) _ _ (ih a (l .0)) (ih b (l .1))
+      gathered-rule f own n (Operands.Choice e a b) l set ih = ih _ (taken-below (at T c e) l)
+
+      pub gathered-narrow : (f : ℕ) → f < comparisonCount T → gathered T c own f < 2 ^ (T .attributes)
+      gathered-narrow =
+          strong (λ f. f < comparisonCount T → gathered T c own f < 2 ^ (T .attributes))
+          (λ f ih h.
+          rw (gathered-in F c f h own)
+          (gathered-rule f _ (narrow f (comparison (T .comparisons) f) (comparison-at F f h)) (comparisonOperands (comparison (T .comparisons) f))
+          (comparison-operands F f h) (gathered T c own) (λ k l. ih k l (omega arith))))
+
+  own-names : (f : ℕ) (x : Comparison) → ComparisonLower (T .attributes) (expressionCount T) f x → namesOf x < 2 ^ (T .attributes)
+  own-names f Comparison.Malformed l = absurd l
+  own-names f Comparison.Never l = pow-pos (T .attributes)
+  own-names f Comparison.Always l = pow-pos (T .attributes)
+  own-names f (Comparison.Constant o a b k) l = pow-lt (l .1)
+  own-names f (Comparison.Attribute o a b) l = or-lt (T .attributes) _ _ (pow-lt (l .1)) (pow-lt (l .2))
+  own-names f (Comparison.Not a) l = pow-pos (T .attributes)
+  own-names f (Comparison.And a b) l = pow-pos (T .attributes)
+  own-names f (Comparison.Or a b) l = pow-pos (T .attributes)
+  own-names f (Comparison.Choice a b d) l = pow-pos (T .attributes)
 
   -- the attributes that a comparison names
   pub names-narrow : (f : ℕ) → f < comparisonCount T → names T c f < 2 ^ (T .attributes)
-  names-narrow =
-      strong (λ f. f < comparisonCount T → names T c f < 2 ^ (T .attributes))
-      (λ f ih h. rw (names-in F c f h) (names-rule f (comparison (T .comparisons) f) (comparison-at F f h) (λ k l. ih k l (omega arith))))
+  names-narrow = gathered-narrow (namesOf) own-names
+
+  left-narrow : (f : ℕ) (x : Comparison) → ComparisonLower (T .attributes) (expressionCount T) f x → leftOf x < 2 ^ (T .attributes)
+  left-narrow f Comparison.Malformed l = absurd l
+  left-narrow f Comparison.Never l = pow-pos (T .attributes)
+  left-narrow f Comparison.Always l = pow-pos (T .attributes)
+  left-narrow f (Comparison.Constant o a b k) l = pow-lt (l .1)
+  left-narrow f (Comparison.Attribute o a b) l = pow-lt (l .1)
+  left-narrow f (Comparison.Not a) l = pow-pos (T .attributes)
+  left-narrow f (Comparison.And a b) l = pow-pos (T .attributes)
+  left-narrow f (Comparison.Or a b) l = pow-pos (T .attributes)
+  left-narrow f (Comparison.Choice a b d) l = pow-pos (T .attributes)
+
+  -- the left attributes at fault in it
+  pub clashes-narrow : (f : ℕ) → f < comparisonCount T → clashes T c f < 2 ^ (T .attributes)
+  clashes-narrow = gathered-narrow (clashOf (kindOf T)) (λ f x l. zero-narrow (T .attributes) (kindsDiffer (kindOf T) x) (left-narrow f x l))
 
   set-rule : (q : ℕ) (x : Query) → QueryLower T q x → ((k : ℕ) → k < q → setOf T c k < 2 ^ (T .attributes))
       → setRule T c (setOf T c) q x < 2 ^ (T .attributes)
@@ -119,7 +158,20 @@ module _ {T : Tables} (F : Formed T) (c : ℕ) where
   faults-rule q h (Query.Union a b) l = xor-lt 64 _ _ (operand-word (l .first .lower) h) (operand-word (l .second .lower) h)
   faults-rule q h (Query.Intersection a b) l = xor-lt 64 _ _ (operand-word (l .first .lower) h) (operand-word (l .second .lower) h)
 
-  -- what breaks a form's rule
-  pub faults-narrow : (q : ℕ) → q < queryCount T → faults T c q < 2 ^ 64
+  clashes-rule : (q : ℕ) (x : Query) → QueryLower T q x → clashesIn T c x < 2 ^ 64
+  clashes-rule q Query.Malformed l = absurd l
+  clashes-rule q Query.Empty l = pow-pos 64
+  clashes-rule q (Query.Relation a) l = pow-pos 64
+  clashes-rule q (Query.Select a b) l = narrow-word F (clashes-narrow a (l .0))
+  clashes-rule q (Query.Project a b) l = pow-pos 64
+  clashes-rule q (Query.Choice a b d) l = pow-pos 64
+  clashes-rule q (Query.Product a b) l = pow-pos 64
+  clashes-rule q (Query.Union a b) l = pow-pos 64
+  clashes-rule q (Query.Intersection a b) l = pow-pos 64
+
+  -- what breaks a form's rule, in each phase
+  pub faults-narrow : (phase q : ℕ) → q < queryCount T → faults T c phase q < 2 ^ 64
   unfolding faults
-  faults-narrow q h = faults-rule q h (query (T .queries) q) (query-at F q h)
+  faults-narrow zero q h = faults-rule q h (query (T .queries) q) (query-at F q h)
+  faults-narrow (suc zero) q h = clashes-rule q (query (T .queries) q) (query-at F q h)
+  faults-narrow (suc (suc phase)) q h = pow-pos 64

@@ -9,7 +9,7 @@ use Rattle.report.specs.Tables.{Tables, expression, comparison, query, p
 use Rattle.report.specs.Tables.{expressionCount, comparisonCount, queryCount}
 use Rattle.report.specs.Operands.{comparisonOperands, queryOperands}
 use Rattle.report.specs.Expressions.{truthOf, holds}
-use Rattle.report.specs.Typing.{at, onward, passesOn, leads, projectSet, namesOf, names, setRule, setOf}
+use Rattle.report.specs.Typing.{at, onward, passesOn, leads, projectSet, gatheredOf, gathered, setRule, setOf}
 use Rattle.report.specs.Configuring.{targetOf, comparisonTarget, queryTarget}
 use Rattle.report.specs.PlainAlgebra.{PlainComparison, PlainQuery}
 use Rattle.report.specs.ConfiguredReport.{plainComparisonOf, plainComparisonAt, keptAttributes, plainQueryOf, plainQueryAt}
@@ -46,16 +46,11 @@ module _ (n : ℕ) (f g : ℕ → Bool) (same : (k : ℕ) → k < n → f k ≡ 
 
 module _ (T : Tables) (c n : ℕ) where
   module _ (f g : ℕ → ℕ) (same : (k : ℕ) → k < n → f k ≡ g k) where
-    names-local : (x : Comparison) → OperandsBelow n (comparisonOperands x) → namesOf T c f x ≡ namesOf T c g x
-    names-local Comparison.Malformed l = refl
-    names-local Comparison.Never l = refl
-    names-local Comparison.Always l = refl
-    names-local (Comparison.Constant o a b) l = refl
-    names-local (Comparison.Attribute o a b) l = refl
-    names-local (Comparison.Not a) l = same a l
-    names-local (Comparison.And a b) l = two n f g same bitOr l
-    names-local (Comparison.Or a b) l = two n f g same bitOr l
-    names-local (Comparison.Choice a b d) l = same _ (taken-below (at T c a) l)
+    gathered-local : (own : ℕ) (o : Operands) → OperandsBelow n o → gatheredOf T c f own o ≡ gatheredOf T c g own o
+    gathered-local own Operands.Nothing l = refl
+    gathered-local own (Operands.One a) l = same a l
+    gathered-local own (Operands.Both a b) l = two n f g same bitOr l
+    gathered-local own (Operands.Choice e a b) l = same _ (taken-below (at T c e) l)
 
     target-local : (o : Operands) → OperandsBelow n o → targetOf T c f n o ≡ targetOf T c g n o
     target-local Operands.Nothing l = refl
@@ -79,7 +74,7 @@ module _ (T : Tables) (c n : ℕ) where
     plain-comparison-local Comparison.Malformed l = refl
     plain-comparison-local Comparison.Never l = refl
     plain-comparison-local Comparison.Always l = refl
-    plain-comparison-local (Comparison.Constant o a b) l = refl
+    plain-comparison-local (Comparison.Constant o a b k) l = refl
     plain-comparison-local (Comparison.Attribute o a b) l = refl
     plain-comparison-local (Comparison.Not a) l = ap PlainComparison.negation (same a l)
     plain-comparison-local (Comparison.And a b) l = two n f g same PlainComparison.both l
@@ -115,12 +110,14 @@ holds-step n expressions c f l =
     value-step false (λ at e. truthOf c at (expression expressions e)) f (λ g h s. truth-local f g h s n c (expression expressions f) l)
 
 module _ (T : Tables) (c f : ℕ) (l : OperandsBelow f (comparisonOperands (comparison (T .comparisons) f))) where
-  -- a comparison whose operands are lower: what it names, where a reference to it leads, the plain comparison that it is
-  pub names-step : names T c f ≡ namesOf T c (names T c) (comparison (T .comparisons) f)
-  unfolding names
-  names-step =
-      value-step 0 (λ named k. namesOf T c named (comparison (T .comparisons) k)) f
-      (λ g h s. names-local T c f g h s (comparison (T .comparisons) f) l)
+  -- a comparison whose operands are lower: what is gathered of it, where a reference to it leads, the plain comparison that it is
+  pub gathered-step : (own : Comparison → ℕ)
+      → gathered T c own f
+      ≡ gatheredOf T c (gathered T c own) (own (comparison (T .comparisons) f)) (comparisonOperands (comparison (T .comparisons) f))
+  unfolding gathered
+  gathered-step own =
+      value-step 0 (λ set k. gatheredOf T c set (own (comparison (T .comparisons) k)) (comparisonOperands (comparison (T .comparisons) k))) f
+      (λ g h s. gathered-local T c f g h s (own (comparison (T .comparisons) f)) (comparisonOperands (comparison (T .comparisons) f)) l)
 
   pub comparison-target-step : comparisonTarget T c f ≡ targetOf T c (comparisonTarget T c) f (comparisonOperands (comparison (T .comparisons) f))
   unfolding comparisonTarget
@@ -169,8 +166,10 @@ module _ {T : Tables} (F : Formed T) (c : ℕ) where
 
   module _ (f : ℕ) (h : f < comparisonCount T) where
     -- table 3
-    pub names-in : names T c f ≡ namesOf T c (names T c) (comparison (T .comparisons) f)
-    names-in = names-step T c f (comparison-operands F f h)
+    pub gathered-in : (own : Comparison → ℕ)
+        → gathered T c own f
+        ≡ gatheredOf T c (gathered T c own) (own (comparison (T .comparisons) f)) (comparisonOperands (comparison (T .comparisons) f))
+    gathered-in = gathered-step T c f (comparison-operands F f h)
 
     pub comparison-target-in : comparisonTarget T c f ≡ targetOf T c (comparisonTarget T c) f (comparisonOperands (comparison (T .comparisons) f))
     comparison-target-in = comparison-target-step T c f (comparison-operands F f h)

@@ -1,7 +1,7 @@
 -- What the typing check accepts and what it names when it refuses; and what the column rows show.
-use Prim.Native.Nat.{ℕ, _^_, _<_}
+use Prim.Native.Nat.{ℕ, zero, suc, _<_}
 use mathlib.Core.Path.{_≡_, refl, sym, ap, ap₂, _∙_, subst}
-use mathlib.Core.Bool.{Bool, true, false, cond, _&&_, and-eq-true-iff, false≢true}
+use mathlib.Core.Bool.{Bool, true, false, _&&_, and-eq-true-iff, false≢true}
 use mathlib.Core.Logic.{_↔_, _≢_}
 use mathlib.Core.List.{List, [], append-nil}
 use native.Mathlib.Nat.{lt-of-lt-of-le}
@@ -11,21 +11,21 @@ use lib.ListN.{length}
 use lib.Pow.{pow-mono}
 use Rattle.sets.specs.declared.Found.{Found}
 use Rattle.sets.specs.Search.{lowest, First}
-use Rattle.sets.specs.Bits.{bit, lowestMember}
+use Rattle.sets.specs.Bits.{bit}
 use Rattle.sets.specs.Rows.{rowOf, rowBit, rowIn}
 use Rattle.sets.proofs.SearchLaws.{lowest-nothing, nothing-lowest, lowest-at, at-lowest}
 use Rattle.sets.proofs.BitLaws.{bit-none, bit-pow, bitsOf-is, bitsOf-none, trailing-first, trailing-member}
 use Rattle.sets.proofs.ListLaws.{concat-length}
 use Rattle.sets.proofs.RowLaws.{rowIn-concat, rowBit-rowOf, rowOf-row}
-use Rattle.report.specs.Tables.{Tables, queryCount, report}
+use Rattle.report.specs.Tables.{Tables, kindOf, queryCount, report}
 use Rattle.report.specs.Expressions.{configurations, permitted}
-use Rattle.report.specs.Typing.{reached, present, setOf, faultsOf, faults, fails}
+use Rattle.report.specs.Typing.{reached, present, setOf, faultsOf, faultsIn, faults, fails}
 use Rattle.report.specs.ColumnRows.{hasColumn, columnRows, shown}
 use Rattle.report.specs.PlainAlgebra.{passes}
 use Rattle.report.specs.Rules.{Rule}
 use Rattle.report.specs.ConfiguredReport.{configuredReport, configuredSchema}
 use Rattle.report.specs.Verdicts.{refusal, refuseAt}
-use Rattle.report.specs.Checks.{ruleNumber, typingAt, typingCheck, isTypingFault}
+use Rattle.report.specs.Checks.{ruleNumber, faultNumber, faultRefusal, phaseAt, typingAt, typingCheck, isOfTyping, isTypingFault}
 use Rattle.report.specs.Formed.{Formed}
 use Rattle.report.specs.TypingFaults.{TypingFault}
 use Rattle.report.specs.declared.Query.{Query}
@@ -49,33 +49,42 @@ pub permitted-1024 : {T : Tables} → Formed T → (c : ℕ) → permitted T c �
 permitted-1024 {T} F c e = lt-of-lt-of-le (permitted-within T c e) (pow-mono {j = 10} (F .few))
 
 -- a form fails at permitted configurations only
-pub fails-permitted : (T : Tables) (c q : ℕ) → fails T c q ≡ true → permitted T c ≡ true
-fails-permitted T c q e = reached-permitted T c q (fails-where T c q .0 e .0)
+pub fails-permitted : (T : Tables) (c phase q : ℕ) → fails T c phase q ≡ true → permitted T c ≡ true
+fails-permitted T c phase q e = reached-permitted T c q (fails-where T c q phase .0 e .0)
 
 -- ---- what the typing check accepts
 
 module _ (T : Tables) where
-  form-accepted : (q : ℕ) → (typingAt T q ≡ Verdict.Accepted) ↔ ((c : ℕ) → c < configurations T → fails T c q ≡ false)
-  form-accepted q = (
-    λ e. lowest-nothing (λ c. fails T c q) (configurations T) (at-accepted _ _ e),
-    λ f. ap (refuseAt _) (nothing-lowest (λ c. fails T c q) (configurations T) f),
+  phase-accepted : (q phase : ℕ) → (phaseAt T q phase ≡ Verdict.Accepted) ↔ ((c : ℕ) → c < configurations T → fails T c phase q ≡ false)
+  phase-accepted q phase = (
+    λ e. lowest-nothing (λ c. fails T c phase q) (configurations T) (at-accepted _ _ e),
+    λ f. ap (refuseAt _) (nothing-lowest (λ c. fails T c phase q) (configurations T) f),
   )
 
-  -- that no form fails at any configuration
-  pub typing-accepted : (typingCheck T ≡ Verdict.Accepted) ↔ ((c q : ℕ) → c < configurations T → q < queryCount T → fails T c q ≡ false)
+  form-accepted : (q : ℕ) → (typingAt T q ≡ Verdict.Accepted) ↔ ((phase c : ℕ) → phase < 2 → c < configurations T → fails T c phase q ≡ false)
+  form-accepted q = (
+    λ e phase c h. phase-accepted q phase .0 (first-accepted (phaseAt T q) 2 0 e phase (omega arith) (omega arith)) c,
+    λ f. accepted-first (phaseAt T q) 2 0 (λ phase l h. phase-accepted q phase .1 (λ c. f phase c (omega arith))),
+  )
+
+  -- that no form fails at any configuration, in either phase
+  pub typing-accepted : (typingCheck T ≡ Verdict.Accepted)
+      ↔ ((c q phase : ℕ) → c < configurations T → q < queryCount T → phase < 2 → fails T c phase q ≡ false)
   unfolding typingCheck
   typing-accepted = (
-    λ e c q h l. form-accepted q .0 (first-accepted (typingAt T) (queryCount T) 0 e q (omega arith) (omega arith)) c h,
-    λ f. accepted-first (typingAt T) (queryCount T) 0 (λ q l h. form-accepted q .1 (λ c k. f c q k (omega arith))),
+    λ e c q phase h l n. form-accepted q .0 (first-accepted (typingAt T) (queryCount T) 0 e q (omega arith) (omega arith)) phase c n h,
+    λ f. accepted-first (typingAt T) (queryCount T) 0 (λ q l h. form-accepted q .1 (λ phase c n k. f c q phase k (omega arith) n)),
   )
 
 module _ {T : Tables} (F : Formed T) where
   -- so that the configured report passes at every permitted configuration
-  pub typing-passes : (typingCheck T ≡ Verdict.Accepted) ↔ ((c : ℕ) → permitted T c ≡ true → passes (configuredSchema T c) (configuredReport T c) ≡ true)
+  pub typing-passes : (typingCheck T ≡ Verdict.Accepted) ↔ ((c : ℕ) → permitted T c ≡ true → passes (kindOf T) (configuredSchema T c) (configuredReport T c) ≡ true)
   typing-passes = (
-    λ e c p. report-passes F c p .1 (λ q h. typing-accepted T .0 e c q (permitted-within T c p) h),
+    λ e c p. report-passes F c p .1 (λ q phase. typing-accepted T .0 e c q phase (permitted-within T c p)),
     λ f. typing-accepted T .1
-        (λ c q h l. keeps-where T c q .1 (λ r. let p = reached-permitted T c q r in keeps-where T c q .0 (report-passes F c p .0 (f c p) q l) r)),
+        (λ c q phase h l.
+        keeps-where T c q .1
+        (λ r. let p = reached-permitted T c q r in keeps-where T c q .0 (λ phase. report-passes F c p .0 (f c p) q phase l) r) phase),
   )
 
   -- then every form keeps its rule wherever it is reached, and has the set that the typing rules give it
@@ -83,53 +92,60 @@ module _ {T : Tables} (F : Formed T) where
   typing-keeps e c q r =
       let p = reached-permitted T c q r in
       let h = reached-in F c p q r in
-      kept-sets F c q h (keeps-where T c q .0 (typing-accepted T .0 e c q (permitted-within T c p) h) r)
+      kept-sets F c q h (keeps-where T c q .0 (λ phase. typing-accepted T .0 e c q phase (permitted-within T c p) h) r)
 
 -- ---- what it names where it refuses
 
 module _ (T : Tables) where
-  -- what is told of form q at configuration c
-  abbrev told : ℕ → ℕ → Refusal
-  told q c = refusal (ruleNumber (formAt T q)) q (lowestMember (faults T c q)) c
-
-  told-fault : (q c : ℕ) → q < queryCount T → First (λ d. fails T d q) (configurations T) c → ((p : ℕ) → p < q → typingAt T p ≡ Verdict.Accepted)
-      → TypingFault T (told q c)
-  told-fault q c h f before = record {
+  told-fault : (q phase c : ℕ) → q < queryCount T → phase < 2 → First (λ d. fails T d phase q) (configurations T) c
+      → ((p : ℕ) → p < phase → phaseAt T q p ≡ Verdict.Accepted) → ((p : ℕ) → p < q → typingAt T p ≡ Verdict.Accepted)
+      → TypingFault T (faultRefusal T q phase c)
+  told-fault q phase c h n f earlier before = record {
     inside = h;
-    permits = fails-permitted T c q (f .holds);
+    permits = fails-permitted T c phase q (f .holds);
+    phase = phase;
+    isPhase = n;
     failing = f .holds;
     numbered = refl;
     itemOf = refl;
-    lowerForms = λ p d l k. form-accepted T p .0 (before p l) d k;
+    lowerForms = λ p i d l. form-accepted T p .0 (before p l) i d;
+    lowerPhases = λ p d l. phase-accepted T q p .0 (earlier p l) d;
     lowerConfigurations = f .before;
   }
 
-  refused-at : (q : ℕ) (r : Refusal) → typingAt T q ≡ Verdict.Refused r → (c : ℕ) × (First (λ d. fails T d q) (configurations T) c) × (told q c ≡ r)
-  refused-at q r e = go (lowest (λ c. fails T c q) (configurations T)) refl e
+  phase-refused : (q phase : ℕ) (r : Refusal) → phaseAt T q phase ≡ Verdict.Refused r
+      → (c : ℕ) × (First (λ d. fails T d phase q) (configurations T) c) × (faultRefusal T q phase c ≡ r)
+  phase-refused q phase r e = go (lowest (λ c. fails T c phase q) (configurations T)) refl e
     where
-      go : (x : Found) → lowest (λ c. fails T c q) (configurations T) ≡ x → refuseAt (told q) x ≡ Verdict.Refused r
-          → (c : ℕ) × (First (λ d. fails T d q) (configurations T) c) × (told q c ≡ r)
+      go : (x : Found) → lowest (λ c. fails T c phase q) (configurations T) ≡ x → refuseAt (faultRefusal T q phase) x ≡ Verdict.Refused r
+          → (c : ℕ) × (First (λ d. fails T d phase q) (configurations T) c) × (faultRefusal T q phase c ≡ r)
       go Found.Nothing p u = accepted-not-refused u refl
-      go (Found.At c) p u = (c, lowest-at (λ d. fails T d q) (configurations T) c p, cc)
+      go (Found.At c) p u = (c, lowest-at (λ d. fails T d phase q) (configurations T) c p, cc)
 
   fault-of : (r : Refusal) → typingCheck T ≡ Verdict.Refused r → TypingFault T r
   unfolding typingCheck
   fault-of r e =
       let f = first-refused (typingAt T) (queryCount T) 0 r e in
-      let a = refused-at (f .at) r (f .gave) in
+      let g = first-refused (phaseAt T (f .at)) 2 0 r (f .gave) in
+      let a = phase-refused (f .at) (g .at) r (g .gave) in
       let h = f .below in
-      subst (TypingFault T) (a .2) (told-fault (f .at) (a .0) (omega arith) (a .1) (λ p l. f .before p (omega arith) l))
+      let n = g .below in
+      subst (TypingFault T) (a .2)
+      (told-fault (f .at) (g .at) (a .0) (omega arith) (omega arith) (a .1) (λ p l. g .before p (omega arith) l) (λ p l. f .before p (omega arith) l))
 
   of-fault : (r : Refusal) → TypingFault T r → typingCheck T ≡ Verdict.Refused r
   unfolding typingCheck
   of-fault r f =
       let h = f .inside in
+      let n = f .isPhase in
       refused-first (typingAt T) (queryCount T) 0 (r .place) r (omega arith) (omega arith)
-      (λ q l k. form-accepted T q .1 (λ c m. f .lowerForms q c k m))
-      (ap (refuseAt (told (r .place)))
-      (at-lowest (λ c. fails T c (r .place)) (configurations T) (r .configuration)
+      (λ q l k. form-accepted T q .1 (λ phase c. f .lowerForms q phase c k))
+      (refused-first (phaseAt T (r .place)) 2 0 (f .phase) r (omega arith) (omega arith)
+      (λ p l k. phase-accepted T (r .place) p .1 (λ c. f .lowerPhases p c k))
+      (ap (refuseAt (faultRefusal T (r .place) (f .phase)))
+      (at-lowest (λ c. fails T c (f .phase) (r .place)) (configurations T) (r .configuration)
       (record { below = permitted-within T (r .configuration) (f .permits); holds = f .failing; before = f .lowerConfigurations }))
-      ∙ ap₂ (λ (n i : ℕ). Verdict.Refused (refusal n (r .place) i (r .configuration))) (sym (f .numbered)) (sym (f .itemOf)))
+      ∙ ap₂ (λ (n i : ℕ). Verdict.Refused (refusal n (r .place) i (r .configuration))) (sym (f .numbered)) (sym (f .itemOf))))
 
   -- the typing check refuses by r exactly where r is that refusal, so there is one
   pub typing-refused : (r : Refusal) → (typingCheck T ≡ Verdict.Refused r) ↔ TypingFault T r
@@ -140,40 +156,55 @@ module _ (T : Tables) where
 
   -- ---- its number, and its item
 
-  rule-number : (c q n : ℕ) (x : Query) → n ≡ ruleNumber x → faultsOf T c q x ≢ 0 → (p i d : ℕ) → isTypingFault (Verdict.Refused (refusal n p i d)) ≡ true
-  rule-number c q n Query.Malformed e f = absurd (f refl)
-  rule-number c q n Query.Empty e f = absurd (f refl)
-  rule-number c q n (Query.Relation a) e f = λ p i d. rw e
-  rule-number c q n (Query.Select a b) e f = λ p i d. rw e
-  rule-number c q n (Query.Project a b) e f = λ p i d. rw e
-  rule-number c q n (Query.Choice a b d) e f = absurd (f refl)
-  rule-number c q n (Query.Product a b) e f = λ p i d. rw e
-  rule-number c q n (Query.Union a b) e f = λ p i d. rw e
-  rule-number c q n (Query.Intersection a b) e f = λ p i d. rw e
+  rule-number : (c q : ℕ) (x : Query) → faultsOf T c q x ≢ 0 → isOfTyping (ruleNumber x) ≡ true
+  rule-number c q Query.Malformed f = absurd (f refl)
+  rule-number c q Query.Empty f = absurd (f refl)
+  rule-number c q (Query.Relation a) f = refl
+  rule-number c q (Query.Select a b) f = refl
+  rule-number c q (Query.Project a b) f = refl
+  rule-number c q (Query.Choice a b d) f = absurd (f refl)
+  rule-number c q (Query.Product a b) f = refl
+  rule-number c q (Query.Union a b) f = refl
+  rule-number c q (Query.Intersection a b) f = refl
 
-  -- the number is one of 15 to 19
-  pub fault-number : (r : Refusal) → TypingFault T r → isTypingFault (Verdict.Refused r) ≡ true
+  phase-number : (c phase q : ℕ) → faults T c phase q ≢ 0 → isOfTyping (faultNumber phase (formAt T q)) ≡ true
   unfolding faults
+  phase-number c zero q f = rule-number c q (formAt T q) f
+  phase-number c (suc phase) q f = refl
+
+  -- the number is one of 15 to 19, or 25
+  pub fault-number : (r : Refusal) → TypingFault T r → isTypingFault (Verdict.Refused r) ≡ true
   fault-number r f =
-      rule-number (r .configuration) (r .place) (r .number) (formAt T (r .place)) (f .numbered)
-      (fails-where T (r .configuration) (r .place) .0 (f .failing) .1) (r .place) (r .item) (r .configuration)
+      ap isOfTyping (f .numbered)
+      ∙ phase-number (r .configuration) (f .phase) (r .place) (fails-where T (r .configuration) (r .place) (f .phase) .0 (f .failing) .1)
 
 -- the item is the lowest of those at fault
 module _ {T : Tables} (F : Formed T) (r : Refusal) (f : TypingFault T r) where
-  pub fault-item : First (bit (faults T (r .configuration) (r .place))) 64 (r .item)
+  pub fault-item : First (bit (faults T (r .configuration) (f .phase) (r .place))) 64 (r .item)
   fault-item =
-      let s = faults-narrow F (r .configuration) (r .place) (f .inside) in
-      let e = fails-where T (r .configuration) (r .place) .0 (f .failing) .1 in
-      rw (f .itemOf, trailing-member (faults T (r .configuration) (r .place)) s e) (trailing-first 64 (faults T (r .configuration) (r .place)) s e)
+      let s = faults-narrow F (r .configuration) (f .phase) (r .place) (f .inside) in
+      let e = fails-where T (r .configuration) (r .place) (f .phase) .0 (f .failing) .1 in
+      rw (f .itemOf, trailing-member (faults T (r .configuration) (f .phase) (r .place)) s e)
+      (trailing-first 64 (faults T (r .configuration) (f .phase) (r .place)) s e)
 
   -- of a relation form that is the relation, which is absent
   pub fault-relation : (a : ℕ) → formAt T (r .place) ≡ Query.Relation a → (r .item ≡ a) × (present T (r .configuration) a ≡ false)
   unfolding faults
-  fault-relation a e = go (present T (r .configuration) a) refl (ap (λ (y : Query). bit (faultsOf T (r .configuration) (r .place) y) (r .item)) (sym e) ∙ fault-item .holds)
+  fault-relation a e =
+      go (f .phase) (present T (r .configuration) a) refl
+      (ap (λ (y : Query). bit (faultsIn T (r .configuration) (f .phase) (r .place) y) (r .item)) (sym e) ∙ fault-item .holds)
     where
-      go : (t : Bool) → present T (r .configuration) a ≡ t → bit (cond t 0 (2 ^ a)) (r .item) ≡ true → (r .item ≡ a) × (t ≡ false)
-      go true p u = absurd (false≢true (sym (bit-none (r .item)) ∙ u))
-      go false p u = (eqb-true (r .item) a (sym (bit-pow a (r .item)) ∙ u), refl)
+      none : bit 0 (r .item) ≡ true → ⊥
+      none u = false≢true (sym (bit-none (r .item)) ∙ u)
+
+      -- the second phase finds nothing in a relation form
+      go : (phase : ℕ) (t : Bool) → present T (r .configuration) a ≡ t
+          → bit (faultsIn T (r .configuration) phase (r .place) (Query.Relation a)) (r .item) ≡ true
+          → (r .item ≡ a) × (present T (r .configuration) a ≡ false)
+      go zero true p u = absurd (none (rw p at u))
+      go zero false p u = (eqb-true (r .item) a (sym (bit-pow a (r .item)) ∙ (rw p at u)), p)
+      go (suc zero) t p u = absurd (none u)
+      go (suc (suc phase)) t p u = absurd (none u)
 
 -- ---- the column rows
 

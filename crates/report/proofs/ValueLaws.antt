@@ -1,12 +1,13 @@
 -- Laws of a value for each form (specs/Values), for any type of values.
 use Prim.Native.Nat.{ℕ, zero, suc, _+_, _<_}
-use mathlib.Core.Path.{_≡_, refl, sym, ap, ap₂, _∙_, fun-ext}
+use mathlib.Core.Path.{_≡_, refl, sym, ap, ap₂, _∙_, fun-ext, subst₂}
 use mathlib.Core.Logic.{⊎-elim}
 use mathlib.Core.List.{List, [], _∷_, _++_, map, map-append}
 use native.Mathlib.Nat.{eq-or-lt-of-le, le-of-suc-le-suc, not-suc-le-zero, lt-of-lt-of-le, lt-suc-self}
 use native.Mathlib.Numerals.{add-one}
+use native.Mathlib.Decide.{decLt}
 use native.Mathlib.Omega.{arith}
-use lib.ListN.{length, getD, length-append, List·getD-append, List·getD-map}
+use lib.ListN.{length, getD, length-append, List·getD-append, List·getD-map, List·getD-eq-default}
 use lib.Seq.{getD-at}
 use Rattle.report.specs.Values.{value, valuesBelow}
 
@@ -52,3 +53,23 @@ module _ {A B : Type 0} (h : A → B) (d : A) (step : (ℕ → A) → ℕ → A)
 
     pub value-map : (n : ℕ) → h (value d step n) ≡ value (h d) step′ n
     value-map n = read-map (valuesBelow d step n) n ∙ ap (λ (l : List B). step′ (λ k. getD l k (h d)) n) (values-map n)
+
+-- A value and a family of others stand in a relation wherever each step keeps it. It asks nothing of the tables either
+module _ {A B I : Type 0} (R : A → (I → B) → Type 0) (d : A) (step : (ℕ → A) → ℕ → A) (e : B) (step′ : I → (ℕ → B) → ℕ → B) (none : R d (λ i. e))
+    (next : (f : ℕ → A) (g : I → ℕ → B) → ((k : ℕ) → R (f k) (λ i. g i k)) → (n : ℕ) → R (step f n) (λ i. step′ i (g i) n))
+  where
+    pub value-related : (n : ℕ) → R (value d step n) (λ i. value e (step′ i) n)
+    value-related =
+        strong (λ n. R (value d step n) (λ i. value e (step′ i) n))
+        (λ n ih.
+        next (λ k. getD (valuesBelow d step n) k d) (λ i k. getD (valuesBelow e (step′ i) n) k e) (λ k. read n k (ih k) (decLt k n)) n)
+      where
+        related : {x x′ : A} {y y′ : I → B} → x ≡ x′ → ((i : I) → y i ≡ y′ i) → R x′ y′ → R x y
+        related p q = subst₂ R (sym p) (sym (fun-ext q))
+
+        read : (n k : ℕ) → (k < n → R (value d step k) (λ i. value e (step′ i) k)) → Dec (k < n)
+            → R (getD (valuesBelow d step n) k d) (λ i. getD (valuesBelow e (step′ i) n) k e)
+        read n k ih (yes h) = related (values-at d step n k h) (λ i. values-at e (step′ i) n k h) (ih h)
+        read n k ih (no h) =
+            related (List·getD-eq-default (valuesBelow d step n) d (omega (arith, length-values d step n)))
+            (λ i. List·getD-eq-default (valuesBelow e (step′ i) n) e (omega (arith, length-values e (step′ i) n))) none

@@ -9,14 +9,14 @@ use lib.Bits.{bitAnd, bitOr}
 use Rattle.sets.specs.Search.{countBelow}
 use Rattle.sets.specs.Bits.{subset}
 use Rattle.sets.proofs.SearchLaws.{count-lt}
-use Rattle.report.specs.Tables.{Tables, queryCount, projectStart, report}
+use Rattle.report.specs.Tables.{Tables, kindOf, queryCount, projectStart, report}
 use Rattle.report.specs.Expressions.{permitted}
 use Rattle.report.specs.Typing.{taken, present, reached}
 use Rattle.report.specs.Formed.{Formed, QueryLower}
 use Rattle.report.specs.Operands.{queryOperands, isChoice}
 use Rattle.report.specs.FormChecks.{isOperand}
 use Rattle.report.specs.Configuring.{queryKept, newRelation, newQuery, configured}
-use Rattle.report.specs.PlainAlgebra.{PlainQuery, Schema, named, setFrom, inSchema, attributesIn, columns, passes}
+use Rattle.report.specs.PlainAlgebra.{PlainQuery, Schema, Kinds, comparisonKeeps, setFrom, inSchema, attributesIn, columns, passes}
 use Rattle.report.specs.ConfiguredReport.{plainQueryOf, plainQueryAt, configuredReport, configuredSchema}
 use Rattle.report.specs.WrittenTables.{renamed, WrittenTables}
 use Rattle.report.specs.declared.Query.{Query}
@@ -57,25 +57,31 @@ module _ (old new : Schema) (f : ℕ → ℕ) where
   columns-renamed (PlainQuery.union p q) a = columns-renamed p (a .0)
   columns-renamed (PlainQuery.intersection p q) a = columns-renamed p (a .0)
 
-  two-pass : (rule : ℕ → ℕ → Bool) (p q : PlainQuery) → RelationsAgree p × RelationsAgree q → passes new (renamed f p) ≡ passes old p
-      → passes new (renamed f q) ≡ passes old q
-      → (passes new (renamed f p) && passes new (renamed f q) && rule (columns new (renamed f p)) (columns new (renamed f q)))
-      ≡ (passes old p && passes old q && rule (columns old p) (columns old q))
-  two-pass rule p q a x y = λ i. x i && y i && rule (columns-renamed p (a .0) i) (columns-renamed q (a .1) i)
+  module _ (kind : Kinds) where
+    two-pass : (rule : ℕ → ℕ → Bool) (p q : PlainQuery) → RelationsAgree p × RelationsAgree q → passes kind new (renamed f p) ≡ passes kind old p
+        → passes kind new (renamed f q) ≡ passes kind old q
+        → (passes kind new (renamed f p) && passes kind new (renamed f q) && rule (columns new (renamed f p)) (columns new (renamed f q)))
+        ≡ (passes kind old p && passes kind old q && rule (columns old p) (columns old q))
+    two-pass rule p q a x y = λ i. x i && y i && rule (columns-renamed p (a .0) i) (columns-renamed q (a .1) i)
 
-  pub passes-renamed : (t : PlainQuery) → RelationsAgree t → passes new (renamed f t) ≡ passes old t
-  passes-renamed PlainQuery.empty a = refl
-  passes-renamed (PlainQuery.relation r) a = ap inSchema a
-  passes-renamed (PlainQuery.select t q) a = ap₂ (λ (b : Bool) (x : ℕ). b && subset (named t) x) (passes-renamed q a) (columns-renamed q a)
-  passes-renamed (PlainQuery.project l q) a = ap₂ (λ (b : Bool) (x : ℕ). b && subset (setFrom l) x) (passes-renamed q a) (columns-renamed q a)
-  passes-renamed (PlainQuery.product p q) a = two-pass (λ x y. eqb (bitAnd x y) 0) p q a (passes-renamed p (a .0)) (passes-renamed q (a .1))
-  passes-renamed (PlainQuery.union p q) a = two-pass eqb p q a (passes-renamed p (a .0)) (passes-renamed q (a .1))
-  passes-renamed (PlainQuery.intersection p q) a = two-pass eqb p q a (passes-renamed p (a .0)) (passes-renamed q (a .1))
+    pub passes-renamed : (t : PlainQuery) → RelationsAgree t → passes kind new (renamed f t) ≡ passes kind old t
+    passes-renamed PlainQuery.empty a = refl
+    passes-renamed (PlainQuery.relation r) a = ap inSchema a
+    passes-renamed (PlainQuery.select t q) a = ap₂ (λ (b : Bool) (x : ℕ). b && comparisonKeeps kind x t) (passes-renamed q a) (columns-renamed q a)
+    passes-renamed (PlainQuery.project l q) a = ap₂ (λ (b : Bool) (x : ℕ). b && subset (setFrom l) x) (passes-renamed q a) (columns-renamed q a)
+    passes-renamed (PlainQuery.product p q) a = two-pass (λ x y. eqb (bitAnd x y) 0) p q a (passes-renamed p (a .0)) (passes-renamed q (a .1))
+    passes-renamed (PlainQuery.union p q) a = two-pass eqb p q a (passes-renamed p (a .0)) (passes-renamed q (a .1))
+    passes-renamed (PlainQuery.intersection p q) a = two-pass eqb p q a (passes-renamed p (a .0)) (passes-renamed q (a .1))
 
 -- u is the tree t of T at c with its relations renumbered, each of which the tables written have as it was
 pub record Renumbered (T : Tables) (c : ℕ) (u t : PlainQuery) : Type 0 where
   pub same : u ≡ renamed (newRelation T c) t
   pub agree : RelationsAgree (configuredSchema T c) (configuredSchema (configured T c) 0) (newRelation T c) t
+
+-- the tables written have the same kinds
+pub kinds-written : (T : Tables) (c : ℕ) → kindOf (configured T c) ≡ kindOf T
+unfolding configured
+kinds-written T c = refl
 
 -- ---- the tree of the tables written
 
@@ -158,11 +164,13 @@ module _ {T : Tables} (F : Formed T) (c : ℕ) (ok : permitted T c ≡ true) (P 
   report-written = report-same .same
 
   -- it passes where the configured report passes, and has its columns
-  pub passes-written : passes (configuredSchema (configured T c) 0) (configuredReport (configured T c) 0)
-      ≡ passes (configuredSchema T c) (configuredReport T c)
+  pub passes-written : passes (kindOf (configured T c)) (configuredSchema (configured T c) 0) (configuredReport (configured T c) 0)
+      ≡ passes (kindOf T) (configuredSchema T c) (configuredReport T c)
   passes-written =
-      ap (passes (configuredSchema (configured T c) 0)) report-written
-      ∙ passes-renamed (configuredSchema T c) (configuredSchema (configured T c) 0) (newRelation T c) (configuredReport T c) (report-same .agree)
+      ap (passes (kindOf (configured T c)) (configuredSchema (configured T c) 0)) report-written
+      ∙ passes-renamed (configuredSchema T c) (configuredSchema (configured T c) 0) (newRelation T c) (kindOf (configured T c)) (configuredReport T c)
+      (report-same .agree)
+      ∙ ap (λ (kind : Kinds). passes kind (configuredSchema T c) (configuredReport T c)) (kinds-written T c)
 
   pub columns-written : columns (configuredSchema (configured T c) 0) (configuredReport (configured T c) 0)
       ≡ columns (configuredSchema T c) (configuredReport T c)

@@ -8,7 +8,7 @@ use lib.ListN.{length}
 use Rattle.sets.specs.Bits.{bit}
 use Rattle.sets.proofs.SearchLaws.{at-some, nothing-seek}
 use Rattle.sets.proofs.RowLaws.{within-out}
-use Rattle.report.specs.Tables.{Tables, relationExpression, relationLength, relationStart, entryAttribute, entryExpression}
+use Rattle.report.specs.Tables.{Tables, kindOf, relationExpression, relationLength, relationStart, entryAttribute, entryExpression}
 use Rattle.report.specs.Tables.{relationCount, report}
 use Rattle.report.specs.Expressions.{holds, configurations, permitted}
 use Rattle.report.specs.Typing.{at, setOf}
@@ -37,7 +37,7 @@ use Rattle.report.proofs.WrittenFormed.{RelationsPresent}
 use Rattle.report.proofs.Written.{tables-written, passes-written, columns-written}
 
 -- where the configured report passes, every relation that c reaches is present
-pub passes-present : {T : Tables} → Formed T → (c : ℕ) → permitted T c ≡ true → passes (configuredSchema T c) (configuredReport T c) ≡ true
+pub passes-present : {T : Tables} → Formed T → (c : ℕ) → permitted T c ≡ true → passes (kindOf T) (configuredSchema T c) (configuredReport T c) ≡ true
     → RelationsPresent T c
 passes-present {T} F c ok good q a r e =
     let clean = passes-clean F c (report T) (report-in F) .0 good q (sym (reached-leads F c ok q) ∙ r) in
@@ -84,7 +84,7 @@ module _ {T : Tables} (F : Formed T) (c : ℕ) where
       accepted-both (accepted-if _ (ap not (at-zero T c (λ d. true) refl)))
       (accepted-first (relationCheck (configured T c)) (relationCount (configured T c)) 0 (λ r l h. relation-accepted r (omega arith)))
 
-  module _ (ok : permitted T c ≡ true) (good : passes (configuredSchema T c) (configuredReport T c) ≡ true) where
+  module _ (ok : permitted T c ≡ true) (good : passes (kindOf T) (configuredSchema T c) (configuredReport T c) ≡ true) where
     pub passes-writes : WrittenTables T c
     passes-writes = tables-written F c ok (passes-present F c ok good)
 
@@ -97,7 +97,7 @@ module _ {T : Tables} (F : Formed T) (c : ℕ) where
 
     -- the report of the tables written passes at 0, their one configuration
     written-passes : (d : ℕ) → permitted (configured T c) d ≡ true
-        → passes (configuredSchema (configured T c) d) (configuredReport (configured T c) d) ≡ true
+        → passes (kindOf (configured T c)) (configuredSchema (configured T c) d) (configuredReport (configured T c) d) ≡ true
     written-passes zero p = passes-written F c ok (passes-present F c ok good) ∙ good
     written-passes (suc d) p = absurd (false≢true (sym (only-zero T c (suc d) (omega arith)) ∙ p))
 
@@ -128,7 +128,7 @@ module _ {T : Tables} (F : Formed T) (c : ℕ) where
 
 -- ---- an accepted report
 
--- a call that accepts has accepted 1 to 10, 12 to 14, and 15 to 19, and none of its own conditions holds
+-- a call that accepts has accepted 1 to 10, 24, 12 to 14, 15 to 19 and 25, and none of its own conditions holds
 module _ (T : Tables) (call : Call) (e : answer T call ≡ Verdict.Accepted) where
   gets : GetsAsFarAsTyping T call
   unfolding answer
@@ -151,7 +151,7 @@ module _ (T : Tables) (call : Call) (e : answer T call ≡ Verdict.Accepted) whe
 
   module _ (c : ℕ) (ok : permitted T c ≡ true) where
     -- the configured report passes at every permitted configuration
-    pub called-passes : passes (configuredSchema T c) (configuredReport T c) ≡ true
+    pub called-passes : passes (kindOf T) (configuredSchema T c) (configuredReport T c) ≡ true
     called-passes = typing-passes called-formed .0 called-typed c ok
 
     -- and its columns are the report's set there
@@ -166,7 +166,7 @@ module _ (T : Tables) (room : ℕ) (e : answer T (checking room) ≡ Verdict.Acc
   checked-formed = called-formed T (checking room) e
 
   module _ (c : ℕ) (ok : permitted T c ≡ true) where
-    pub checked-passes : passes (configuredSchema T c) (configuredReport T c) ≡ true
+    pub checked-passes : passes (kindOf T) (configuredSchema T c) (configuredReport T c) ≡ true
     checked-passes = called-passes T (checking room) e c ok
 
     -- the columns are those that the rows show there

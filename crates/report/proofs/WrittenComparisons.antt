@@ -16,7 +16,7 @@ use Rattle.report.specs.Typing.{at, taken}
 use Rattle.report.specs.Configuring.{targetOf, comparisonTarget, comparisonKept, newComparison, comparisonFormOf, configured}
 use Rattle.report.specs.PlainAlgebra.{PlainComparison}
 use Rattle.report.specs.ConfiguredReport.{plainComparisonOf, plainComparisonAt}
-use Rattle.report.specs.FormChecks.{comparisonOk}
+use Rattle.report.specs.FormChecks.{isKind, constantKind, comparisonOk, constantOk}
 use Rattle.report.specs.Formed.{Formed, ComparisonLower, OperandsBelow}
 use Rattle.report.specs.declared.Comparison.{Comparison}
 use Rattle.report.specs.declared.Operands.{Operands}
@@ -46,7 +46,7 @@ module _ (T : Tables) (c : ℕ) where
   five-words m e f Comparison.Malformed l p = absurd l
   five-words m e f Comparison.Never l p = refl
   five-words m e f Comparison.Always l p = refl
-  five-words m e f (Comparison.Constant o a b) l p = refl
+  five-words m e f (Comparison.Constant o a b k) l p = refl
   five-words m e f (Comparison.Attribute o a b) l p = refl
   five-words m e f (Comparison.Not a) l p = refl
   five-words m e f (Comparison.And a b) l p = refl
@@ -127,7 +127,7 @@ module _ {T : Tables} (F : Formed T) (c : ℕ) where
   renumbered-lower f h Comparison.Malformed p l = absurd l
   renumbered-lower f h Comparison.Never p l = tt
   renumbered-lower f h Comparison.Always p l = tt
-  renumbered-lower f h (Comparison.Constant o a b) p l = l
+  renumbered-lower f h (Comparison.Constant o a b k) p l = l
   renumbered-lower f h (Comparison.Attribute o a b) p l = l
   renumbered-lower f h (Comparison.Not a) p l = new-lower a f (omega arith) l
   renumbered-lower f h (Comparison.And a b) p l = (new-lower a f (omega arith) (l .0), new-lower b f (omega arith) (l .1))
@@ -152,6 +152,26 @@ module _ {T : Tables} (F : Formed T) (c : ℕ) where
       subst (λ (x : ℕ). comparisonOk (configured T c) x ≡ true) (n .number)
       (comparison-fits (T .attributes) 1 _ (comparison (configured T c .comparisons) _) (written-lower (n .old) (n .below) (n .passed)))
 
+  renumbered-kind : (x : Comparison) → isChoice (comparisonOperands x) ≡ false → constantKind (renumberedComparison T c x) ≡ constantKind x
+  renumbered-kind Comparison.Malformed p = refl
+  renumbered-kind Comparison.Never p = refl
+  renumbered-kind Comparison.Always p = refl
+  renumbered-kind (Comparison.Constant o a b k) p = refl
+  renumbered-kind (Comparison.Attribute o a b) p = refl
+  renumbered-kind (Comparison.Not a) p = refl
+  renumbered-kind (Comparison.And a b) p = refl
+  renumbered-kind (Comparison.Or a b) p = refl
+  renumbered-kind (Comparison.Choice a b d) p = absurd (false≢true (sym p))
+
+  -- check 24 of their constants
+  pub constants-ok : (k : ℕ) → k < comparisonCount (configured T c) → constantOk (configured T c) k ≡ true
+  constants-ok k h =
+      let n = nth (comparisonKept T c) (comparisonCount T) k (let e = comparisons-count in omega arith) in
+      subst (λ (x : ℕ). constantOk (configured T c) x ≡ true) (n .number)
+      (ap (λ (x : Comparison). isKind (constantKind x)) (comparison-written (n .old) (n .below) (n .passed))
+      ∙ ap isKind (renumbered-kind (comparison (T .comparisons) (n .old)) (not-true _ (n .passed)))
+      ∙ F .constantsOk (n .old) (n .below))
+
   -- ---- and says what it said
 
   abbrev SameComparison : ℕ → Type 0
@@ -163,7 +183,7 @@ module _ {T : Tables} (F : Formed T) (c : ℕ) where
   same-rule f Comparison.Malformed p l ih = refl
   same-rule f Comparison.Never p l ih = refl
   same-rule f Comparison.Always p l ih = refl
-  same-rule f (Comparison.Constant o a b) p l ih = refl
+  same-rule f (Comparison.Constant o a b k) p l ih = refl
   same-rule f (Comparison.Attribute o a b) p l ih = refl
   same-rule f (Comparison.Not a) p l ih = ap PlainComparison.negation (ih a l)
   same-rule f (Comparison.And a b) p l ih = ap₂ PlainComparison.both (ih a (l .0)) (ih b (l .1))

@@ -1,4 +1,4 @@
--- The tables that configuring writes pass checks 1 to 10, if every relation that c reaches is present. That holds where the report is accepted;
+-- The tables that configuring writes pass checks 1 to 10 and 24, if every relation that c reaches is present. That holds where the report is accepted;
 -- from the form checks of the source alone it does not follow.
 use Prim.Native.Nat.{ℕ, zero, suc, _-_, _<_}
 use mathlib.Core.Path.{_≡_, refl, sym, ap, subst, _∙_}
@@ -26,7 +26,7 @@ use Rattle.report.proofs.FormedFacts.{query-at, operand-lower, operand-
 use Rattle.report.proofs.PassingOn.{or-either, or-first, or-second, same-number}
 use Rattle.report.proofs.LeadLaws.{formAt, operandsAt, lead, leads-apart}
 use Rattle.report.proofs.ReachLaws.{Taker, kept-both, operand-reached, target-kept, kept-count, kept-taken}
-use Rattle.report.proofs.WrittenComparisons.{comparisons-length, comparisons-ok, new-comparison}
+use Rattle.report.proofs.WrittenComparisons.{comparisons-length, comparisons-ok, constants-ok, new-comparison}
 use Rattle.report.proofs.CarriedLists.{carried-inside, carried-repeats}
 use Rattle.report.proofs.WrittenEntries.{entries-even, entries-ok, relations-length, relations-ok, new-relation}
 use Rattle.report.proofs.WrittenQueries.{renumberedQuery, queries-length, queries-count, query-written, unlisted-written, project-stands, all-used, entries-room}
@@ -228,4 +228,7 @@ module _ {T : Tables} (F : Formed T) (c : ℕ) (ok : permitted T c ≡ true) whe
       queriesOk = queries-ok;
       allTaken = queries-taken;
       allUsed = all-used F c;
+      kinded = F .kinded;
+      kindsOk = F .kindsOk;
+      constantsOk = constants-ok F c;
     }

@@ -28,7 +28,7 @@ h1-written = accepted-written (h1 2) 1024 h1-accepted 0 h1-permitted
 
 -- a report that names a relation which its feature guards, with no choice
 abbrev absent : Tables
-absent = tablesOf 1 1 0 (1 ∷ 0 ∷ 0 ∷ 2 ∷ 0 ∷ 0 ∷ []) (0 ∷ 0 ∷ []) (1 ∷ 1 ∷ []) [] (1 ∷ 0 ∷ 0 ∷ 0 ∷ [])
+absent = tablesOf 1 1 0 (1 ∷ 0 ∷ 0 ∷ 2 ∷ 0 ∷ 0 ∷ []) (0 ∷ 0 ∷ []) (1 ∷ 1 ∷ []) [] (1 ∷ 0 ∷ 0 ∷ 0 ∷ []) (0 ∷ [])
 
 -- it is sound; where the feature is off, the relation is reached and absent, and the tables written do not pass check 8
 pub absent-written : Sound absent

@@ -24,7 +24,7 @@ module _ (T : Tables) where
   abbrev pub conditions : Call → List Condition
   conditions call = formConditions T ++ call .beforeModel T ++ schemaConditions T ++ typingConditions T ++ call .afterTyping T
 
-  -- what a call runs before typing: 1 to 10, its own, 12 to 14
+  -- what a call runs before typing: 1 to 10 and 24, its own, 12 to 14
   abbrev pub beforeTyping : Call → Verdict
   beforeTyping call = orElse (formCheck T) (orElse (firstOf (call .beforeModel T)) (modelAndSchemaCheck T))
 
@@ -50,7 +50,7 @@ pub record OwnNumbers (call : Call) : Type 0 where
   pub early : (T : Tables) → allGive isEarly (call .beforeModel T) ≡ true
   pub late : (T : Tables) → allGive isLate (call .afterTyping T) ≡ true
 
--- ---- checking: 1 to 19
+-- ---- checking: 1 to 10, 24, 11 to 19, 25
 
 -- 11: the rows lent are not 1,024 words
 abbrev pub rowsCondition : ℕ → List Condition
@@ -64,7 +64,7 @@ checking room = record { beforeModel = λ T. rowsCondition room; afterTyping = �
 abbrev pub rowsAfter : Tables → List ℕ → List ℕ
 rowsAfter T lent = after (answer T (checking (length lent))) (columnRows T) lent
 
--- ---- configuring: 1 to 10, 12 to 19, 20, 21
+-- ---- configuring: 1 to 10, 24, 12 to 19, 25, 20, 21
 
 -- 20: c over 2 ^ n - 1, or not permitted
 abbrev pub permittedCondition : ℕ → Tables → List Condition

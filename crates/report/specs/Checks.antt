@@ -1,5 +1,5 @@
--- docs/FORMAT.md, "Refusals": checks 12 to 19, which every call runs, and the numbers of refusals.
-use Prim.Native.Nat.{ℕ}
+-- docs/FORMAT.md, "Refusals": checks 12 to 19 and 25, which every call runs, and the numbers of refusals.
+use Prim.Native.Nat.{ℕ, zero, suc}
 use mathlib.Core.Bool.{Bool, true, false, _&&_, _||_, not}
 use mathlib.Core.List.{List, [], _∷_}
 use lib.Dec.{eqb}
@@ -8,8 +8,9 @@ use Rattle.sets.specs.Bits.{lowestMember}
 use Rattle.report.specs.Tables.{Tables, entryAttribute, relationExpression, relationLength, query}
 use Rattle.report.specs.Tables.{relationCount, queryCount, relationStart}
 use Rattle.report.specs.Expressions.{configurations, permitted}
-use Rattle.report.specs.Typing.{at, entryHolds, faults, fails}
+use Rattle.report.specs.Typing.{phases, at, entryHolds, faults, fails}
 use Rattle.report.specs.Verdicts.{refusal, refuseIf, refuseAt, orElse, firstFrom}
+use Rattle.report.specs.declared.Refusal.{Refusal}
 use Rattle.report.specs.declared.Verdict.{Verdict}
 use Rattle.report.specs.declared.Query.{Query}
 
@@ -24,6 +25,11 @@ ruleNumber (Query.Choice a b d) = 0
 ruleNumber (Query.Product a b) = 18
 ruleNumber (Query.Union a b) = 19
 ruleNumber (Query.Intersection a b) = 19
+
+-- the number of what is found in a phase: 25 is that of kinds
+abbrev pub faultNumber : ℕ → Query → ℕ
+faultNumber zero y = ruleNumber y
+faultNumber (suc phase) y = 25
 
 module _ (T : Tables) where
   -- the test holds at some permitted configuration
@@ -53,13 +59,19 @@ module _ (T : Tables) where
   abbrev pub schemaCheck : Verdict
   schemaCheck = firstFrom relationCheck (relationCount T) 0
 
-  -- 15 to 19 of form q: its lowest failing configuration, and there the lowest item at fault
-  abbrev pub typingAt : ℕ → Verdict
-  typingAt q =
-      refuseAt (λ c. refusal (ruleNumber (query (T .queries) q)) q (lowestMember (faults T c q)) c)
-      (lowest (λ c. fails T c q) (configurations T))
+  -- the refusal of form q in a phase, at c: the lowest item at fault there
+  abbrev pub faultRefusal : ℕ → ℕ → ℕ → Refusal
+  faultRefusal q phase c = refusal (faultNumber phase (query (T .queries) q)) q (lowestMember (faults T c phase q)) c
 
-  -- 15 to 19: the lowest form that fails
+  -- one phase of form q: its lowest failing configuration
+  abbrev pub phaseAt : ℕ → ℕ → Verdict
+  phaseAt q phase = refuseAt (faultRefusal q phase) (lowest (λ c. fails T c phase q) (configurations T))
+
+  -- 15 to 19 of form q, and 25 only if they find nothing at any configuration
+  abbrev pub typingAt : ℕ → Verdict
+  typingAt q = firstFrom (phaseAt q) phases 0
+
+  -- 15 to 19 and 25: the lowest form that fails
   unfoldable pub typingCheck : Verdict
   typingCheck = firstFrom typingAt (queryCount T) 0
 
@@ -71,10 +83,10 @@ module _ (T : Tables) where
 
 -- of the checks before typing, and of typing
 abbrev pub earlyNumbers : List ℕ
-earlyNumbers = 1 ∷ 2 ∷ 3 ∷ 4 ∷ 5 ∷ 6 ∷ 7 ∷ 8 ∷ 9 ∷ 10 ∷ 11 ∷ 12 ∷ 13 ∷ 14 ∷ []
+earlyNumbers = 1 ∷ 2 ∷ 3 ∷ 4 ∷ 5 ∷ 6 ∷ 7 ∷ 8 ∷ 9 ∷ 10 ∷ 24 ∷ 11 ∷ 12 ∷ 13 ∷ 14 ∷ []
 
 abbrev pub typingNumbers : List ℕ
-typingNumbers = 15 ∷ 16 ∷ 17 ∷ 18 ∷ 19 ∷ []
+typingNumbers = 15 ∷ 16 ∷ 17 ∷ 18 ∷ 19 ∷ 25 ∷ []
 
 abbrev pub isOneOf : List ℕ → ℕ → Bool
 isOneOf [] k = false

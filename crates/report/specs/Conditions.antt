@@ -4,19 +4,19 @@ use Prim.Native.Nat.{ℕ, _+_, _-_}
 use mathlib.Core.Bool.{true, _&&_, not}
 use mathlib.Core.List.{List, [], _++_}
 use lib.ListN.{length, getD}
-use lib.Dec.{leb, ltb}
+use lib.Dec.{leb, ltb, eqb}
 use Rattle.sets.specs.Lists.{concat}
 use Rattle.sets.specs.Bits.{bit}
 use Rattle.report.specs.Tables.{Tables, shapeOf, shapes, words, entryAttribute, relationLength, relationStart, query}
 use Rattle.report.specs.Tables.{expressionCount, entryCount, relationCount, comparisonCount, queryCount}
 use Rattle.report.specs.Expressions.{configurations}
-use Rattle.report.specs.Typing.{reached, faults}
+use Rattle.report.specs.Typing.{phases, reached, faults}
 use Rattle.report.specs.Verdicts.{refusal, Condition, _gives_, each}
-use Rattle.report.specs.FormChecks.{lengthFits, expressionOk, entryOk, relationOk, comparisonOk, queryOk, takenBelow, listsEnd}
-use Rattle.report.specs.Checks.{ruleNumber, somewhere, absentEverywhere, apartEverywhere}
+use Rattle.report.specs.FormChecks.{lengthFits, expressionOk, entryOk, relationOk, comparisonOk, queryOk, kindOk, constantOk, takenBelow, listsEnd}
+use Rattle.report.specs.Checks.{faultNumber, somewhere, absentEverywhere, apartEverywhere}
 
 module _ (T : Tables) where
-  -- 1 to 10
+  -- 1 to 10, then 24
   unfoldable pub formConditions : List Condition
   formConditions =
       (ltb 10 (T .features) gives refusal 1 0 0 0)
@@ -30,6 +30,9 @@ module _ (T : Tables) where
       ++ each (queryCount T) (λ q. not (queryOk T q)) (λ q. refusal 8 q 0 0)
       ++ each (queryCount T - 1) (λ q. not (takenBelow (T .queries) (queryCount T) q)) (λ q. refusal 9 q 0 0)
       ++ (ltb (listsEnd T) (entryCount T) gives refusal 10 (listsEnd T) 0 0)
+      ++ (not (eqb (length (T .kinds)) (T .attributes)) gives refusal 24 0 0 0)
+      ++ each (length (T .kinds)) (λ a. not (kindOk T a)) (λ a. refusal 24 a 0 0)
+      ++ each (comparisonCount T) (λ f. not (constantOk T f)) (λ f. refusal 24 f 0 0)
 
   -- 12, then 13 and 14 relation by relation, 14 in the order of the list
   abbrev pub relationConditions : ℕ → List Condition
@@ -41,9 +44,10 @@ module _ (T : Tables) where
   unfoldable pub schemaConditions : List Condition
   schemaConditions = (not (somewhere T (λ c. true)) gives refusal 12 0 0 0) ++ concat (relationCount T) relationConditions
 
-  -- 15 to 19: by form, then by configuration, then by item
+  -- 15 to 19 and 25: by form, then by phase, then by configuration, then by item
   unfoldable pub typingConditions : List Condition
   typingConditions =
       concat (queryCount T)
-      (λ q. concat (configurations T)
-      (λ c. each 64 (λ a. reached T c q && bit (faults T c q) a) (λ a. refusal (ruleNumber (query (T .queries) q)) q a c)))
+      (λ q. concat phases
+      (λ phase. concat (configurations T)
+      (λ c. each 64 (λ a. reached T c q && bit (faults T c phase q) a) (λ a. refusal (faultNumber phase (query (T .queries) q)) q a c))))

@@ -18,7 +18,7 @@ module _ (T : Tables) (c : ℕ) where
   plainComparisonOf tree Comparison.Malformed = PlainComparison.never
   plainComparisonOf tree Comparison.Never = PlainComparison.never
   plainComparisonOf tree Comparison.Always = PlainComparison.always
-  plainComparisonOf tree (Comparison.Constant o a b) = PlainComparison.constant o a b
+  plainComparisonOf tree (Comparison.Constant o a b k) = PlainComparison.constant o a b k
   plainComparisonOf tree (Comparison.Attribute o a b) = PlainComparison.attribute o a b
   plainComparisonOf tree (Comparison.Not a) = PlainComparison.negation (tree a)
   plainComparisonOf tree (Comparison.And a b) = PlainComparison.both (tree a) (tree b)

@@ -22,7 +22,7 @@ abbrev pub comparisonWordsOf : (ℕ → ℕ) → Comparison → List ℕ
 comparisonWordsOf toComparison Comparison.Malformed = []
 comparisonWordsOf toComparison Comparison.Never = 0 ∷ 0 ∷ 0 ∷ 0 ∷ 0 ∷ []
 comparisonWordsOf toComparison Comparison.Always = 1 ∷ 0 ∷ 0 ∷ 0 ∷ 0 ∷ []
-comparisonWordsOf toComparison (Comparison.Constant o a b) = 2 ∷ o ∷ a ∷ b ∷ 0 ∷ []
+comparisonWordsOf toComparison (Comparison.Constant o a b k) = 2 ∷ o ∷ a ∷ b ∷ k ∷ []
 comparisonWordsOf toComparison (Comparison.Attribute o a b) = 3 ∷ o ∷ a ∷ b ∷ 0 ∷ []
 comparisonWordsOf toComparison (Comparison.Not a) = 4 ∷ 0 ∷ toComparison a ∷ 0 ∷ 0 ∷ []
 comparisonWordsOf toComparison (Comparison.And a b) = 5 ∷ 0 ∷ toComparison a ∷ toComparison b ∷ 0 ∷ []
@@ -112,7 +112,7 @@ module _ (T : Tables) (c : ℕ) where
   abbrev pub queryFormOf : ℕ → Query → List ℕ
   queryFormOf q = queryWordsOf newRelation newComparison newQuery (keptLength (projectStart T q))
 
-  -- ---- the written tables: 0 features, the same attributes, model 0, the one expression true
+  -- ---- the written tables: 0 features, the same attributes with their kinds, model 0, the one expression true
 
   unfoldable pub configured : Tables
   configured =
@@ -121,6 +121,7 @@ module _ (T : Tables) (c : ℕ) where
       (kept (present T c) relationForm (relationCount T))
       (kept comparisonKept (λ f. comparisonFormOf (comparison (T .comparisons) f)) (comparisonCount T))
       (kept queryKept (λ q. queryFormOf q (query (T .queries) q)) (queryCount T))
+      (T .kinds)
 
 -- a lent table with words written to it: those after them are unchanged
 abbrev pub written : List ℕ → List ℕ → List ℕ

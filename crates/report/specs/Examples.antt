@@ -1,8 +1,9 @@
--- docs/FORMAT.md, "Worked examples": H1 to H10, three cases more, and those of document 02's second and fourth wish, as one list. Their theorem is
--- proofs/ExamplesHold.
+-- docs/FORMAT.md, "Worked examples": H1 to H10, three cases more, and those of document 02's second, fourth and fifth wish, as one list. Their
+-- theorem is proofs/ExamplesHold.
 use Prim.Native.Nat.{ℕ, _+_, _-_, _^_}
 use mathlib.Core.List.{List, [], _∷_, _++_}
 use lib.ListN.{replicate}
+use Rattle.sets.specs.Lists.{concat}
 use Rattle.report.specs.Tables.{Tables, tablesOf, entryCount, relationCount, comparisonCount, queryCount}
 use Rattle.report.specs.ColumnRows.{columnRows}
 use Rattle.report.specs.Configuring.{configured}
@@ -49,9 +50,13 @@ infix 5 _gives_
 abbrev pub _gives_ : Case → Outcome → Example
 c gives o = record { of = c; gives = o }
 
+-- a kind table of m words, all of them 0
+abbrev pub moments : ℕ → List ℕ
+moments m = replicate m 0
+
 -- tables with H1's attributes and relation: the expressions, entries and queries
 abbrev pub harbour : ℕ → List ℕ → List ℕ → List ℕ → Tables
-harbour n expressions entries queries = tablesOf n 3 0 expressions entries (0 ∷ 3 ∷ []) [] queries
+harbour n expressions entries queries = tablesOf n 3 0 expressions entries (0 ∷ 3 ∷ []) [] queries (moments 3)
 
 abbrev pub h1Expressions : List ℕ
 h1Expressions = 1 ∷ 0 ∷ 0 ∷ 2 ∷ 0 ∷ 0 ∷ 2 ∷ 1 ∷ 0 ∷ []
@@ -74,12 +79,13 @@ h1 n = harbour n h1Expressions (h1Entries 2) h1Queries
 abbrev pub guarded : List ℕ → ℕ → Tables
 guarded entries count =
     tablesOf 1 2 0 (1 ∷ 0 ∷ 0 ∷ 2 ∷ 0 ∷ 0 ∷ 3 ∷ 1 ∷ 0 ∷ []) entries (1 ∷ count ∷ []) [] (1 ∷ 0 ∷ 0 ∷ 0 ∷ 0 ∷ 0 ∷ 0 ∷ 0 ∷ 4 ∷ 1 ∷ 0 ∷ 1 ∷ [])
+    (moments 2)
 
 -- two features, swaps and tide gates; attributes 0, the berth, and 1, the ramp. Expressions true, swaps, tide gates, one of the two, not swaps, swaps
 -- and not swaps
 abbrev pub ramps : List ℕ → List ℕ → List ℕ → Tables
 ramps entries relations queries =
-    tablesOf 2 2 0 (1 ∷ 0 ∷ 0 ∷ 2 ∷ 0 ∷ 0 ∷ 2 ∷ 1 ∷ 0 ∷ 5 ∷ 1 ∷ 2 ∷ 3 ∷ 1 ∷ 0 ∷ 4 ∷ 1 ∷ 4 ∷ []) entries relations [] queries
+    tablesOf 2 2 0 (1 ∷ 0 ∷ 0 ∷ 2 ∷ 0 ∷ 0 ∷ 2 ∷ 1 ∷ 0 ∷ 5 ∷ 1 ∷ 2 ∷ 3 ∷ 1 ∷ 0 ∷ 4 ∷ 1 ∷ 4 ∷ []) entries relations [] queries (moments 2)
 
 -- the relation lists the ramp for swaps, the berth, and the ramp again for tide gates; the report is the relation
 abbrev pub rampTwice : Tables
@@ -87,7 +93,7 @@ rampTwice = ramps (1 ∷ 1 ∷ 0 ∷ 0 ∷ 1 ∷ 2 ∷ []) (0 ∷ 3 ∷ []) (1 �
 
 -- what is written for it, with such entries
 abbrev pub rampWritten : ℕ → List ℕ → Outcome
-rampWritten n entries = Outcome.counts n 1 0 1 (tablesOf 0 2 0 (1 ∷ 0 ∷ 0 ∷ []) entries (0 ∷ n ∷ []) [] (1 ∷ 0 ∷ 0 ∷ 0 ∷ []))
+rampWritten n entries = Outcome.counts n 1 0 1 (tablesOf 0 2 0 (1 ∷ 0 ∷ 0 ∷ []) entries (0 ∷ n ∷ []) [] (1 ∷ 0 ∷ 0 ∷ 0 ∷ []) (moments 2))
 
 -- the relation lists the berth and, under expression e, the ramp; the project form lists the ramp for swaps, again for tide gates, and the berth
 abbrev pub rampProjected : ℕ → Tables
@@ -97,7 +103,7 @@ rampProjected e =
 -- n features; the model is an expression of this kind with words `first` and `count`; one relation, always present, always lists the one attribute;
 -- the report is the relation. So the attribute's row has the permitted configurations
 abbrev pub quayOf : ℕ → ℕ → ℕ → ℕ → Tables
-quayOf kind n first count = tablesOf n 1 0 (kind ∷ first ∷ count ∷ 1 ∷ 0 ∷ 0 ∷ []) (0 ∷ 1 ∷ []) (1 ∷ 1 ∷ []) [] (1 ∷ 0 ∷ 0 ∷ 0 ∷ [])
+quayOf kind n first count = tablesOf n 1 0 (kind ∷ first ∷ count ∷ 1 ∷ 0 ∷ 0 ∷ []) (0 ∷ 1 ∷ []) (1 ∷ 1 ∷ []) [] (1 ∷ 0 ∷ 0 ∷ 0 ∷ []) (moments 1)
 
 -- a quay has exactly one of the features
 abbrev pub quay : ℕ → ℕ → ℕ → Tables
@@ -105,13 +111,53 @@ quay = quayOf 6
 
 -- what is written for it at a permitted configuration
 abbrev pub quayWritten : Outcome
-quayWritten = Outcome.counts 1 1 0 1 (tablesOf 0 1 0 (1 ∷ 0 ∷ 0 ∷ []) (0 ∷ 0 ∷ []) (0 ∷ 1 ∷ []) [] (1 ∷ 0 ∷ 0 ∷ 0 ∷ []))
+quayWritten = Outcome.counts 1 1 0 1 (tablesOf 0 1 0 (1 ∷ 0 ∷ 0 ∷ []) (0 ∷ 0 ∷ []) (0 ∷ 1 ∷ []) [] (1 ∷ 0 ∷ 0 ∷ 0 ∷ []) (moments 1))
 
 -- two features, all configurations permitted. Expressions true; 1, exactly one of the two; not 1; 1 and 1. The relation lists attributes 0, 1 and 2
 -- under the last three; the report is the relation
 abbrev pub quayShared : Tables
 quayShared =
     tablesOf 2 3 0 (1 ∷ 0 ∷ 0 ∷ 6 ∷ 0 ∷ 2 ∷ 3 ∷ 1 ∷ 0 ∷ 4 ∷ 1 ∷ 1 ∷ []) (0 ∷ 1 ∷ 1 ∷ 2 ∷ 2 ∷ 3 ∷ []) (0 ∷ 3 ∷ []) [] (1 ∷ 0 ∷ 0 ∷ 0 ∷ [])
+    (moments 3)
+
+-- one feature; attributes 0, the arrival, 1, the passengers, and 2, the ship. Expressions true and the feature. The relation always lists all three; the
+-- report selects from it by comparison f
+abbrev pub arrivals : List ℕ → ℕ → List ℕ → Tables
+arrivals comparisons f kinds =
+    tablesOf 1 3 0 (1 ∷ 0 ∷ 0 ∷ 2 ∷ 0 ∷ 0 ∷ []) (0 ∷ 0 ∷ 1 ∷ 0 ∷ 2 ∷ 0 ∷ []) (0 ∷ 3 ∷ []) comparisons (1 ∷ 0 ∷ 0 ∷ 0 ∷ 2 ∷ f ∷ 0 ∷ 0 ∷ []) kinds
+
+-- the arrival is a moment, the passengers are a count, the ship is a name
+abbrev pub kinds012 : List ℕ
+kinds012 = 0 ∷ 1 ∷ 2 ∷ []
+
+-- all three attributes at both configurations
+abbrev pub arrivalRows : Outcome
+arrivalRows = Outcome.rows (3 ∷ replicate 15 0 ++ 3 ∷ replicate 15 0 ++ 3 ∷ replicate 991 0)
+
+-- the arrival compared with the passengers; with the constant 830 of a kind; the passengers with the constant 300 of a kind; always
+abbrev pub arrivalByCount : List ℕ
+arrivalByCount = 3 ∷ 0 ∷ 0 ∷ 1 ∷ 0 ∷ []
+
+abbrev pub arrivalBy : ℕ → List ℕ
+arrivalBy kind = 2 ∷ 0 ∷ 0 ∷ 830 ∷ kind ∷ []
+
+abbrev pub passengersBy : ℕ → List ℕ
+passengersBy kind = 2 ∷ 0 ∷ 1 ∷ 300 ∷ kind ∷ []
+
+abbrev pub alwaysWords : List ℕ
+alwaysWords = 1 ∷ 0 ∷ 0 ∷ 0 ∷ 0 ∷ []
+
+-- two features; the relation always lists attribute 0 and lists attribute 1 where not both are on. Queries follow the relation
+abbrev pub lacking : List ℕ → List ℕ → Tables
+lacking comparisons queries =
+    tablesOf 2 2 0 (1 ∷ 0 ∷ 0 ∷ 2 ∷ 0 ∷ 0 ∷ 2 ∷ 1 ∷ 0 ∷ 4 ∷ 1 ∷ 2 ∷ 3 ∷ 3 ∷ 0 ∷ []) (0 ∷ 0 ∷ 1 ∷ 4 ∷ []) (0 ∷ 2 ∷ []) comparisons
+    (1 ∷ 0 ∷ 0 ∷ 0 ∷ queries) (0 ∷ 1 ∷ [])
+
+-- a file that compares attribute 0 with attribute 1, and its kind lines
+abbrev pub kindFile : List ℕ → List ℕ
+kindFile kinds =
+    bytes "(head 0 2 0)\n(expression 1 0 0)\n(entry 0 0)\n(entry 1 0)\n(relation 0 2)\n(comparison 3 0 0 1 0)\n(query 1 0 0 0)\n(query 2 0 0 0)\n"
+    ++ kinds
 
 abbrev pub checked : Tables → Case
 checked T = Case.checks T 1024
@@ -121,8 +167,9 @@ h1Text =
     bytes
     "(head 2 3 0)\n(expression 1 0 0)\n(expression 2 0 0)\n(expression 2 1 0)\n(entry 0 0)\n(entry 1 0)\n(entry 2 2)\n(entry 0 0)\n(entry 2 2)\n(relation 0 3)\n(query 1 0 0 0)\n(query 3 2 0 0)\n"
 
-abbrev pub examples : List Example
-examples =
+-- H1 to H10 and three cases more
+abbrev pub harbourExamples : List Example
+harbourExamples =
     -- H1, as tables and as a file
     (checked (h1 2) gives Outcome.rows (15 ∷ replicate 31 0 ++ 12 ∷ replicate 991 0))
     ∷ (Case.program h1Text gives Outcome.printed (bytes "(accepted)\n(at 0 (has 0))\n(at 1 (has 0))\n(at 2 (has 0 2))\n(at 3 (has 0 2))\n"))
@@ -132,7 +179,7 @@ examples =
     -- H4
     ∷ (Case.configures (h1 2) 0 10 2 0 8
     gives Outcome.counts 3 1 0 2
-    (tablesOf 0 3 0 (1 ∷ 0 ∷ 0 ∷ []) (0 ∷ 0 ∷ 1 ∷ 0 ∷ 0 ∷ 0 ∷ []) (0 ∷ 2 ∷ []) [] (1 ∷ 0 ∷ 0 ∷ 0 ∷ 3 ∷ 1 ∷ 0 ∷ 0 ∷ [])))
+    (tablesOf 0 3 0 (1 ∷ 0 ∷ 0 ∷ []) (0 ∷ 0 ∷ 1 ∷ 0 ∷ 0 ∷ 0 ∷ []) (0 ∷ 2 ∷ []) [] (1 ∷ 0 ∷ 0 ∷ 0 ∷ 3 ∷ 1 ∷ 0 ∷ 0 ∷ []) (moments 3)))
     -- H5, H6, H7
     ∷ (checked (harbour 2 h1Expressions schemaEntries (1 ∷ 0 ∷ 0 ∷ 0 ∷ 1 ∷ 0 ∷ 0 ∷ 0 ∷ 5 ∷ 0 ∷ 1 ∷ 0 ∷ [])) gives Outcome.refused 18 2 0 0)
     ∷ (checked (harbour 2 h1Expressions schemaEntries (1 ∷ 0 ∷ 0 ∷ 0 ∷ 5 ∷ 0 ∷ 0 ∷ 0 ∷ [])) gives Outcome.refused 8 1 0 0)
@@ -155,8 +202,13 @@ examples =
     (harbour 2 h1Expressions (h1Entries 1 ++ (2 ∷ 0 ∷ []))
     (1 ∷ 0 ∷ 0 ∷ 0 ∷ 1 ∷ 0 ∷ 0 ∷ 0 ∷ 3 ∷ 2 ∷ 0 ∷ 0 ∷ 3 ∷ 1 ∷ 1 ∷ 0 ∷ 5 ∷ 3 ∷ 2 ∷ 0 ∷ []))
     gives Outcome.refused 17 2 2 1)
+    ∷ []
+
+-- the second wish
+abbrev pub repeatExamples : List Example
+repeatExamples =
     -- An attribute may occur more than once in a list, and is there when any of its entries holds; 6, and in a project form 8, do not cover repeats
-    ∷ (checked rampTwice gives Outcome.rows (15 ∷ replicate 15 0 ++ 14 ∷ replicate 1007 0))
+    (checked rampTwice gives Outcome.rows (15 ∷ replicate 15 0 ++ 14 ∷ replicate 1007 0))
     ∷ (checked (rampProjected 0) gives Outcome.rows (15 ∷ replicate 15 0 ++ 14 ∷ replicate 1007 0))
     -- 14 tests each entry by itself: the ramp's second entry holds nowhere, its first does
     ∷ (checked (ramps (1 ∷ 1 ∷ 0 ∷ 0 ∷ 1 ∷ 5 ∷ []) (0 ∷ 3 ∷ []) (1 ∷ 0 ∷ 0 ∷ 0 ∷ [])) gives Outcome.refused 14 0 1 0)
@@ -166,15 +218,20 @@ examples =
     ∷ (Case.configures rampTwice 0 6 2 0 4 gives rampWritten 1 (0 ∷ 0 ∷ []))
     ∷ (Case.configures (rampProjected 0) 3 10 2 0 8
     gives Outcome.counts 4 1 0 2
-    (tablesOf 0 2 0 (1 ∷ 0 ∷ 0 ∷ []) (0 ∷ 0 ∷ 1 ∷ 0 ∷ 1 ∷ 0 ∷ 0 ∷ 0 ∷ []) (0 ∷ 2 ∷ []) [] (1 ∷ 0 ∷ 0 ∷ 0 ∷ 3 ∷ 2 ∷ 0 ∷ 0 ∷ [])))
+    (tablesOf 0 2 0 (1 ∷ 0 ∷ 0 ∷ []) (0 ∷ 0 ∷ 1 ∷ 0 ∷ 1 ∷ 0 ∷ 0 ∷ 0 ∷ []) (0 ∷ 2 ∷ []) [] (1 ∷ 0 ∷ 0 ∷ 0 ∷ 3 ∷ 2 ∷ 0 ∷ 0 ∷ []) (moments 2)))
     -- acceptance is judged on the joined lists: a union with a relation that lists the ramp where one of the features is on; a project form whose
     -- second entry of the ramp holds where the relation has none
     ∷ (checked
     (ramps (1 ∷ 1 ∷ 0 ∷ 0 ∷ 1 ∷ 2 ∷ 0 ∷ 0 ∷ 1 ∷ 3 ∷ []) (0 ∷ 3 ∷ 0 ∷ 2 ∷ []) (1 ∷ 0 ∷ 0 ∷ 0 ∷ 1 ∷ 1 ∷ 0 ∷ 0 ∷ 6 ∷ 0 ∷ 1 ∷ 0 ∷ []))
     gives Outcome.rows (15 ∷ replicate 15 0 ++ 14 ∷ replicate 1007 0))
     ∷ (checked (rampProjected 1) gives Outcome.refused 17 1 1 2)
+    ∷ []
+
+-- the fourth wish
+abbrev pub quayExamples : List Example
+quayExamples =
     -- A quay is tidal, locked or floating, never two: at 1, 2 and 4, and at no other of the eight configurations. As tables and as a file
-    ∷ (checked (quay 3 0 3) gives Outcome.rows (22 ∷ replicate 1023 0))
+    (checked (quay 3 0 3) gives Outcome.rows (22 ∷ replicate 1023 0))
     ∷ (Case.program (bytes "(head 3 1 0)\n(expression 6 0 3)\n(expression 1 0 0)\n(entry 0 1)\n(relation 1 1)\n(query 1 0 0 0)\n")
     gives Outcome.printed (bytes "(accepted)\n(at 1 (has 0))\n(at 2 (has 0))\n(at 4 (has 0))\n"))
     -- a is the first feature: of features 1 and 2 exactly one is on at 2, 3, 4 and 5, whatever feature 0 is
@@ -202,3 +259,59 @@ examples =
     -- 7 and over are unknown
     ∷ (checked (quayOf 7 3 0 3) gives Outcome.refused 3 0 0 0)
     ∷ []
+
+-- the fifth wish
+abbrev pub kindExamples : List Example
+kindExamples =
+    -- A report compared an arrival with a passenger count: 25, place the select, item the left attribute
+    (checked (arrivals arrivalByCount 0 kinds012) gives Outcome.refused 25 1 0 0)
+    ∷ (checked (arrivals arrivalByCount 0 (1 ∷ 1 ∷ 2 ∷ [])) gives arrivalRows)
+    -- a constant's kind stands in word c, which 7 no longer wants 0
+    ∷ (checked (arrivals (arrivalBy 0) 0 kinds012) gives arrivalRows)
+    ∷ (checked (arrivals (passengersBy 1) 0 kinds012) gives arrivalRows)
+    ∷ (checked (arrivals (arrivalBy 1) 0 kinds012) gives Outcome.refused 25 1 0 0)
+    ∷ (checked (arrivals (passengersBy 0) 0 kinds012) gives Outcome.refused 25 1 1 0)
+    -- at every configuration that reaches them, choices taken: where the feature is off; where it is on; nowhere, of a choice that always takes the other
+    ∷ (checked (arrivals (arrivalByCount ++ alwaysWords ++ 7 ∷ 0 ∷ 1 ∷ 1 ∷ 0 ∷ []) 2 kinds012) gives Outcome.refused 25 1 0 0)
+    ∷ (checked (arrivals (arrivalByCount ++ alwaysWords ++ 7 ∷ 0 ∷ 1 ∷ 0 ∷ 1 ∷ []) 2 kinds012) gives Outcome.refused 25 1 0 1)
+    ∷ (checked (arrivals (arrivalByCount ++ alwaysWords ++ 7 ∷ 0 ∷ 0 ∷ 1 ∷ 0 ∷ []) 2 kinds012) gives arrivalRows)
+    -- through not, and, or
+    ∷ (checked (arrivals (arrivalByCount ++ 4 ∷ 0 ∷ 0 ∷ 0 ∷ 0 ∷ []) 1 kinds012) gives Outcome.refused 25 1 0 0)
+    ∷ (checked (arrivals (arrivalByCount ++ alwaysWords ++ 6 ∷ 0 ∷ 0 ∷ 1 ∷ 0 ∷ []) 2 kinds012) gives Outcome.refused 25 1 0 0)
+    -- a comparison that no select reaches is not judged so
+    ∷ (checked (arrivals (arrivalByCount ++ alwaysWords) 1 kinds012) gives arrivalRows)
+    -- the lowest left attribute at fault, of two comparisons; not the right one, though it is lower
+    ∷ (checked (arrivals (passengersBy 0 ++ arrivalBy 1 ++ 5 ∷ 0 ∷ 0 ∷ 1 ∷ 0 ∷ []) 2 kinds012) gives Outcome.refused 25 1 0 0)
+    ∷ (checked (arrivals (3 ∷ 0 ∷ 2 ∷ 1 ∷ 0 ∷ []) 0 kinds012) gives Outcome.refused 25 1 2 0)
+    -- looked for only when 16 fails there at no configuration: kinds differ at 0, the attribute is missing at 3
+    ∷ (checked (lacking arrivalByCount (2 ∷ 0 ∷ 0 ∷ 0 ∷ [])) gives Outcome.refused 16 1 1 3)
+    -- but a lower form's 25 comes before a higher form's 16
+    ∷ (checked (lacking (arrivalBy 1 ++ passengersBy 1) (2 ∷ 0 ∷ 0 ∷ 0 ∷ 2 ∷ 1 ∷ 1 ∷ 0 ∷ [])) gives Outcome.refused 25 1 0 0)
+    -- a report with no comparisons is judged as before
+    ∷ (checked (tablesOf 2 3 0 h1Expressions (h1Entries 2) (0 ∷ 3 ∷ []) [] h1Queries kinds012)
+    gives Outcome.rows (15 ∷ replicate 31 0 ++ 12 ∷ replicate 991 0))
+    -- 24: a kind table of no words, of one too few, of one too many; else the lowest word over 2; else the lowest comparison with such a kind, which no
+    -- select reaches
+    ∷ (checked (arrivals alwaysWords 0 []) gives Outcome.refused 24 0 0 0)
+    ∷ (checked (arrivals alwaysWords 0 (0 ∷ 1 ∷ [])) gives Outcome.refused 24 0 0 0)
+    ∷ (checked (arrivals alwaysWords 0 (0 ∷ 1 ∷ 2 ∷ 0 ∷ [])) gives Outcome.refused 24 0 0 0)
+    ∷ (checked (arrivals (arrivalBy 3) 0 (0 ∷ 3 ∷ 65535 ∷ [])) gives Outcome.refused 24 1 0 0)
+    ∷ (checked (arrivals (alwaysWords ++ arrivalBy 3 ++ arrivalBy 65535) 0 kinds012) gives Outcome.refused 24 1 0 0)
+    -- after 10, and before 11 and 12
+    ∷ (checked (tablesOf 0 1 0 (1 ∷ 0 ∷ 0 ∷ []) (0 ∷ 0 ∷ []) [] [] (0 ∷ 0 ∷ 0 ∷ 0 ∷ []) []) gives Outcome.refused 10 0 0 0)
+    ∷ (Case.checks (tablesOf 0 1 0 (0 ∷ 0 ∷ 0 ∷ []) [] [] [] (0 ∷ 0 ∷ 0 ∷ 0 ∷ []) []) 0 gives Outcome.refused 24 0 0 0)
+    -- configuring copies word c, and the kinds stay
+    ∷ (Case.configures (arrivals (passengersBy 1) 0 kinds012) 1 6 2 5 8
+    gives Outcome.counts 3 1 1 2
+    (tablesOf 0 3 0 (1 ∷ 0 ∷ 0 ∷ []) (0 ∷ 0 ∷ 1 ∷ 0 ∷ 2 ∷ 0 ∷ []) (0 ∷ 3 ∷ []) (passengersBy 1) (1 ∷ 0 ∷ 0 ∷ 0 ∷ 2 ∷ 0 ∷ 0 ∷ 0 ∷ []) kinds012))
+    -- a harbour file may end in kind lines; with none, all kinds are 0; some, but not m, are 24; none past the 64th is read
+    ∷ (Case.program (kindFile (bytes "(kind 0)\n(kind 1)\n")) gives Outcome.printed (bytes "(refused 25 1 0 0)\n"))
+    ∷ (Case.program (kindFile (bytes "(kind 1)\n(kind 1)\n")) gives Outcome.printed (bytes "(accepted)\n(at 0 (has 0 1))\n"))
+    ∷ (Case.program (kindFile []) gives Outcome.printed (bytes "(accepted)\n(at 0 (has 0 1))\n"))
+    ∷ (Case.program (kindFile (bytes "(kind 0)\n")) gives Outcome.printed (bytes "(refused 24 0 0 0)\n"))
+    ∷ (Case.program (kindFile (concat 64 (λ i. bytes "(kind 0)\n"))) gives Outcome.printed (bytes "(refused 24 0 0 0)\n"))
+    ∷ (Case.program (kindFile (concat 65 (λ i. bytes "(kind 0)\n"))) gives Outcome.printed (bytes "(unread 73)\n"))
+    ∷ []
+
+abbrev pub examples : List Example
+examples = harbourExamples ++ repeatExamples ++ quayExamples ++ kindExamples

@@ -1,4 +1,4 @@
--- docs/FORMAT.md, "Refusals": checks 1 to 10, in its order. A form `fits` where its row of the table finds nothing in it.
+-- docs/FORMAT.md, "Refusals": checks 1 to 10 and 24, in its order. A form `fits` where its row of the table finds nothing in it.
 use Prim.Native.Nat.{ℕ, _+_, _-_, _/_, _%_}
 use mathlib.Core.Bool.{Bool, true, false, _&&_, not}
 use mathlib.Core.List.{List, []}
@@ -7,7 +7,7 @@ use lib.Dec.{leb, ltb, eqb}
 use Rattle.sets.specs.Search.{lowest, someBelow}
 use Rattle.report.specs.Tables.{Tables, Shape, shapeOf, shapes, words, entryAttribute, entryExpression, relationExpression, relationLength}
 use Rattle.report.specs.Tables.{expression, comparison, query, expressionCount, entryCount, relationCount, comparisonCount, queryCount}
-use Rattle.report.specs.Tables.{relationStart, projectedBefore, relationsEnd, projectStart}
+use Rattle.report.specs.Tables.{kindIn, kindOf, relationStart, projectedBefore, relationsEnd, projectStart}
 use Rattle.report.specs.Operands.{queryOperands, isAmong}
 use Rattle.report.specs.Verdicts.{refusal, refuseIf, refuseAt, orElse, firstFrom}
 use Rattle.report.specs.declared.Verdict.{Verdict}
@@ -43,12 +43,28 @@ abbrev pub comparisonFits : ℕ → ℕ → ℕ → Comparison → Bool
 comparisonFits m e f Comparison.Malformed = false
 comparisonFits m e f Comparison.Never = true
 comparisonFits m e f Comparison.Always = true
-comparisonFits m e f (Comparison.Constant o a b) = leb o 5 && ltb a m
+comparisonFits m e f (Comparison.Constant o a b k) = leb o 5 && ltb a m
 comparisonFits m e f (Comparison.Attribute o a b) = leb o 5 && ltb a m && ltb b m
 comparisonFits m e f (Comparison.Not a) = ltb a f
 comparisonFits m e f (Comparison.And a b) = ltb a f && ltb b f
 comparisonFits m e f (Comparison.Or a b) = ltb a f && ltb b f
 comparisonFits m e f (Comparison.Choice a b d) = ltb a e && ltb b f && ltb d f
+
+-- a kind is 0 moment, 1 count or 2 name
+abbrev pub isKind : ℕ → Bool
+isKind k = leb k 2
+
+-- the kind that stands in a comparison, its constant's; 0 where none does
+abbrev pub constantKind : Comparison → ℕ
+constantKind Comparison.Malformed = 0
+constantKind Comparison.Never = 0
+constantKind Comparison.Always = 0
+constantKind (Comparison.Constant o a b k) = k
+constantKind (Comparison.Attribute o a b) = 0
+constantKind (Comparison.Not a) = 0
+constantKind (Comparison.And a b) = 0
+constantKind (Comparison.Or a b) = 0
+constantKind (Comparison.Choice a b d) = 0
 
 -- form x is an operand of a query form
 abbrev pub isOperand : ℕ → Query → Bool
@@ -138,6 +154,20 @@ untakenCheck queries =
 abbrev pub leftEntryCheck : ℕ → ℕ → Verdict
 leftEntryCheck end count = refuseIf (ltb end count) (refusal 10 end 0 0)
 
+-- 24: the kind table is not m words; else its lowest word that is no kind
+abbrev pub kindTableCheck : ℕ → List ℕ → Verdict
+kindTableCheck m kinds =
+    orElse (refuseIf (not (eqb (length kinds) m)) (refusal 24 0 0 0))
+    (refuseAt (λ a. refusal 24 a 0 0) (lowest (λ a. not (isKind (kindIn kinds a))) (length kinds)))
+
+-- else the lowest comparison in which a word that is no kind stands as one, whether a query names it or not
+abbrev pub constantsCheck : List ℕ → Verdict
+constantsCheck comparisons =
+    refuseAt (λ f. refusal 24 f 0 0) (lowest (λ f. not (isKind (constantKind (comparison comparisons f)))) (length comparisons / 5))
+
+unfoldable pub kindsCheck : ℕ → List ℕ → List ℕ → Verdict
+kindsCheck m kinds comparisons = orElse (kindTableCheck m kinds) (constantsCheck comparisons)
+
 module _ (T : Tables) where
   -- form k of each table fits
   abbrev pub expressionOk : ℕ → Bool
@@ -158,6 +188,13 @@ module _ (T : Tables) where
   abbrev pub queryOk : ℕ → Bool
   queryOk q = queryFitsIn q (query (T .queries) q)
 
+  -- word a of the kind table, and the kind that stands in comparison f, are kinds
+  abbrev pub kindOk : ℕ → Bool
+  kindOk a = isKind (kindOf T a)
+
+  abbrev pub constantOk : ℕ → Bool
+  constantOk f = isKind (constantKind (comparison (T .comparisons) f))
+
   -- where all lists end
   abbrev pub listsEnd : ℕ
   listsEnd = projectStart T (queryCount T)
@@ -167,8 +204,8 @@ module _ (T : Tables) where
   lengthsCheck = firstFrom (λ t. lengthCheck (getD shapes t (shapeOf 1 0 0)) t (length (getD (words T) t []))) 5 0
 
   -- checks 1 to 10
-  unfoldable pub formCheck : Verdict
-  formCheck =
+  unfoldable pub tablesCheck : Verdict
+  tablesCheck =
       orElse (headCheck (T .features) (T .attributes))
       (orElse lengthsCheck
       (orElse (expressionsCheck (T .features) (T .expressions))
@@ -178,3 +215,7 @@ module _ (T : Tables) where
       (orElse (comparisonsCheck (T .attributes) (expressionCount T) (T .comparisons))
       (orElse (queriesCheck (expressionCount T) (relationCount T) (comparisonCount T) (T .entries) (relationsEnd T) (T .queries))
       (orElse (untakenCheck (T .queries)) (leftEntryCheck listsEnd (entryCount T))))))))))
+
+  -- checks 1 to 10, then 24
+  unfoldable pub formCheck : Verdict
+  formCheck = orElse tablesCheck (kindsCheck (T .attributes) (T .kinds) (T .comparisons))

@@ -7,7 +7,7 @@ use mathlib.Core.List.{List}
 use lib.ListN.{length}
 use Rattle.report.specs.Tables.{Tables, Shape, shapeOf, entryAttribute, entryExpression, query, projectStart}
 use Rattle.report.specs.Tables.{expressionCount, entryCount, relationCount, comparisonCount, queryCount}
-use Rattle.report.specs.FormChecks.{isOperand, takenBelow, expressionOk, entryOk, relationOk, comparisonOk, queryOk, listsEnd}
+use Rattle.report.specs.FormChecks.{isOperand, takenBelow, expressionOk, entryOk, relationOk, comparisonOk, queryOk, kindOk, constantOk, listsEnd}
 use Rattle.report.specs.declared.Expression.{Expression}
 use Rattle.report.specs.declared.Comparison.{Comparison}
 use Rattle.report.specs.declared.Query.{Query}
@@ -21,7 +21,7 @@ pub record Sized (s : Shape) (count : ℕ) : Type 0 where
   pub enough : s .least ≤ count / s .width
   pub fits : count / s .width ≤ s .most
 
--- tables of which none of the conditions 1 to 10 holds
+-- tables of which none of the conditions 1 to 10 and 24 holds
 pub record Formed (T : Tables) : Type 0 where
   pub few : T .features ≤ 10
   pub narrow : T .attributes ≤ 64
@@ -38,6 +38,9 @@ pub record Formed (T : Tables) : Type 0 where
   pub queriesOk : (q : ℕ) → q < queryCount T → queryOk T q ≡ true
   pub allTaken : (q : ℕ) → q < queryCount T - 1 → takenBelow (T .queries) (queryCount T) q ≡ true
   pub allUsed : entryCount T ≤ listsEnd T
+  pub kinded : length (T .kinds) ≡ T .attributes
+  pub kindsOk : (a : ℕ) → a < length (T .kinds) → kindOk T a ≡ true
+  pub constantsOk : (f : ℕ) → f < comparisonCount T → constantOk T f ≡ true
 
 -- ---- one form
 
@@ -57,7 +60,7 @@ abbrev pub ComparisonLower : ℕ → ℕ → ℕ → Comparison → Type 0
 ComparisonLower m e f Comparison.Malformed = ⊥
 ComparisonLower m e f Comparison.Never = Unit {0}
 ComparisonLower m e f Comparison.Always = Unit {0}
-ComparisonLower m e f (Comparison.Constant o a b) = (o ≤ 5) × (a < m)
+ComparisonLower m e f (Comparison.Constant o a b k) = (o ≤ 5) × (a < m)
 ComparisonLower m e f (Comparison.Attribute o a b) = (o ≤ 5) × (a < m) × (b < m)
 ComparisonLower m e f (Comparison.Not a) = a < f
 ComparisonLower m e f (Comparison.And a b) = (a < f) × (b < f)

@@ -1,8 +1,8 @@
 -- docs/FORMAT.md, "Harbour file": which lines a file may have, its first bad line, the tables that it holds.
-use Prim.Native.Nat.{ℕ, zero, suc, _+_}
+use Prim.Native.Nat.{ℕ, zero, suc, _+_, min}
 use mathlib.Core.Bool.{Bool, true, false, _&&_, _||_, not}
 use mathlib.Core.List.{List, [], _∷_, _++_, map}
-use lib.ListN.{length, getD}
+use lib.ListN.{length, getD, replicate}
 use lib.Dec.{leb, ltb, eqb}
 use Rattle.sets.specs.declared.Found.{Found}
 use Rattle.sets.specs.Search.{lowest, allBelow, countBelow}
@@ -18,7 +18,7 @@ pub record Group : Type 0 where
 abbrev pub groupOf : List ℕ → Shape → Group
 groupOf word shape = record { word = word; shape = shape }
 
--- the groups in their order: one head line, then the forms of tables 0 to 4
+-- the groups in their order: one head line, then the forms of tables 0 to 4, then the words of the kind table
 abbrev pub groups : List Group
 groups =
     groupOf (bytes "head") (shapeOf 3 1 1)
@@ -27,6 +27,7 @@ groups =
     ∷ groupOf (bytes "relation") (getD shapes 2 (shapeOf 0 0 0))
     ∷ groupOf (bytes "comparison") (getD shapes 3 (shapeOf 0 0 0))
     ∷ groupOf (bytes "query") (getD shapes 4 (shapeOf 0 0 0))
+    ∷ groupOf (bytes "kind") (shapeOf 1 0 64)
     ∷ []
 
 -- ---- lines: each ends with its line feed; bytes after the last line feed are a line too
@@ -52,7 +53,7 @@ isLineOf g text =
     let ns = numbersIn text in
     eqb (length ns) (g .shape .width) && allAtMost 65535 ns && same text (line (g .word) ns)
 
--- the number of the group whose line it is; 6 where it is none's
+-- the number of the group whose line it is; where it is none's, how many groups there are
 abbrev pub groupNumber : List Group → List ℕ → ℕ
 groupNumber [] text = 0
 groupNumber (g ∷ gs) text = elim (isLineOf g text) [ true ↦ 0 | false ↦ suc (groupNumber gs text) ]
@@ -64,7 +65,7 @@ module _ (group : ℕ → ℕ) where
   -- is of a later group; or there are as many lines of its group before it as the group may have
   abbrev pub isBad : ℕ → Bool
   isBad k =
-      leb 6 (group k)
+      leb (length groups) (group k)
       || not (allBelow (λ j. leb (group j) (group k)) k)
       || leb (getD groups (group k) (groupOf [] (shapeOf 0 0 0)) .shape .most) (countBelow (λ j. eqb (group j) (group k)) k)
       || (eqb k 0 && not (eqb (group k) 0))
@@ -78,8 +79,15 @@ pub data File : Type 0 where
   unread : ℕ → File
   holds : Tables → File
 
+-- the kind table of a file whose head says m attributes: its kind lines' or, with none, all kinds are 0. They are written for at most 64 attributes: where
+-- there are more, 1 refuses the report before its kinds are looked at
+abbrev pub kindsOr : ℕ → List ℕ → List ℕ
+kindsOr m [] = replicate (min m 64) 0
+kindsOr m (k ∷ ks) = k ∷ ks
+
 abbrev pub tablesFrom : (ℕ → List ℕ) → Tables
-tablesFrom ws = tablesOf (getD (ws 0) 0 0) (getD (ws 0) 1 0) (getD (ws 0) 2 0) (ws 1) (ws 2) (ws 3) (ws 4) (ws 5)
+tablesFrom ws =
+    tablesOf (getD (ws 0) 0 0) (getD (ws 0) 1 0) (getD (ws 0) 2 0) (ws 1) (ws 2) (ws 3) (ws 4) (ws 5) (kindsOr (getD (ws 0) 1 0) (ws 6))
 
 abbrev pub fileOr : Found → Tables → File
 fileOr (Found.At k) T = unread (suc k)
@@ -93,7 +101,7 @@ atLeastOne (suc n) = suc n
 unfoldable pub fileLines : List (List ℕ) → File
 fileLines lines =
     let numbers = map (groupNumber groups) lines in
-    let group : ℕ → ℕ = λ k. getD numbers k 6 in
+    let group : ℕ → ℕ = λ k. getD numbers k (length groups) in
     fileOr (lowest (isBad group) (atLeastOne (length lines))) (tablesFrom (wordsOf group lines))
 
 -- a file of more than 65,536 bytes is not read: 0

@@ -11,7 +11,7 @@ abbrev pub comparisonOperands : Comparison → Operands
 comparisonOperands Comparison.Malformed = Operands.Nothing
 comparisonOperands Comparison.Never = Operands.Nothing
 comparisonOperands Comparison.Always = Operands.Nothing
-comparisonOperands (Comparison.Constant o a b) = Operands.Nothing
+comparisonOperands (Comparison.Constant o a b k) = Operands.Nothing
 comparisonOperands (Comparison.Attribute o a b) = Operands.Nothing
 comparisonOperands (Comparison.Not a) = Operands.One a
 comparisonOperands (Comparison.And a b) = Operands.Both a b

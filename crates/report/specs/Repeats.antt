@@ -12,7 +12,7 @@ use Rattle.report.specs.Tables.{expressionCount, entryCount, relationCou
 use Rattle.report.specs.Typing.{entryHolds, present}
 use Rattle.report.specs.Configuring.{queryWordsOf, queryKept, newRelation, newComparison, newQuery, configured}
 use Rattle.report.specs.FormChecks.{listFits, relationOk, queryOk, listsEnd, headCheck, lengthsCheck, expressionsCheck, modelFormCheck}
-use Rattle.report.specs.FormChecks.{entriesCheck, comparisonsCheck, untakenCheck, leftEntryCheck}
+use Rattle.report.specs.FormChecks.{entriesCheck, comparisonsCheck, untakenCheck, leftEntryCheck, kindsCheck}
 use Rattle.report.specs.Verdicts.{refusal, refuseAt, orElse, firstOf}
 use Rattle.report.specs.Checks.{modelAndSchemaCheck, typingCheck}
 use Rattle.report.specs.Calls.{Call}
@@ -45,22 +45,22 @@ module _ (T : Tables) where
   unfoldable pub queriesCheckBefore : Verdict
   queriesCheckBefore = refuseAt (λ q. refusal 8 q 0 0) (lowest (λ q. not (queryOk T q && not (projectRepeats q))) (queryCount T))
 
-  -- checks 1 to 10, with these two for 6 and 8
-  abbrev pub formCheckWith : Verdict → Verdict → Verdict
-  formCheckWith six eight =
+  -- checks 1 to 10, with these three for 6, 7 and 8
+  abbrev pub tablesCheckWith : Verdict → Verdict → Verdict → Verdict
+  tablesCheckWith six seven eight =
       orElse (headCheck (T .features) (T .attributes))
       (orElse (lengthsCheck T)
       (orElse (expressionsCheck (T .features) (T .expressions))
       (orElse (modelFormCheck (expressionCount T) (T .model))
       (orElse (entriesCheck (T .attributes) (expressionCount T) (T .entries))
       (orElse six
-      (orElse (comparisonsCheck (T .attributes) (expressionCount T) (T .comparisons))
+      (orElse seven
       (orElse eight (orElse (untakenCheck (T .queries)) (leftEntryCheck (listsEnd T) (entryCount T))))))))))
 
   -- the answer of a call as it was: no other check has changed
   unfoldable pub answerBefore : Call → Verdict
   answerBefore call =
-      orElse (orElse (formCheckWith relationsCheckBefore queriesCheckBefore) (orElse (firstOf (call .beforeModel T)) (modelAndSchemaCheck T)))
+      orElse (orElse (orElse (tablesCheckWith relationsCheckBefore (comparisonsCheck (T .attributes) (expressionCount T) (T .comparisons)) queriesCheckBefore) (kindsCheck (T .attributes) (T .kinds) (T .comparisons))) (orElse (firstOf (call .beforeModel T)) (modelAndSchemaCheck T)))
       (orElse (typingCheck T) (firstOf (call .afterTyping T)))
 
 module _ (T : Tables) (c : ℕ) where
@@ -84,3 +84,4 @@ module _ (T : Tables) (c : ℕ) where
       (configured T c .comparisons)
       (kept (queryKept T c)
       (λ q. queryWordsOf (newRelation T c) (newComparison T c) (newQuery T c) (heldLength (projectStart T q)) (query (T .queries) q)) (queryCount T))
+      (T .kinds)

@@ -1,4 +1,4 @@
--- docs/FORMAT.md, "Tables": the head and the five tables as words, their forms, and where the lists lie.
+-- docs/FORMAT.md, "Tables": the head, the five tables and the kind table as words, their forms, and where the lists lie.
 use Prim.Native.Nat.{ℕ, zero, suc, _+_, _-_, _*_, _/_}
 use mathlib.Core.Bool.{Bool, true, cond, _&&_}
 use mathlib.Core.List.{List, [], _∷_}
@@ -19,9 +19,11 @@ pub record Tables : Type 0 where
   pub relations : List ℕ
   pub comparisons : List ℕ
   pub queries : List ℕ
+  -- the kind table: of each attribute its kind
+  pub kinds : List ℕ
 
-abbrev pub tablesOf : ℕ → ℕ → ℕ → List ℕ → List ℕ → List ℕ → List ℕ → List ℕ → Tables
-tablesOf features attributes model expressions entries relations comparisons queries = record {
+abbrev pub tablesOf : ℕ → ℕ → ℕ → List ℕ → List ℕ → List ℕ → List ℕ → List ℕ → List ℕ → Tables
+tablesOf features attributes model expressions entries relations comparisons queries kinds = record {
   features = features;
   attributes = attributes;
   model = model;
@@ -30,6 +32,7 @@ tablesOf features attributes model expressions entries relations comparisons que
   relations = relations;
   comparisons = comparisons;
   queries = queries;
+  kinds = kinds;
 }
 
 -- the words of tables 0 to 4
@@ -83,7 +86,7 @@ comparisonOf kind o a b c =
     getD
     (unused Comparison.Malformed (o ∷ a ∷ b ∷ c ∷ []) Comparison.Never
     ∷ unused Comparison.Malformed (o ∷ a ∷ b ∷ c ∷ []) Comparison.Always
-    ∷ unused Comparison.Malformed (c ∷ []) (Comparison.Constant o a b)
+    ∷ Comparison.Constant o a b c
     ∷ unused Comparison.Malformed (c ∷ []) (Comparison.Attribute o a b)
     ∷ unused Comparison.Malformed (o ∷ b ∷ c ∷ []) (Comparison.Not a)
     ∷ unused Comparison.Malformed (o ∷ c ∷ []) (Comparison.And a b)
@@ -128,6 +131,13 @@ comparison t k = comparisonOf (getD t (k * 5) 0) (word t 5 k 1) (word t 5 k 2) (
 
 abbrev pub query : List ℕ → ℕ → Query
 query t k = queryOf (getD t (k * 4) 0) (word t 4 k 1) (word t 4 k 2) (word t 4 k 3)
+
+-- the kind of attribute a, in a kind table, and in that of T: 0 moment, 1 count, 2 name
+abbrev pub kindIn : List ℕ → ℕ → ℕ
+kindIn kinds a = getD kinds a 0
+
+abbrev pub kindOf : Tables → ℕ → ℕ
+kindOf T = kindIn (T .kinds)
 
 -- how many forms each table has
 abbrev pub expressionCount : Tables → ℕ

@@ -6,12 +6,58 @@ use lib.Bits.{bitAnd, bitOr, bitXor}
 use Rattle.sets.specs.Bits.{difference}
 use Rattle.report.specs.Values.{value}
 use Rattle.report.specs.Tables.{Tables, entryAttribute, entryExpression, relationExpression, relationLength, comparison, query}
-use Rattle.report.specs.Tables.{relationCount, report, relationStart, projectStart}
-use Rattle.report.specs.Operands.{queryOperands}
+use Rattle.report.specs.Tables.{kindOf, relationCount, report, relationStart, projectStart}
+use Rattle.report.specs.Operands.{comparisonOperands, queryOperands}
 use Rattle.report.specs.Expressions.{holds, permitted}
 use Rattle.report.specs.declared.Comparison.{Comparison}
 use Rattle.report.specs.declared.Query.{Query}
 use Rattle.report.specs.declared.Operands.{Operands}
+
+-- ---- one comparison by itself
+
+-- the attributes that it names
+abbrev pub namesOf : Comparison → ℕ
+namesOf Comparison.Malformed = 0
+namesOf Comparison.Never = 0
+namesOf Comparison.Always = 0
+namesOf (Comparison.Constant o a b k) = 2 ^ a
+namesOf (Comparison.Attribute o a b) = bitOr (2 ^ a) (2 ^ b)
+namesOf (Comparison.Not a) = 0
+namesOf (Comparison.And a b) = 0
+namesOf (Comparison.Or a b) = 0
+namesOf (Comparison.Choice a b d) = 0
+
+-- its sides have two kinds, where `kind` gives those of the attributes
+abbrev pub kindsDiffer : (ℕ → ℕ) → Comparison → Bool
+kindsDiffer kind Comparison.Malformed = false
+kindsDiffer kind Comparison.Never = false
+kindsDiffer kind Comparison.Always = false
+kindsDiffer kind (Comparison.Constant o a b k) = not (eqb (kind a) k)
+kindsDiffer kind (Comparison.Attribute o a b) = not (eqb (kind a) (kind b))
+kindsDiffer kind (Comparison.Not a) = false
+kindsDiffer kind (Comparison.And a b) = false
+kindsDiffer kind (Comparison.Or a b) = false
+kindsDiffer kind (Comparison.Choice a b d) = false
+
+-- its left attribute
+abbrev pub leftOf : Comparison → ℕ
+leftOf Comparison.Malformed = 0
+leftOf Comparison.Never = 0
+leftOf Comparison.Always = 0
+leftOf (Comparison.Constant o a b k) = 2 ^ a
+leftOf (Comparison.Attribute o a b) = 2 ^ a
+leftOf (Comparison.Not a) = 0
+leftOf (Comparison.And a b) = 0
+leftOf (Comparison.Or a b) = 0
+leftOf (Comparison.Choice a b d) = 0
+
+-- the left attribute, if the sides have two kinds
+abbrev pub clashOf : (ℕ → ℕ) → Comparison → ℕ
+clashOf kind x = cond (kindsDiffer kind x) (leftOf x) 0
+
+-- how many phases there are in which a form is searched for faults
+abbrev pub phases : ℕ
+phases = 2
 
 module _ (T : Tables) (c : ℕ) where
   -- expression e holds at c
@@ -67,22 +113,34 @@ module _ (T : Tables) (c : ℕ) where
   abbrev pub projectSet : ℕ → ℕ → ℕ
   projectSet q count = joinedSet (projectStart T q) count
 
+  -- ---- comparisons: sets that are gathered from all that a comparison reaches at c, its choices taken
+
+  -- from a comparison with these operands, where `set` gives the sets of lower ones; without operands it is the comparison's own
+  abbrev pub gatheredOf : (ℕ → ℕ) → ℕ → Operands → ℕ
+  gatheredOf set own Operands.Nothing = own
+  gatheredOf set own (Operands.One a) = set a
+  gatheredOf set own (Operands.Both a b) = bitOr (set a) (set b)
+  gatheredOf set own (Operands.Choice e a b) = set (taken e a b)
+
+  unfoldable pub gathered : (Comparison → ℕ) → ℕ → ℕ
+  gathered own =
+      value 0 (λ set f. gatheredOf set (own (comparison (T .comparisons) f)) (comparisonOperands (comparison (T .comparisons) f)))
+
+  -- comparison f is g, or leads to g through its operands, its choices taken
+  unfoldable pub compares : ℕ → ℕ → Bool
+  compares g = value false (λ marked f. eqb g f || onward marked (comparisonOperands (comparison (T .comparisons) f)))
+
   -- the attributes that a comparison names, its choices taken
-  abbrev pub namesOf : (ℕ → ℕ) → Comparison → ℕ
-  namesOf named Comparison.Malformed = 0
-  namesOf named Comparison.Never = 0
-  namesOf named Comparison.Always = 0
-  namesOf named (Comparison.Constant o a b) = 2 ^ a
-  namesOf named (Comparison.Attribute o a b) = bitOr (2 ^ a) (2 ^ b)
-  namesOf named (Comparison.Not a) = named a
-  namesOf named (Comparison.And a b) = bitOr (named a) (named b)
-  namesOf named (Comparison.Or a b) = bitOr (named a) (named b)
-  namesOf named (Comparison.Choice a b d) = named (taken a b d)
+  abbrev pub names : ℕ → ℕ
+  names = gathered namesOf
 
-  unfoldable pub names : ℕ → ℕ
-  names = value 0 (λ named f. namesOf named (comparison (T .comparisons) f))
+  -- the left attributes at fault in a comparison, its choices taken
+  abbrev pub clashes : ℕ → ℕ
+  clashes = gathered (clashOf (kindOf T))
 
-  -- The set of a query form. The typing rules give one only where they are kept; there this is that set (proofs/SetLaws). Elsewhere, where
+  -- ---- the set of a query form
+
+  -- The typing rules give one only where they are kept; there this is that set (proofs/SetLaws). Elsewhere, where
   -- no answer shows it, an absent relation has no attributes, a project those of its list that its operand has, a union or intersection
   -- those of its left operand
   abbrev pub setRule : (ℕ → ℕ) → ℕ → Query → ℕ
@@ -114,9 +172,32 @@ module _ (T : Tables) (c : ℕ) where
   faultsOf q (Query.Union a b) = bitXor (setOf a) (setOf b)
   faultsOf q (Query.Intersection a b) = bitXor (setOf a) (setOf b)
 
-  unfoldable pub faults : ℕ → ℕ
-  faults q = faultsOf q (query (T .queries) q)
+  -- what is compared there with another kind: the left attributes
+  abbrev pub clashesIn : Query → ℕ
+  clashesIn Query.Malformed = 0
+  clashesIn Query.Empty = 0
+  clashesIn (Query.Relation a) = 0
+  clashesIn (Query.Select a b) = clashes a
+  clashesIn (Query.Project a b) = 0
+  clashesIn (Query.Choice a b d) = 0
+  clashesIn (Query.Product a b) = 0
+  clashesIn (Query.Union a b) = 0
+  clashesIn (Query.Intersection a b) = 0
 
-  -- form q breaks its rule at c. A form that c does not reach breaks nothing
-  abbrev pub fails : ℕ → Bool
-  fails q = reached q && not (eqb (faults q) 0)
+  -- Faults are looked for in a form in phases, each at all configurations, and each only if those before it find nothing: what breaks its rule, but
+  -- for kinds; then kinds
+  abbrev pub faultsIn : ℕ → ℕ → Query → ℕ
+  faultsIn zero q y = faultsOf q y
+  faultsIn (suc zero) q y = clashesIn y
+  faultsIn (suc (suc phase)) q y = 0
+
+  unfoldable pub faults : ℕ → ℕ → ℕ
+  faults phase q = faultsIn phase q (query (T .queries) q)
+
+  -- form q fails at c in this phase. A form that c does not reach breaks nothing
+  abbrev pub fails : ℕ → ℕ → Bool
+  fails phase q = reached q && not (eqb (faults phase q) 0)
+
+  -- nothing is at fault in form q at c
+  abbrev pub keeps : ℕ → Bool
+  keeps q = eqb (faults 0 q) 0 && eqb (faults 1 q) 0

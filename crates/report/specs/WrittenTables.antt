@@ -30,7 +30,7 @@ renamed f (PlainQuery.intersection p q) = PlainQuery.intersection (renamed f p) 
 
 -- what the tables written at c are
 pub record WrittenTables (T : Tables) (c : ℕ) : Type 0 where
-  -- checks 1 to 10 accept them
+  -- checks 1 to 10 and 24 accept them
   pub accepted : formCheck (configured T c) ≡ Verdict.Accepted
   -- as a tree, the configured report with its relations renumbered
   pub tree : plainQueryAt (configured T c) 0 (report (configured T c)) ≡ renamed (newRelation T c) (configuredReport T c)

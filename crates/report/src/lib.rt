@@ -25,13 +25,13 @@ pub enum Expression {
     ExactlyOne(usize, usize),
 }
 
-// A form of table 3. Constant is operator, attribute, constant; Attribute is operator, attribute, attribute; Choice is expression, comparison
-// where it holds, comparison elsewhere. Malformed as in table 0.
+// A form of table 3. Constant is operator, attribute, constant, the constant's kind; Attribute is operator, attribute, attribute; Choice is
+// expression, comparison where it holds, comparison elsewhere. Malformed as in table 0.
 pub enum Comparison {
     Malformed,
     Never,
     Always,
-    Constant(usize, usize, usize),
+    Constant(usize, usize, usize, usize),
     Attribute(usize, usize, usize),
     Not(usize),
     And(usize, usize),

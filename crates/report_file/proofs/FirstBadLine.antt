@@ -1,5 +1,5 @@
 -- Reading a file from its start, group by group, gives what docs/FORMAT.md says of it: its first bad line, or its tables.
-use Prim.Native.Nat.{ℕ, zero, suc, _<_}
+use Prim.Native.Nat.{ℕ, zero, suc, _-_, _<_}
 use mathlib.Core.Path.{_≡_, refl, sym, ap, _∙_}
 use mathlib.Core.Bool.{Bool, true, false, cond}
 use mathlib.Core.List.{List, [], _∷_, flatten}
@@ -13,7 +13,7 @@ use Rattle.report.specs.HarbourFile.{Group, groups, linesOf, isBad, File, table
 use Rattle.report.proofs.LineLaws.{lines-join, lines-none}
 use Rattle.report.proofs.FileLaws.{groupAt, groupIn, Good, good-iff, file-unread, file-holds, file-long, file-short}
 use Rattle.report.proofs.FormLines.{tables-same}
-use Rattle.report_file.specs.Reading.{Part, groupLinesFrom, partsFrom, fileParts, partAt, fileFrom, readFile}
+use Rattle.report_file.specs.Reading.{Part, groupPart, partsFrom, fileParts, partAt, lastPart, fileFrom, readFile}
 use Rattle.report_file.proofs.GroupLines.{keptTo, from-start, Took, linesIn, took}
 use Rattle.report_file.proofs.GroupParts.{Reached, reached-start, reached-more, AllRead, all-more, all-read}
 
@@ -46,7 +46,7 @@ module _ (s : List ℕ) where
         before = λ j l. absurd (not-suc-le-zero l);
       })
 
-  module _ (at k : ℕ) (r : Reached s 6 at k) where
+  module _ (at k : ℕ) (r : Reached s (length groups) at k) where
     -- the reading stops before the end of the text: there the first bad line stands
     stops-at : (at ≡ length s → ⊥) → fileLines (linesOf s) ≡ File.unread (suc k)
     unfolding flatten
@@ -74,7 +74,7 @@ module _ (s : List ℕ) where
         omega (arith, r .from .few, length-drop k (linesOf s), ap length d)
 
     -- and then the file holds the words of its lines
-    holds-all : at ≡ length s → (words : ℕ → List ℕ) → ((g : ℕ) → g < 6 → words g ≡ keptTo (linesOf s) g k)
+    holds-all : at ≡ length s → (words : ℕ → List ℕ) → ((g : ℕ) → g < length groups → words g ≡ keptTo (linesOf s) g k)
         → fileLines (linesOf s) ≡ File.holds (tablesFrom words)
     holds-all e words h =
         let q = ends-at e in
@@ -86,20 +86,20 @@ module _ (s : List ℕ) where
 
   -- what the parts of all groups say is what the lines say
   parts-file : (parts : List Part) (a : AllRead s 0 0 0 parts)
-      → cond (eqb (partAt parts 5 .at) (length s)) (File.holds (tablesFrom (λ g. partAt parts g .words))) (File.unread (partAt parts 5 .line))
+      → cond (eqb (lastPart parts .at) (length s)) (File.holds (tablesFrom (λ g. partAt parts g .words))) (File.unread (lastPart parts .line))
       ≡ fileLines (linesOf s)
-  parts-file parts a = go (eqb (partAt parts 5 .at) (length s)) refl
+  parts-file parts a = go (eqb (lastPart parts .at) (length s)) refl
     where
-      go : (b : Bool) → eqb (partAt parts 5 .at) (length s) ≡ b
-          → cond b (File.holds (tablesFrom (λ g. partAt parts g .words))) (File.unread (partAt parts 5 .line)) ≡ fileLines (linesOf s)
+      go : (b : Bool) → eqb (lastPart parts .at) (length s) ≡ b
+          → cond b (File.holds (tablesFrom (λ g. partAt parts g .words))) (File.unread (lastPart parts .line)) ≡ fileLines (linesOf s)
       go true e =
           sym
-          (holds-all (a .place) (a .end) (a .reached) (sym (a .last 5 refl .0) ∙ eqb-true (partAt parts 5 .at) (length s) e)
+          (holds-all (a .place) (a .end) (a .reached) (sym (a .last (length groups - 1) refl .0) ∙ eqb-true (lastPart parts .at) (length s) e)
           (λ g. partAt parts g .words) (λ g l. a .words g (omega arith) ∙ ap (λ (x : ℕ). keptTo (linesOf s) x (a .end)) (zero-add g)))
       go false e =
-          ap File.unread (a .last 5 refl .1)
+          ap File.unread (a .last (length groups - 1) refl .1)
           ∙ sym
-          (stops-at (a .place) (a .end) (a .reached) (λ q. eqb-false (partAt parts 5 .at) (length s) e (a .last 5 refl .0 ∙ q)))
+          (stops-at (a .place) (a .end) (a .reached) (λ q. eqb-false (lastPart parts .at) (length s) e (a .last (length groups - 1) refl .0 ∙ q)))
 
   -- so it is where there is a head; where there is none line 1 is bad
   head-file : (part : Part) (rest : List Part) (t : Took s 0 (groupAt 0 .shape .most) 0 part)
@@ -117,8 +117,7 @@ module _ (s : List ℕ) where
 
   -- the head's part stands before the others
   parts-first : (g : Group) (gs : List Group) (at n : ℕ)
-      → let p = groupLinesFrom s (40 ∷ g .word) (g .shape .width) (g .shape .most) at n in partsFrom s (g ∷ gs) at n ≡ p ∷ partsFrom s gs (p .at)
-      (p .line)
+      → let p = groupPart s g at n in partsFrom s (g ∷ gs) at n ≡ p ∷ partsFrom s gs (p .at) (p .line)
   unfolding partsFrom
   parts-first g gs at n = refl
 
@@ -129,7 +128,7 @@ module _ (s : List ℕ) where
       ap (fileFrom s) (parts-first (groupAt 0) (drop 1 groups) 0 1)
       ∙ head-file head rest t (λ some. all-more s 0 0 0 head rest known (reached-start s) t (others some))
     where
-      known : 0 < 6
+      known : 0 < length groups
       known = omega arith
 
       head : Part

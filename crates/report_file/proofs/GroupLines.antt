@@ -23,14 +23,14 @@ use Rattle.reading.proofs.SpelledLines.{spelled-at, line-read, line-found}
 use Rattle.report_file.specs.Reading.{Part, partOf, withLine, groupLinesFrom}
 
 -- a line of a group is there: what is past the last line is of none
-past-last : (lines : List (List ℕ)) (k : ℕ) → groupIn lines k < 6 → k < length lines
+past-last : (lines : List (List ℕ)) (k : ℕ) → groupIn lines k < length groups → k < length lines
 past-last lines k h = go (decLt k (length lines))
   where
     go : Dec (k < length lines) → k < length lines
     go (yes l) = l
     go (no l) =
-        let e : groupIn lines k ≡ 6 =
-        List·getD-eq-default (map (groupNumber groups) lines) 6 {n = k} (omega (arith, length-map lines (groupNumber groups))) in
+        let e : groupIn lines k ≡ length groups =
+        List·getD-eq-default (map (groupNumber groups) lines) (length groups) {n = k} (omega (arith, length-map lines (groupNumber groups))) in
         absurd (omega arith)
 
 -- the numbers of the lines of group g among the first n lines
@@ -59,7 +59,7 @@ module _ (s : List ℕ) where
     numbers : numbersIn (getD (linesOf s) k []) ≡ ns
     long : length ns ≡ groupAt g .shape .width
 
-  module _ (g : ℕ) (known : g < 6) where
+  module _ (g : ℕ) (known : g < length groups) where
     -- a line that is read is line k of the text, and of the group
     line-taken : (at k p : ℕ) → From at k → lineIn g at .step ≡ Step.Next p → LineTaken g k p (lineIn g at .numbers)
     line-taken at k p f e =
@@ -131,7 +131,7 @@ module _ (s : List ℕ) where
   abbrev pub linesIn : ℕ → ℕ → ℕ → ℕ → Part
   linesIn g most at n = groupLinesFrom s (40 ∷ groupAt g .word) (groupAt g .shape .width) most at n
 
-  module _ (g : ℕ) (known : g < 6) where
+  module _ (g : ℕ) (known : g < length groups) where
     -- no line is taken
     took-none : (most at k : ℕ) → From at k → (0 < most → groupIn (linesOf s) k ≡ g → ⊥) → Took g most k (partOf [] at (suc k))
     took-none most at k f h = record {

@@ -19,14 +19,14 @@ use Rattle.report_file.proofs.GroupLines.{keptTo, From, from-start, Too
 use Rattle.report_file.proofs.GroupRuns.{Run, run-groups, run-good, run-next}
 
 -- group i, where the groups from i on are g and others
-group-here : (i : ℕ) (g : Group) (gs : List Group) → drop i groups ≡ g ∷ gs → (i < 6) × (g ≡ groupAt i) × (drop (suc i) groups ≡ gs)
+group-here : (i : ℕ) (g : Group) (gs : List Group) → drop i groups ≡ g ∷ gs → (i < length groups) × (g ≡ groupAt i) × (drop (suc i) groups ≡ gs)
 group-here i g gs e =
-    let l : i < 6 = omega (arith, length-drop i groups, ap length e) in
+    let l : i < length groups = omega (arith, length-drop i groups, ap length e) in
     let c = drop-cons groups i (groupOf [] (shapeOf 0 0 0)) l in
     (l, (cc), (cc))
 
 -- no group is left only past the last
-groups-end : (i : ℕ) → drop i groups ≡ [] → i ≤ 6 → i ≡ 6
+groups-end : (i : ℕ) → drop i groups ≡ [] → i ≤ length groups → i ≡ length groups
 groups-end i e h = omega (arith, length-drop i groups, ap length e)
 
 module _ (s : List ℕ) where
@@ -49,7 +49,7 @@ module _ (s : List ℕ) where
     head = λ e. refl;
   }
 
-  module _ (g at k : ℕ) (part : Part) (known : g < 6) (r : Reached g at k) (t : Took s g (groupAt g .shape .most) k part) where
+  module _ (g at k : ℕ) (part : Part) (known : g < length groups) (r : Reached g at k) (t : Took s g (groupAt g .shape .most) k part) where
     -- what a group takes is a run
     reached-run : Run (groupIn (linesOf s)) g k (t .end)
     reached-run = record {
@@ -89,15 +89,15 @@ module _ (s : List ℕ) where
   pub record AllRead (i at k : ℕ) (parts : List Part) : Type 0 where
     pub place : ℕ
     pub end : ℕ
-    pub reached : Reached 6 place end
+    pub reached : Reached (length groups) place end
     pub low : k ≤ end
     pub later : (j : ℕ) → k ≤ j → j < end → i ≤ groupIn (linesOf s) j
-    pub words : (j : ℕ) → i + j < 6 → partAt parts j .words ≡ keptTo (linesOf s) (i + j) end
-    pub last : (j : ℕ) → i + suc j ≡ 6 → (partAt parts j .at ≡ place) × (partAt parts j .line ≡ suc end)
-    pub none : i ≡ 6 → (place ≡ at) × (end ≡ k)
+    pub words : (j : ℕ) → i + j < length groups → partAt parts j .words ≡ keptTo (linesOf s) (i + j) end
+    pub last : (j : ℕ) → i + suc j ≡ length groups → (partAt parts j .at ≡ place) × (partAt parts j .line ≡ suc end)
+    pub none : i ≡ length groups → (place ≡ at) × (end ≡ k)
 
   -- no group is left
-  all-none : (i at k : ℕ) → i ≡ 6 → Reached i at k → AllRead i at k []
+  all-none : (i at k : ℕ) → i ≡ length groups → Reached i at k → AllRead i at k []
   all-none i at k q r = record {
     place = at;
     end = k;
@@ -110,7 +110,7 @@ module _ (s : List ℕ) where
   }
 
   -- one group before others that have been read
-  pub all-more : (i at k : ℕ) (part : Part) (parts : List Part) → i < 6 → Reached i at k → (t : Took s i (groupAt i .shape .most) k part)
+  pub all-more : (i at k : ℕ) (part : Part) (parts : List Part) → i < length groups → Reached i at k → (t : Took s i (groupAt i .shape .most) k part)
       → AllRead (suc i) (part .at) (t .end) parts → AllRead i at k (part ∷ parts)
   all-more i at k part parts known r t a = record {
     place = a .place;
@@ -127,7 +127,7 @@ module _ (s : List ℕ) where
       go j l u (yes b) = let e = t .each j l b in omega arith
       go j l u (no b) = let e = a .later j (omega arith) u in omega arith
 
-      words : (j : ℕ) → i + j < 6 → partAt (part ∷ parts) j .words ≡ keptTo (linesOf s) (i + j) (a .end)
+      words : (j : ℕ) → i + j < length groups → partAt (part ∷ parts) j .words ≡ keptTo (linesOf s) (i + j) (a .end)
       words zero l =
           let e : i ≡ i + 0 = omega arith in
           own-words i at k part known r t
@@ -138,13 +138,13 @@ module _ (s : List ℕ) where
           let e : suc i + j ≡ i + suc j = omega arith in
           a .words j (omega arith) ∙ ap (λ (x : ℕ). keptTo (linesOf s) x (a .end)) e
 
-      last : (j : ℕ) → i + suc j ≡ 6 → (partAt (part ∷ parts) j .at ≡ a .place) × (partAt (part ∷ parts) j .line ≡ suc (a .end))
+      last : (j : ℕ) → i + suc j ≡ length groups → (partAt (part ∷ parts) j .at ≡ a .place) × (partAt (part ∷ parts) j .line ≡ suc (a .end))
       last zero e = let n = a .none (omega arith) in (sym (n .0), t .number ∙ ap suc (sym (n .1)))
       last (suc j) e = a .last j (omega arith)
 
   -- the part of group i, and those of the groups after it
   all-step : (g : Group) (gs : List Group) (i at k : ℕ) → drop i groups ≡ g ∷ gs → 0 < k → Reached i at k
-      → ((p m : ℕ) → drop (suc i) groups ≡ gs → suc i ≤ 6 → 0 < m → Reached (suc i) p m → AllRead (suc i) p m (partsFrom s gs p (suc m)))
+      → ((p m : ℕ) → drop (suc i) groups ≡ gs → suc i ≤ length groups → 0 < m → Reached (suc i) p m → AllRead (suc i) p m (partsFrom s gs p (suc m)))
       → AllRead i at k (partsFrom s (g ∷ gs) at (suc k))
   unfolding partsFrom
   all-step g gs i at k e some r later =
@@ -157,7 +157,8 @@ module _ (s : List ℕ) where
       rw (h .1) (all-more i at k part (partsFrom s gs (part .at) (part .line)) (h .0) r t b)
 
   -- so reading from group i on ends as AllRead says
-  pub all-read : (gs : List Group) (i at k : ℕ) → drop i groups ≡ gs → i ≤ 6 → 0 < k → Reached i at k → AllRead i at k (partsFrom s gs at (suc k))
+  pub all-read : (gs : List Group) (i at k : ℕ) → drop i groups ≡ gs → i ≤ length groups → 0 < k → Reached i at k
+      → AllRead i at k (partsFrom s gs at (suc k))
   unfolding partsFrom
   all-read [] i at k e h some r = all-none i at k (groups-end i e h) r
   all-read (g ∷ gs) i at k e h some r = all-step g gs i at k e some r (all-read gs (suc i))

@@ -5,16 +5,18 @@ use mathlib.Core.Logic.{⊎-elim}
 use native.Mathlib.Nat.{le-refl, eq-or-lt-of-le}
 use native.Mathlib.Decide.{le-ind, decLt}
 use native.Mathlib.Omega.{arith}
+use lib.ListN.{length}
 use lib.Dec.{eqb}
 use borrow.Author.Tests.{eq-eqb, ne-eqb}
 use Rattle.sets.specs.Search.{countBelow}
 use Rattle.sets.proofs.SearchLaws.{count-none, count-yes}
+use Rattle.report.specs.HarbourFile.{groups}
 use Rattle.report.proofs.FileLaws.{groupAt, Good}
 
 -- Lines before k are of groups before g; from k up to `end`, at most as many as the group may have, they are of group g. The line at `end` is
 -- not of the group, unless the group has as many as it may; a good line k is of no group before g; and the first group starts the file
 pub record Run (group : ℕ → ℕ) (g k end : ℕ) : Type 0 where
-  pub known : g < 6
+  pub known : g < length groups
   pub low : k ≤ end
   pub high : end ≤ k + groupAt g .shape .most
   pub earlier : (j : ℕ) → j < k → group j < g

@@ -1,21 +1,23 @@
 -- The steps of reading the lines of a group, the groups and a file.
-use Prim.Native.Nat.{ℕ, suc, _+_, _-_, _*_, _≤_, _<_}
+use Prim.Native.Nat.{ℕ, suc, _+_, _-_, _*_, _≤_, _<_, min}
 use mathlib.Core.Path.{_≡_, refl, sym, ap, _∙_}
 use mathlib.Core.List.{List, [], _∷_, _++_, append-assoc, append-nil}
 use native.Mathlib.Nat.{suc-mul, mul-le-mul-right}
 use native.Mathlib.Numerals.{add-one}
 use native.Mathlib.Omega.{arith}
-use lib.ListN.{length, getD, take, drop, set, length-append}
+use lib.ListN.{length, getD, take, drop, set, replicate, length-append, length-set, length-replicate, replicate-append-replicate}
 use lib.Seq.{sets, sets-eq, take-set-le, take-at, length-take-le, getD-take}
 use borrow.Author.Tests.{eq-eqb, ne-eqb, lt-ltb, le-ltb}
-use Rattle.report.specs.Tables.{Tables, tablesOf, shapeOf}
-use Rattle.report.specs.HarbourFile.{groupOf, groups, File}
+use Rattle.report.specs.Tables.{Tables, tablesOf}
+use Rattle.report.specs.HarbourFile.{File, kindsOr}
+use Rattle.report.proofs.FileLaws.{kinds-none, kinds-stand}
 use Rattle.reading.specs.declared.Step.{Step}
 use Rattle.reading.specs.Scanning.{onStep, lineAt, Stored}
 use Rattle.reading.proofs.LineSteps.{line-width, stored-same}
 use Rattle.report_file.specs.declared.Place.{Place}
 use Rattle.report_file.specs.declared.Outcome.{Outcome}
-use Rattle.report_file.specs.Reading.{Part, partOf, withLine, groupLinesFrom, partsFrom, fileParts, partAt, fileFrom, readFile}
+use Rattle.report_file.specs.Reading.{Part, partOf, withLine, groupLinesFrom, partFrom, kindPart, partsFrom}
+use Rattle.report_file.specs.Reading.{fileParts, partAt, lastPart, fileFrom, readFile}
 use Rattle.report_file.specs.Filing.{Starts, GroupRoom, GroupTaken, Held, Filed}
 
 -- ---- the words of a line, stored after those before them
@@ -106,26 +108,69 @@ module _ (s word : List ℕ) (width at n : ℕ) where
       go (Step.Next p) e some = ap length (append-nil (lineAt s word width at .numbers)) ∙ line-width s word width at p e
       go (Step.Stop p) e some = absurd (some refl)
 
--- ---- the groups: each starts where the one before it ends
+-- ---- the kind lines
 
--- the part of group g that starts at `at`, where line n stands
-abbrev pub partFrom : List ℕ → ℕ → ℕ → ℕ → Part
-partFrom s g at n =
-    let group = getD groups g (groupOf [] (shapeOf 0 0 0)) in
-    groupLinesFrom s (40 ∷ group .word) (group .shape .width) (group .shape .most) at n
+-- of `count` words to clear the first i are 0
+pub record Cleared (count : ℕ) (lent words : List ℕ) (i : ℕ) : Type 0 where
+  pub within : i ≤ count
+  pub room : count ≤ length words
+  pub long : length words ≡ length lent
+  pub zeros : take i words ≡ replicate i 0
+
+pub cleared-none : (count : ℕ) (lent : List ℕ) → count ≤ length lent → Cleared count lent lent 0
+cleared-none count lent h = record { within = omega arith; room = h; long = refl; zeros = refl }
+
+module _ {count : ℕ} {lent words : List ℕ} {i : ℕ} (c : Cleared count lent words i) where
+  pub cleared-more : i < count → Cleared count lent (set words i 0) (i + 1)
+  cleared-more h = record {
+    within = omega arith;
+    room = omega (arith, length-set words i 0, c .room);
+    long = length-set words i 0 ∙ c .long;
+    zeros =
+        take-stored (0 ∷ []) words i 1 refl (omega (arith, c .room))
+        ∙ ap (λ (l : List ℕ). l ++ (0 ∷ [])) (c .zeros)
+        ∙ replicate-append-replicate i 1 0;
+  }
+
+  pub cleared-all : count ≤ i → take count words ≡ replicate count 0
+  cleared-all h = let e : i ≡ count = omega (arith, c .within) in rw (← e) (c .zeros)
+
+module _ (m : ℕ) {part : Part} {most : ℕ} {answer : Place} {kinds : List ℕ} (t : GroupTaken part most answer kinds) where
+  -- lines were read
+  pub kinds-some : (answer .end ≡ 0 → ⊥) → GroupTaken (kindPart m part) most answer kinds
+  kinds-some n =
+      let e : kindsOr m (part .words) ≡ part .words = kinds-stand m (part .words) (λ z. absurd (n (t .long ∙ z))) in
+      record { place = t .place; number = t .number; few = t .few; long = rw e (t .long); words = rw e (t .words) }
+
+  -- or none was, and the words were cleared
+  pub kinds-cleared : answer .end ≡ 0 → {count : ℕ} → count ≡ min m 64 → {after : List ℕ} → take count after ≡ replicate count 0
+      → GroupTaken (kindPart m part) most (record { at = answer .at; line = answer .line; end = count }) after
+  kinds-cleared z {count} c {after} w =
+      let e : kindsOr m (part .words) ≡ replicate count 0 = kinds-none m (part .words) (sym (t .long) ∙ z) ∙ rw c in
+      record {
+        place = t .place;
+        number = t .number;
+        few = t .few;
+        long = sym (ap length e ∙ length-replicate count 0);
+        words = rw (e, length-replicate {A = ℕ} count 0) w;
+      }
+
+-- ---- the groups: each starts where the one before it ends
 
 follows : (next : ℕ → ℕ → Part) {p : Part} {m m′ : ℕ} {r r′ : Place} {o o′ : List ℕ} → GroupTaken p m r o
     → GroupTaken (next (r .at) (r .line)) m′ r′ o′
     → GroupTaken (next (p .at) (p .line)) m′ r′ o′
 follows next f g = rw (← f .place, ← f .number) g
 
-module _ (s : List ℕ) {m0 m1 m2 m3 m4 m5 : ℕ} {h x e r c q : Place} {head expressions entries relations comparisons queries : List ℕ}
+module _ (s : List ℕ) (m : ℕ) {m0 m1 m2 m3 m4 m5 m6 : ℕ} {h x e r c q k : Place}
+    {head expressions entries relations comparisons queries kinds : List ℕ}
     (f0 : GroupTaken (partFrom s 0 0 1) m0 h head)
     (f1 : GroupTaken (partFrom s 1 (h .at) (h .line)) m1 x expressions)
     (f2 : GroupTaken (partFrom s 2 (x .at) (x .line)) m2 e entries)
     (f3 : GroupTaken (partFrom s 3 (e .at) (e .line)) m3 r relations)
     (f4 : GroupTaken (partFrom s 4 (r .at) (r .line)) m4 c comparisons)
-    (f5 : GroupTaken (partFrom s 5 (c .at) (c .line)) m5 q queries) where
+    (f5 : GroupTaken (partFrom s 5 (c .at) (c .line)) m5 q queries)
+    (f6 : GroupTaken (kindPart m (partFrom s 6 (q .at) (q .line))) m6 k kinds) where
   g0 : GroupTaken (partAt (fileParts s) 0) m0 h head
   unfolding fileParts partsFrom
   g0 = f0
@@ -150,6 +195,10 @@ module _ (s : List ℕ) {m0 m1 m2 m3 m4 m5 : ℕ} {h x e r c q : Place} {head ex
   unfolding fileParts partsFrom
   g5 = follows (partFrom s 5) g4 f5
 
+  g6 : GroupTaken (kindPart m (partAt (fileParts s) 6)) m6 k kinds
+  unfolding fileParts partsFrom
+  g6 = follows (λ at n. kindPart m (partFrom s 6 at n)) g5 f6
+
   head-width : (h .end ≡ 0 → ⊥) → length (partAt (fileParts s) 0 .words) ≡ 3
   unfolding fileParts partsFrom
   head-width n = one-line s _ 3 0 1 (λ z. n (f0 .long ∙ z))
@@ -160,22 +209,24 @@ module _ (s : List ℕ) {m0 m1 m2 m3 m4 m5 : ℕ} {h x e r c q : Place} {head ex
       sym (getD-take (length (partAt (fileParts s) 0 .words)) head i 0 (omega (arith, head-width n)))
       ∙ ap (λ (ws : List ℕ). getD ws i 0) (g0 .words)
 
-  pub filed-headless : h .end ≡ 0 → Filed (fileFrom s (fileParts s)) (Outcome.Bad 1) head expressions entries relations comparisons queries
+  pub filed-headless : h .end ≡ 0 → Filed (fileFrom s (fileParts s)) (Outcome.Bad 1) head expressions entries relations comparisons queries kinds
   unfolding Filed
   filed-headless n = rw (eq-eqb (length (partAt (fileParts s) 0 .words)) 0 (sym (g0 .long) ∙ n)) refl
 
   module _ (n : h .end ≡ 0 → ⊥) where
-    pub filed-whole : q .at ≡ length s
+    pub filed-whole : m ≡ getD head 1 0 → k .at ≡ length s
         → Filed (fileFrom s (fileParts s))
-        (Outcome.Read (x .end) (e .end) (r .end) (c .end) (q .end)) head expressions entries relations comparisons queries
+        (Outcome.Read (x .end) (e .end) (r .end) (c .end) (q .end) (k .end)) head expressions entries relations comparisons queries kinds
     unfolding Filed
-    filed-whole l =
+    filed-whole own l =
+        let own-kinds : GroupTaken (kindPart (getD (partAt (fileParts s) 0 .words) 1 0) (partAt (fileParts s) 6)) m6 k kinds =
+        rw (← head-word n 1 (omega arith), ← own) g6 in
         rw (
           ne-eqb (length (partAt (fileParts s) 0 .words)) 0 (λ z. n (g0 .long ∙ z)),
-          eq-eqb (partAt (fileParts s) 5 .at) (length s) (sym (g5 .place) ∙ l),
+          eq-eqb (lastPart (fileParts s) .at) (length s) (sym (g6 .place) ∙ l),
         )
         (record {
-          lengths = rw (g1 .long, g2 .long, g3 .long, g4 .long, g5 .long);
+          lengths = rw (g1 .long, g2 .long, g3 .long, g4 .long, g5 .long, own-kinds .long);
           features = head-word n 0 (omega arith);
           attributes = head-word n 1 (omega arith);
           model = head-word n 2 (omega arith);
@@ -184,17 +235,18 @@ module _ (s : List ℕ) {m0 m1 m2 m3 m4 m5 : ℕ} {h x e r c q : Place} {head ex
           relationsStart = g3 .words;
           comparisonsStart = g4 .words;
           queriesStart = g5 .words;
+          kindsStart = own-kinds .words;
         })
 
-    pub filed-stopped : (q .at ≡ length s → ⊥)
-        → Filed (fileFrom s (fileParts s)) (Outcome.Bad (q .line)) head expressions entries relations comparisons queries
+    pub filed-stopped : (k .at ≡ length s → ⊥)
+        → Filed (fileFrom s (fileParts s)) (Outcome.Bad (k .line)) head expressions entries relations comparisons queries kinds
     unfolding Filed
     filed-stopped l =
         rw (
           ne-eqb (length (partAt (fileParts s) 0 .words)) 0 (λ z. n (g0 .long ∙ z)),
-          ne-eqb (partAt (fileParts s) 5 .at) (length s) (λ z. l (g5 .place ∙ z)),
+          ne-eqb (lastPart (fileParts s) .at) (length s) (λ z. l (g6 .place ∙ z)),
         )
-        (ap Outcome.Bad (g5 .number))
+        (ap Outcome.Bad (g6 .number))
 
 -- ---- a file
 
@@ -216,8 +268,8 @@ pub record Words (table : List ℕ) (n : ℕ) (words : List ℕ) : Type 0 where
 words-at : {table words : List ℕ} {n : ℕ} → Starts table words → n ≡ length words → Words table n words
 words-at {table} {words} {n} e l = let s : take n table ≡ words = rw l e in record { long = l ∙ ap length (sym s); same = s }
 
-module _ {T : Tables} {a b c d e : ℕ} {head expressions entries relations comparisons queries : List ℕ}
-    (H : Held T (Outcome.Read a b c d e) head expressions entries relations comparisons queries) where
+module _ {T : Tables} {a b c d e f : ℕ} {head expressions entries relations comparisons queries kinds : List ℕ}
+    (H : Held T (Outcome.Read a b c d e f) head expressions entries relations comparisons queries kinds) where
   pub expressions-held : Words expressions a (T .expressions)
   expressions-held = words-at (H .expressionsStart) (let l = H .lengths in cc)
 
@@ -233,9 +285,12 @@ module _ {T : Tables} {a b c d e : ℕ} {head expressions entries relations comp
   pub queries-held : Words queries e (T .queries)
   queries-held = words-at (H .queriesStart) (let l = H .lengths in cc)
 
+  pub kinds-held : Words kinds f (T .kinds)
+  kinds-held = words-at (H .kindsStart) (let l = H .lengths in cc)
+
   -- the tables are the words read
   pub held-tables : tablesOf (getD head 0 0) (getD head 1 0) (getD head 2 0) (take a expressions) (take b entries) (take c relations)
-      (take d comparisons) (take e queries) ≡ T
+      (take d comparisons) (take e queries) (take f kinds) ≡ T
   held-tables =
       rw (
         H .features,
@@ -246,18 +301,19 @@ module _ {T : Tables} {a b c d e : ℕ} {head expressions entries relations comp
         relations-held .same,
         comparisons-held .same,
         queries-held .same,
+        kinds-held .same,
       )
 
-module _ (head expressions entries relations comparisons queries : List ℕ) where
-  pub bad-told : (f : File) {answer : Outcome} {n : ℕ} → Filed f answer head expressions entries relations comparisons queries
+module _ (head expressions entries relations comparisons queries kinds : List ℕ) where
+  pub bad-told : (f : File) {answer : Outcome} {n : ℕ} → Filed f answer head expressions entries relations comparisons queries kinds
       → answer ≡ Outcome.Bad n → f ≡ File.unread n
   unfolding Filed
   bad-told (File.unread m) e q = cc
   bad-told (File.holds T) e q = absurd (let l = e .lengths in let z : _≡_ {A = ℕ} 0 1 = cc in omega arith)
 
-  pub read-told : (f : File) {answer : Outcome} {a b c d e : ℕ} → Filed f answer head expressions entries relations comparisons queries
-      → answer ≡ Outcome.Read a b c d e
-      → (T : Tables) × (f ≡ File.holds T) × Held T (Outcome.Read a b c d e) head expressions entries relations comparisons queries
+  pub read-told : (f : File) {answer : Outcome} {a b c d e i : ℕ} → Filed f answer head expressions entries relations comparisons queries kinds
+      → answer ≡ Outcome.Read a b c d e i
+      → (T : Tables) × (f ≡ File.holds T) × Held T (Outcome.Read a b c d e i) head expressions entries relations comparisons queries kinds
   unfolding Filed
   read-told (File.unread m) g q = absurd (let z : _≡_ {A = ℕ} 0 1 = cc in omega arith)
   read-told (File.holds T) g q = (T, refl, rw q at g)

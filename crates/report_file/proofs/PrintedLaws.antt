@@ -120,17 +120,21 @@ accepted-reads R = record { formed = R .formed; features = refl; modelled = refl
 -- ---- the print of a file
 
 -- the words that were read are the tables
-pub held-printed : (layout : Layout) {T : Tables} {a b c d e : ℕ} {head expressions entries relations comparisons queries : List ℕ}
-    → Held T (Outcome.Read a b c d e) head expressions entries relations comparisons queries
+pub held-printed : (layout : Layout) {T : Tables} {a b c d e f : ℕ} {head expressions entries relations comparisons queries kinds : List ℕ}
+    → Held T (Outcome.Read a b c d e f) head expressions entries relations comparisons queries kinds
     → {x y z : ℕ} → x ≡ getD head 0 0 → y ≡ getD head 1 0 → z ≡ getD head 2 0 → {out o : List ℕ} {r : ℕ}
-    → Prints (fileAs layout (File.holds (tablesOf x y z (take a expressions) (take b entries) (take c relations) (take d comparisons) (take e queries))))
+    → Prints
+    (fileAs layout
+    (File.holds (tablesOf x y z (take a expressions) (take b entries) (take c relations) (take d comparisons) (take e queries) (take f kinds))))
     out o r
     → Prints (fileAs layout (File.holds T)) out o r
-held-printed layout {a = a} {b = b} {c = c} {d = d} {e = e} {expressions = expressions} {entries = entries} {relations = relations}
-    {comparisons = comparisons} {queries = queries} H p q s =
+held-printed layout {a = a} {b = b} {c = c} {d = d} {e = e} {f = f} {expressions = expressions} {entries = entries} {relations = relations}
+    {comparisons = comparisons} {queries = queries} {kinds = kinds} H p q s =
     same-prints
     (ap (λ (U : Tables). fileAs layout (File.holds U))
-    (sym ((λ i. tablesOf (p i) (q i) (s i) (take a expressions) (take b entries) (take c relations) (take d comparisons) (take e queries))
+    (sym
+    ((λ i.
+    tablesOf (p i) (q i) (s i) (take a expressions) (take b entries) (take c relations) (take d comparisons) (take e queries) (take f kinds))
     ∙ held-tables H)))
 
 -- the print of what was read is the print of the text

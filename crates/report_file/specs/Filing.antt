@@ -31,19 +31,21 @@ pub record GroupTaken (part : Part) (most : ℕ) (answer : Place) (after : List 
 -- ---- a file
 
 -- there is room for the head and for every table
-pub record Lent (head expressions entries relations comparisons queries : List ℕ) : Type 0 where
+pub record Lent (head expressions entries relations comparisons queries kinds : List ℕ) : Type 0 where
   pub headRoom : 3 ≤ length head
   pub expressionsRoom : 768 ≤ length expressions
   pub entriesRoom : 1024 ≤ length entries
   pub relationsRoom : 64 ≤ length relations
   pub comparisonsRoom : 1280 ≤ length comparisons
   pub queriesRoom : 1024 ≤ length queries
+  pub kindsRoom : 64 ≤ length kinds
 
 -- the answer for a file that holds the tables T: how many words each has; and where they stand
-pub record Held (T : Tables) (answer : Outcome) (head expressions entries relations comparisons queries : List ℕ) : Type 0 where
+pub record Held (T : Tables) (answer : Outcome) (head expressions entries relations comparisons queries kinds : List ℕ) : Type 0 where
   pub lengths :
       answer
       ≡ Outcome.Read (length (T .expressions)) (length (T .entries)) (length (T .relations)) (length (T .comparisons)) (length (T .queries))
+      (length (T .kinds))
   pub features : getD head 0 0 ≡ T .features
   pub attributes : getD head 1 0 ≡ T .attributes
   pub model : getD head 2 0 ≡ T .model
@@ -52,16 +54,17 @@ pub record Held (T : Tables) (answer : Outcome) (head expressions entries relati
   pub relationsStart : Starts relations (T .relations)
   pub comparisonsStart : Starts comparisons (T .comparisons)
   pub queriesStart : Starts queries (T .queries)
+  pub kindsStart : Starts kinds (T .kinds)
 
 -- there are such tables, and room for every print
-pub record HeldReadable (answer : Outcome) (head expressions entries relations comparisons queries out : List ℕ) : Type 0 where
+pub record HeldReadable (answer : Outcome) (head expressions entries relations comparisons queries kinds out : List ℕ) : Type 0 where
   pub tables : Tables
-  pub held : Held tables answer head expressions entries relations comparisons queries
+  pub held : Held tables answer head expressions entries relations comparisons queries kinds
   pub whole : 3 ≤ length head
   pub room : 201653 ≤ length out
 
 -- the answer for a file: the number of its first bad line, or its tables
-unfoldable pub Filed : File → Outcome → List ℕ → List ℕ → List ℕ → List ℕ → List ℕ → List ℕ → Type 0
-Filed (File.unread n) answer head expressions entries relations comparisons queries = answer ≡ Outcome.Bad n
-Filed (File.holds T) answer head expressions entries relations comparisons queries = Held T answer head expressions entries relations comparisons
-    queries
+unfoldable pub Filed : File → Outcome → List ℕ → List ℕ → List ℕ → List ℕ → List ℕ → List ℕ → List ℕ → Type 0
+Filed (File.unread n) answer head expressions entries relations comparisons queries kinds = answer ≡ Outcome.Bad n
+Filed (File.holds T) answer head expressions entries relations comparisons queries kinds = Held T answer head expressions entries relations
+    comparisons queries kinds

@@ -7,10 +7,11 @@ use reading::Step;
 use reading::read_line;
 use sets::AttributeSet;
 ghost use mathlib.Core.Path.{_≡_};
-ghost use Prim.Native.Nat.{_+_};
+ghost use Prim.Native.Nat.{_+_, _≤_, min};
+ghost use lib.ListN.{length, take, replicate};
 ghost use Rattle.report.specs.Tables.{Tables};
 ghost use Rattle.report.specs.HarbourFile.{File};
-ghost use Rattle.report_file.specs.Reading.{groupLinesFrom, fileParts, fileFrom, readFile};
+ghost use Rattle.report_file.specs.Reading.{groupLinesFrom, partFrom, kindPart, fileParts, fileFrom, readFile};
 ghost use Rattle.report_file.specs.Filing.{GroupRoom, GroupTaken, Lent, Held, HeldReadable, Filed};
 ghost use Rattle.report_file.specs.Layouts.{fileAs, textAs};
 ghost use Rattle.report_file.specs.Printing.{Prints};
@@ -29,9 +30,9 @@ pub enum Layout {
     Page,
 }
 
-// How many words each table has, or the number of the first bad line.
+// How many words each table has, the kind table last, or the number of the first bad line.
 enum Outcome {
-    Read(usize, usize, usize, usize, usize),
+    Read(usize, usize, usize, usize, usize, usize),
     Bad(usize),
 }
 
@@ -76,6 +77,67 @@ fn read_lines(
     }
 }
 
+// The head line, which is the first.
+fn read_head(s: &[u8], head: &mut [u16]) -> Place
+    requires { ⌜ 3 ≤ length (now head) ⌝ }
+    ensures { λ r. ⌜ GroupTaken (partFrom (now (s .entry)) 0 0 1) 2 r (now (head .exit)) ⌝ }
+{
+    let start = Place {
+        at: 0,
+        line: 1,
+        end: 0,
+    };
+    read_lines(s, b"(head", 3, 1, start, head)
+}
+
+// The smaller of two numbers.
+fn smaller(x: usize, y: usize) -> usize
+    ensures { λ r. ⌜ r ≡ min x y ⌝ }
+{
+    if x < y {
+        return x;
+    }
+    y
+}
+
+// Makes the first `count` words 0.
+fn clear_first(words: &mut [u16], count: usize)
+    requires { ⌜ count ≤ length (now words) ⌝ }
+    ensures { λ _. ⌜ take count (now (words .exit)) ≡ replicate count 0 ⌝ }
+{
+    let mut i = 0;
+    while i < count {
+        words[i] = 0;
+        i += 1;
+    }
+}
+
+// The kind lines of a file of m attributes. With none all kinds are 0: the words are cleared, since a line that is not read may have left a number.
+fn read_kinds(s: &[u8], m: usize, from: Place, kinds: &mut [u16]) -> Place
+    requires { ⌜ GroupRoom 1 64 (from .line) (now kinds) ⌝ }
+    ensures { λ r.
+        ⌜ GroupTaken (kindPart m (partFrom (now (s .entry)) 6 (from .at) (from .line))) (from .line + 64) r (now (kinds .exit)) ⌝ }
+{
+    let k = read_lines(
+        s,
+        b"(kind",
+        1,
+        AttributeSet::MOST_ATTRIBUTES,
+        from,
+        &mut *kinds,
+    );
+    if k.end != 0 {
+        return k;
+    }
+    let count = smaller(m, AttributeSet::MOST_ATTRIBUTES);
+    clear_first(kinds, count);
+    Place {
+        at: k.at,
+        line: k.line,
+        end: count,
+    }
+}
+
 // The groups in their order, each with its word, the words of its form and its range.
 fn read_groups(
     s: &[u8],
@@ -85,18 +147,15 @@ fn read_groups(
     relations: &mut [u16],
     comparisons: &mut [u16],
     queries: &mut [u16],
+    kinds: &mut [u16],
 ) -> Outcome
-    requires { ⌜ Lent (now head) (now expressions) (now entries) (now relations) (now comparisons) (now queries) ⌝ }
+    requires { ⌜ Lent (now head) (now expressions) (now entries) (now relations) (now comparisons) (now queries) (now kinds) ⌝ }
     ensures { λ r.
         ⌜ Filed (fileFrom (now (s .entry)) (fileParts (now (s .entry)))) r
-        (now (head .exit)) (now (expressions .exit)) (now (entries .exit)) (now (relations .exit)) (now (comparisons .exit)) (now (queries .exit)) ⌝ }
+        (now (head .exit)) (now (expressions .exit)) (now (entries .exit)) (now (relations .exit)) (now (comparisons .exit)) (now (queries .exit))
+        (now (kinds .exit)) ⌝ }
 {
-    let start = Place {
-        at: 0,
-        line: 1,
-        end: 0,
-    };
-    let h = read_lines(s, b"(head", 3, 1, start, head);
+    let h = read_head(s, &mut *head);
     let x = read_lines(
         s,
         b"(expression",
@@ -123,13 +182,14 @@ fn read_groups(
         comparisons,
     );
     let q = read_lines(s, b"(query", 4, AttributeSet::MOST_QUERIES, c, queries);
+    let k = read_kinds(s, wide(head[1]) as usize, q, kinds);
     if h.end == 0 {
         return Outcome::Bad(1);
     }
-    if q.at == s.len() {
-        return Outcome::Read(x.end, e.end, r.end, c.end, q.end);
+    if k.at == s.len() {
+        return Outcome::Read(x.end, e.end, r.end, c.end, q.end, k.end);
     }
-    Outcome::Bad(q.line)
+    Outcome::Bad(k.line)
 }
 
 // The length of the longest file that is read.
@@ -144,11 +204,13 @@ fn read_file(
     relations: &mut [u16],
     comparisons: &mut [u16],
     queries: &mut [u16],
+    kinds: &mut [u16],
 ) -> Outcome
-    requires { ⌜ Lent (now head) (now expressions) (now entries) (now relations) (now comparisons) (now queries) ⌝ }
+    requires { ⌜ Lent (now head) (now expressions) (now entries) (now relations) (now comparisons) (now queries) (now kinds) ⌝ }
     ensures { λ r.
         ⌜ Filed (readFile (now (s .entry))) r
-        (now (head .exit)) (now (expressions .exit)) (now (entries .exit)) (now (relations .exit)) (now (comparisons .exit)) (now (queries .exit)) ⌝ }
+        (now (head .exit)) (now (expressions .exit)) (now (entries .exit)) (now (relations .exit)) (now (comparisons .exit)) (now (queries .exit))
+        (now (kinds .exit)) ⌝ }
 {
     if LONGEST_FILE < s.len() {
         return Outcome::Bad(0);
@@ -161,6 +223,7 @@ fn read_file(
         relations,
         comparisons,
         queries,
+        kinds,
     )
 }
 
@@ -184,20 +247,23 @@ fn print_read(
     relations: &[u16],
     comparisons: &[u16],
     queries: &[u16],
+    kinds: &[u16],
     expression_words: usize,
     entry_words: usize,
     relation_words: usize,
     comparison_words: usize,
     query_words: usize,
+    kind_words: usize,
     layout: Layout,
     out: &mut [u8],
 ) -> usize
-    requires { ⌜ HeldReadable (Outcome.Read «expression_words» «entry_words» «relation_words» «comparison_words» «query_words»)
-        (now head) (now expressions) (now entries) (now relations) (now comparisons) (now queries) (now out) ⌝ }
+    requires { ⌜ HeldReadable (Outcome.Read «expression_words» «entry_words» «relation_words» «comparison_words» «query_words» «kind_words»)
+        (now head) (now expressions) (now entries) (now relations) (now comparisons) (now queries) (now kinds) (now out) ⌝ }
     ensures { λ r.
         ⌜ ((T : Tables)
-        → Held T (Outcome.Read «expression_words» «entry_words» «relation_words» «comparison_words» «query_words») (now (head .entry))
+        → Held T (Outcome.Read «expression_words» «entry_words» «relation_words» «comparison_words» «query_words» «kind_words») (now (head .entry))
         (now (expressions .entry)) (now (entries .entry)) (now (relations .entry)) (now (comparisons .entry)) (now (queries .entry))
+        (now (kinds .entry))
         → Prints (fileAs layout (File.holds T)) (now (out .entry)) (now (out .exit)) r) ⌝ }
 {
     print_tables(
@@ -209,6 +275,7 @@ fn print_read(
         &relations[..relation_words],
         &comparisons[..comparison_words],
         &queries[..query_words],
+        &kinds[..kind_words],
         layout,
         out,
     )
@@ -224,6 +291,7 @@ pub fn print_file(text: &[u8], layout: Layout, out: &mut PrintRoom) -> usize
     let mut relations = [0; AttributeSet::MOST_RELATIONS * 2];
     let mut comparisons = [0; AttributeSet::MOST_COMPARISONS * 5];
     let mut queries = [0; AttributeSet::MOST_QUERIES * 4];
+    let mut kinds = [0; AttributeSet::MOST_ATTRIBUTES];
     let file = read_file(
         text,
         &mut head,
@@ -232,10 +300,11 @@ pub fn print_file(text: &[u8], layout: Layout, out: &mut PrintRoom) -> usize
         &mut relations,
         &mut comparisons,
         &mut queries,
+        &mut kinds,
     );
     match file {
         Outcome::Bad(n) => put_unread(out, 0, n as u64),
-        Outcome::Read(x, e, r, c, q) => {
+        Outcome::Read(x, e, r, c, q, k) => {
             print_read(
                 &head,
                 &expressions,
@@ -243,11 +312,13 @@ pub fn print_file(text: &[u8], layout: Layout, out: &mut PrintRoom) -> usize
                 &relations,
                 &comparisons,
                 &queries,
+                &kinds,
                 x,
                 e,
                 r,
                 c,
                 q,
+                k,
                 layout,
                 out,
             )

@@ -48,6 +48,7 @@ pub fn print_tables(
     relations: &[u16],
     comparisons: &[u16],
     queries: &[u16],
+    kinds: &[u16],
     layout: Layout,
     out: &mut [u8],
 ) -> usize
@@ -55,8 +56,7 @@ pub fn print_tables(
     ensures { λ r.
         ⌜ Prints
         (fileAs layout (File.holds (tablesOf features attributes model (now (expressions .entry)) (now (entries .entry)) (now (relations .entry))
-        (now (comparisons .entry))
-        (now (queries .entry)))))
+        (now (comparisons .entry)) (now (queries .entry)) (now (kinds .entry)))))
         (now (out .entry)) (now (out .exit)) r ⌝ }
 {
     let n = features as usize;
@@ -73,6 +73,7 @@ pub fn print_tables(
         relations,
         comparisons,
         queries,
+        kinds,
         &mut conditions,
         &mut reach,
         &mut columns,

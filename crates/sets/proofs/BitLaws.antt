@@ -11,7 +11,7 @@ use lib.Dec.{eqb, ltb, leb, eqb·suc-suc, eqb·suc-zero, eqb·zero-suc}
 use lib.Arith.{digits-div, digits-mod, lt-one}
 use lib.Pow.{pow-pos, pow-mono, pow-lt, ones-lt, ones-sub-lt, shr-shr, high, shl-exact}
 use lib.Bits.{bitAnd, bitOr, bitXor, differ, block-half, block-odd, and-step, or-step, xor-step}
-use lib.Bits.{and-lt, or-lt, xor-lt, and-le-l, and-le-r, xor-self, xor-add-and}
+use lib.Bits.{and-lt, or-lt, xor-lt, and-le-l, and-le-r, xor-self, or-add-and, xor-add-and}
 use lib.Count.{trailingZeros, under, ones, ones-step}
 use borrow.Author.Tests.{lt-ltb, le-ltb, le-leb, leb-true, eq-eqb, ne-eqb}
 use Rattle.sets.specs.declared.Found.{Found}
@@ -274,6 +274,16 @@ xor-zero x y = go (ℕ-discrete x y)
     go : Dec (x ≡ y) → eqb (bitXor x y) 0 ≡ eqb x y
     go (yes e) = eq-eqb (bitXor x y) 0 (ap (λ (z : ℕ). bitXor z y) e ∙ xor-self y) ∙ sym (eq-eqb x y e)
     go (no e) = ne-eqb (bitXor x y) 0 (λ z. e (xor-same x y z)) ∙ sym (ne-eqb x y e)
+
+-- a union is empty where both sets are
+pub or-none : (x y : ℕ) → eqb (bitOr x y) 0 ≡ (eqb x 0 && eqb y 0)
+or-none x y = go (ℕ-discrete x 0)
+  where
+    go : Dec (x ≡ 0) → eqb (bitOr x y) 0 ≡ (eqb x 0 && eqb y 0)
+    go (yes e) = ap (λ (z : ℕ). eqb (bitOr z y) 0) e ∙ sym (ap (λ (t : Bool). t && eqb y 0) (eq-eqb x 0 e))
+    go (no e) =
+        ne-eqb (bitOr x y) 0 (λ z. e (omega (arith, or-add-and x y, and-le-l x y, and-le-r x y)))
+        ∙ sym (ap (λ (t : Bool). t && eqb y 0) (ne-eqb x 0 e))
 
 -- x is a subset of y: their difference is empty, every bit of x is one of y, their intersection is x
 pub subset-bit : (x y : ℕ) → difference x y ≡ 0 → (i : ℕ) → bit x i ≡ true → bit y i ≡ true

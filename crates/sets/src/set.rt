@@ -18,6 +18,9 @@ impl AttributeSet {
 
     pub const MOST_ATTRIBUTES: usize = 64;
 
+    // 0 moment, 1 count, 2 name
+    pub const MOST_KIND: usize = 2;
+
     pub const MOST_EXPRESSIONS: usize = 256;
 
     pub const MOST_ENTRIES: usize = 512;

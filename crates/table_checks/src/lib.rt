@@ -9,6 +9,7 @@ use report::Refusal;
 use report::Verdict;
 use sets::AttributeSet;
 ghost use mathlib.Core.Path.{_≡_};
+ghost use mathlib.Core.List.{[]};
 ghost use Prim.Native.Nat.{_/_, _<_};
 ghost use lib.ListN.{length};
 ghost use Rattle.report.specs.Tables.{shapeOf, tablesOf};
@@ -78,7 +79,7 @@ pub fn check_lengths(
 ) -> Verdict
     ensures { λ r.
         ⌜ r ≡ lengthsCheck (tablesOf 0 0 0 (now (expressions .entry)) (now (entries .entry)) (now (relations .entry)) (now (comparisons .entry))
-        (now (queries .entry))) ⌝ }
+        (now (queries .entry)) []) ⌝ }
 {
     let a = check_length(3, 1, AttributeSet::MOST_EXPRESSIONS, 0, expressions.len());
     let b = check_length(2, 0, AttributeSet::MOST_ENTRIES, 1, entries.len());
@@ -168,7 +169,7 @@ fn comparison_fits(m: usize, e: usize, f: usize, x: Comparison) -> bool
         Comparison::Malformed => false,
         Comparison::Never => true,
         Comparison::Always => true,
-        Comparison::Constant(o, a, _) => (o <= 5) & (a < m),
+        Comparison::Constant(o, a, _, _) => (o <= 5) & (a < m),
         Comparison::Attribute(o, a, b) => (o <= 5) & (a < m) & (b < m),
         Comparison::Not(a) => a < f,
         Comparison::And(a, b) => (a < f) & (b < f),

@@ -1,41 +1,100 @@
 -- The typing check from the rows of the configurations at which each form fails: it names the lowest form whose row is not empty, and the
 -- lowest configuration of that row.
-use Prim.Native.Nat.{ℕ, _<_}
+use Prim.Native.Nat.{ℕ, zero, suc, _≤_, _<_}
 use mathlib.Core.Path.{_≡_, refl, sym, ap, _∙_}
-use mathlib.Core.Bool.{true, false, not, Bool·not-not}
+use mathlib.Core.Bool.{Bool, true, false, cond, not, Bool·not-not, false≢true}
 use mathlib.Core.List.{List}
-use native.Mathlib.Nat.{lt-of-lt-of-le}
 use native.Mathlib.Omega.{arith}
+use borrow.Author.Tests.{eq-eqb, ne-eqb}
 use lib.Pow.{pow-mono}
 use Rattle.sets.specs.declared.Found.{Found}
 use Rattle.sets.specs.Search.{lowest, isFound, someBelow, First}
 use Rattle.sets.specs.Rows.{rowIn, rowIsEmpty, rowLowest, RowsAre}
-use Rattle.sets.proofs.SearchLaws.{lowest-nothing, lowest-at, some-none}
+use Rattle.sets.proofs.SearchLaws.{lowest-nothing, lowest-at, some-none, some-at}
 use Rattle.sets.proofs.RowLaws.{empty-rowOf, lowest-rowOf}
 use Rattle.report.specs.Tables.{Tables, queryCount}
-use Rattle.report.specs.Expressions.{configurations}
-use Rattle.report.specs.Typing.{fails}
-use Rattle.report.specs.Checks.{typingCheck}
+use Rattle.report.specs.Expressions.{configurations, permitted}
+use Rattle.report.specs.Typing.{faults, fails}
+use Rattle.report.specs.Checks.{faultRefusal, typingCheck}
 use Rattle.report.specs.Formed.{Formed}
 use Rattle.report.specs.TypingFaults.{TypingFault}
 use Rattle.report.specs.declared.Verdict.{Verdict}
-use Rattle.report.proofs.TypingLaws.{fails-permitted, typing-accepted, typing-refused}
-use Rattle.typing.specs.Typed.{rowed, failsRow, told}
+use Rattle.report.proofs.TreeLaws.{fails-where, holds-where}
+use Rattle.report.proofs.TypingLaws.{permitted-within, fails-permitted, typing-accepted, typing-refused}
+use Rattle.fault_rows.specs.FaultRows.{failsAt, failingRow}
+use Rattle.typing.specs.Typed.{rowed, told}
 
-module _ {T : Tables} (F : Formed T) {rows : List ℕ} (R : RowsAre 16 (queryCount T) (failsRow T) rows) where
+-- Form q fails at c in this phase, at no configuration in an earlier one, and at none lower in this
+record Failing (T : Tables) (q c : ℕ) : Type 0 where
+  phase : ℕ
+  isPhase : phase < 2
+  lowest-in : First (λ d. fails T d phase q) 1024 c
+  earlier : (p d : ℕ) → p < phase → d < configurations T → fails T d p q ≡ false
+  toldIs : told T q c ≡ faultRefusal T q phase c
+
+module _ (T : Tables) (q : ℕ) where
+  -- a form that fails at no configuration in its first phase that fails at any, fails in none
+  none-fails : someBelow (failsAt T q) 1024 ≡ false → configurations T ≤ 1024 → (phase c : ℕ) → phase < 2 → c < configurations T
+      → fails T c phase q ≡ false
+  none-fails e few = go (someBelow (λ d. fails T d 0 q) (configurations T)) refl
+    where
+      go : (t : Bool) → someBelow (λ d. fails T d 0 q) (configurations T) ≡ t → (phase c : ℕ) → phase < 2 → c < configurations T
+          → fails T c phase q ≡ false
+      go true s phase c n h =
+          let f = some-at (λ d. fails T d 0 q) (configurations T) s in
+          absurd
+          (false≢true
+          (sym (some-none (failsAt T q) 1024 e (f .0) (omega (arith, f .1)))
+          ∙ ap (λ (t : Bool). cond t (fails T (f .0) 0 q) (fails T (f .0) 1 q)) s ∙ f .2))
+      go false s zero c n h = some-none (λ d. fails T d 0 q) (configurations T) s c h
+      go false s (suc zero) c n h =
+          sym (ap (λ (t : Bool). cond t (fails T c 0 q) (fails T c 1 q)) s) ∙ some-none (failsAt T q) 1024 e c (omega arith)
+      go false s (suc (suc phase)) c n h = absurd (omega arith)
+
+  -- where it fails at some, the lowest is that of one phase
+  some-fails : {c : ℕ} → First (failsAt T q) 1024 c → Failing T q c
+  some-fails {c} f = go (someBelow (λ d. fails T d 0 q) (configurations T)) refl
+    where
+      here : (phase : ℕ) → ((d : ℕ) → failsAt T q d ≡ fails T d phase q) → First (λ d. fails T d phase q) 1024 c
+      here phase same = record { below = f .below; holds = sym (same c) ∙ f .holds; before = λ d l. sym (same d) ∙ f .before d l }
+
+      go : (t : Bool) → someBelow (λ d. fails T d 0 q) (configurations T) ≡ t → Failing T q c
+      go true s =
+          let l = here 0 (λ d. ap (λ (t : Bool). cond t (fails T d 0 q) (fails T d 1 q)) s) in
+          record {
+            phase = 0;
+            isPhase = omega arith;
+            lowest-in = l;
+            earlier = λ p d n. absurd (omega arith);
+            toldIs = ap (λ (t : Bool). cond t (faultRefusal T q 1 c) (faultRefusal T q 0 c)) (ne-eqb (faults T c 0 q) 0 (fails-where T c q 0 .0 (l .holds) .1));
+          }
+      go false s =
+          let l = here 1 (λ d. ap (λ (t : Bool). cond t (fails T d 0 q) (fails T d 1 q)) s) in
+          let r = fails-where T c q 1 .0 (l .holds) .0 in
+          let k = some-none (λ d. fails T d 0 q) (configurations T) s c (permitted-within T c (fails-permitted T c 1 q (l .holds))) in
+          record {
+            phase = 1;
+            isPhase = omega arith;
+            lowest-in = l;
+            earlier = λ p d n h. ap (λ (i : ℕ). fails T d i q) (omega arith) ∙ some-none (λ d. fails T d 0 q) (configurations T) s d h;
+            toldIs = ap (λ (t : Bool). cond t (faultRefusal T q 1 c) (faultRefusal T q 0 c)) (eq-eqb (faults T c 0 q) 0 (holds-where T c q 0 .0 k r));
+          }
+
+module _ {T : Tables} (F : Formed T) {rows : List ℕ} (R : RowsAre 16 (queryCount T) (failingRow T) rows) where
   -- a row is not empty where its form fails at some configuration
-  rowed-fails : (q : ℕ) → q < queryCount T → rowed rows q ≡ someBelow (λ c. fails T c q) 1024
+  rowed-fails : (q : ℕ) → q < queryCount T → rowed rows q ≡ someBelow (failsAt T q) 1024
   rowed-fails q h =
-      ap (λ (r : List ℕ). not (rowIsEmpty 16 r)) (R .each q h) ∙ ap not (empty-rowOf 16 (λ c. fails T c q))
-      ∙ Bool·not-not (someBelow (λ c. fails T c q) 1024)
+      ap (λ (r : List ℕ). not (rowIsEmpty 16 r)) (R .each q h) ∙ ap not (empty-rowOf 16 (failsAt T q))
+      ∙ Bool·not-not (someBelow (failsAt T q) 1024)
 
   -- a form whose row is empty fails at none
-  empty-keeps : (q c : ℕ) → q < queryCount T → rowed rows q ≡ false → c < configurations T → fails T c q ≡ false
-  empty-keeps q c h e l = some-none (λ c. fails T c q) 1024 (sym (rowed-fails q h) ∙ e) c (lt-of-lt-of-le l (pow-mono {j = 10} (F .few)))
+  empty-keeps : (q phase c : ℕ) → q < queryCount T → rowed rows q ≡ false → phase < 2 → c < configurations T → fails T c phase q ≡ false
+  empty-keeps q phase c h e = none-fails T q (sym (rowed-fails q h) ∙ e) (pow-mono {j = 10} (F .few)) phase c
 
   -- where every row is empty the check accepts
   pub rows-accepted : lowest (rowed rows) (queryCount T) ≡ Found.Nothing → typingCheck T ≡ Verdict.Accepted
-  rows-accepted e = typing-accepted T .1 (λ c q l h. empty-keeps q c h (lowest-nothing (rowed rows) (queryCount T) e q h) l)
+  rows-accepted e =
+      typing-accepted T .1 (λ c q phase l h n. empty-keeps q phase c h (lowest-nothing (rowed rows) (queryCount T) e q h) n l)
 
   module _ {q : ℕ} (e : lowest (rowed rows) (queryCount T) ≡ Found.At q) where
     lowest-form : First (rowed rows) (queryCount T) q
@@ -45,8 +104,8 @@ module _ {T : Tables} (F : Formed T) {rows : List ℕ} (R : RowsAre 16 (queryCou
     form-in = lowest-form .below
 
     -- the configurations of the lowest row that is not empty are those at which its form fails
-    row-lowest : rowLowest 16 (rowIn 16 rows q) ≡ lowest (λ c. fails T c q) 1024
-    row-lowest = ap (rowLowest 16) (R .each q form-in) ∙ lowest-rowOf 16 (λ c. fails T c q)
+    row-lowest : rowLowest 16 (rowIn 16 rows q) ≡ lowest (failsAt T q) 1024
+    row-lowest = ap (rowLowest 16) (R .each q form-in) ∙ lowest-rowOf 16 (failsAt T q)
 
     -- it has a lowest configuration
     pub row-some : rowLowest 16 (rowIn 16 rows q) ≡ Found.Nothing → ⊥
@@ -56,23 +115,26 @@ module _ {T : Tables} (F : Formed T) {rows : List ℕ} (R : RowsAre 16 (queryCou
         omega arith
 
     module _ {c : ℕ} (f : rowLowest 16 (rowIn 16 rows q) ≡ Found.At c) where
-      lowest-failing : First (λ c. fails T c q) 1024 c
-      lowest-failing = lowest-at (λ c. fails T c q) 1024 c (sym row-lowest ∙ f)
+      failing : Failing T q c
+      failing = some-fails T q (lowest-at (failsAt T q) 1024 c (sym row-lowest ∙ f))
 
-      pub configuration-fails : fails T c q ≡ true
-      configuration-fails = lowest-failing .holds
+      pub configuration-permitted : permitted T c ≡ true
+      configuration-permitted = fails-permitted T c (failing .phase) q (failing .lowest-in .holds)
 
       -- this form and this configuration are those that the check names
-      pub rows-fault : TypingFault T (told T q c)
+      rows-fault : TypingFault T (faultRefusal T q (failing .phase) c)
       rows-fault = record {
         inside = form-in;
-        permits = fails-permitted T c q configuration-fails;
-        failing = configuration-fails;
+        permits = configuration-permitted;
+        phase = failing .phase;
+        isPhase = failing .isPhase;
+        failing = failing .lowest-in .holds;
         numbered = refl;
         itemOf = refl;
-        lowerForms = λ p d l k. empty-keeps p d (let h = form-in in omega arith) (lowest-form .before p l) k;
-        lowerConfigurations = lowest-failing .before;
+        lowerForms = λ p phase d l. empty-keeps p phase d (let h = form-in in omega arith) (lowest-form .before p l);
+        lowerPhases = failing .earlier;
+        lowerConfigurations = failing .lowest-in .before;
       }
 
       pub rows-refused : typingCheck T ≡ Verdict.Refused (told T q c)
-      rows-refused = typing-refused T (told T q c) .1 rows-fault
+      rows-refused = typing-refused T (faultRefusal T q (failing .phase) c) .1 rows-fault ∙ ap Verdict.Refused (sym (failing .toldIs))

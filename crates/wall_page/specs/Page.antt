@@ -48,7 +48,7 @@ lineCount T = countBelow (permitted T) (configurations T)
 abbrev pub pageCondition : ℕ → Tables → List Condition
 pageCondition room T = ltb room (73 * lineCount T) gives refusal 23 0 0 0
 
--- the call, with so many bytes lent: 1 to 10, 12 to 19, 23
+-- the call, with so many bytes lent: 1 to 10, 24, 12 to 19, 25, 23
 abbrev pub writingPage : ℕ → Call
 writingPage room = record { beforeModel = λ T. []; afterTyping = pageCondition room }
 

@@ -7,7 +7,7 @@ use Rattle.sets.specs.Lists.{table}
 use Rattle.report.specs.Tables.{Tables, tablesOf}
 use Rattle.report.specs.Text.{bytes}
 use Rattle.report.specs.Verdicts.{refusal}
-use Rattle.report.specs.Examples.{harbour, h1Expressions, h1Entries, h1Queries, h1}
+use Rattle.report.specs.Examples.{moments, harbour, h1Expressions, h1Entries, h1Queries, h1}
 use Rattle.wall_page.specs.declared.PageAnswer.{PageAnswer}
 
 -- ---- lines
@@ -54,7 +54,7 @@ example T room answer = record { of = T; room = room; gives = answer }
 
 -- H1 with expression e for the feature model
 abbrev modelled : ℕ → Tables
-modelled e = tablesOf 2 3 e h1Expressions (h1Entries 2) (0 ∷ 3 ∷ []) [] h1Queries
+modelled e = tablesOf 2 3 e h1Expressions (h1Entries 2) (0 ∷ 3 ∷ []) [] h1Queries (moments 3)
 
 abbrev pub answerExamples : List AnswerExample
 answerExamples =
@@ -105,11 +105,11 @@ h1Page =
 
 -- no feature, m attributes, one relation with this entry
 abbrev plain : ℕ → ℕ → Tables
-plain m attribute = tablesOf 0 m 0 (1 ∷ 0 ∷ 0 ∷ []) (attribute ∷ 0 ∷ []) (0 ∷ 1 ∷ []) [] (1 ∷ 0 ∷ 0 ∷ 0 ∷ [])
+plain m attribute = tablesOf 0 m 0 (1 ∷ 0 ∷ 0 ∷ []) (attribute ∷ 0 ∷ []) (0 ∷ 1 ∷ []) [] (1 ∷ 0 ∷ 0 ∷ 0 ∷ []) (moments m)
 
 -- no feature, no attribute, the empty report
 abbrev nothing : Tables
-nothing = tablesOf 0 0 0 (1 ∷ 0 ∷ 0 ∷ []) [] [] [] (0 ∷ 0 ∷ 0 ∷ 0 ∷ [])
+nothing = tablesOf 0 0 0 (1 ∷ 0 ∷ 0 ∷ []) [] [] [] (0 ∷ 0 ∷ 0 ∷ 0 ∷ []) (moments 0)
 
 abbrev pub bytesExamples : List BytesExample
 bytesExamples =

@@ -80,12 +80,13 @@ pub fn write_page(
     relations: &[u16],
     comparisons: &[u16],
     queries: &[u16],
+    kinds: &[u16],
     page: &mut [u8],
 ) -> PageAnswer
     ensures { λ r.
         ⌜ PageWritten
         (tablesOf features attributes model (now (expressions .entry)) (now (entries .entry)) (now (relations .entry)) (now (comparisons .entry))
-        (now (queries .entry))) (now (page .entry)) r (now (page .exit)) ⌝ }
+        (now (queries .entry)) (now (kinds .entry))) (now (page .entry)) r (now (page .exit)) ⌝ }
 {
     let n = features as usize;
     let model = model as usize;
@@ -101,6 +102,7 @@ pub fn write_page(
         relations,
         comparisons,
         queries,
+        kinds,
         &mut conditions,
         &mut reach,
         &mut columns,

@@ -9,8 +9,8 @@ use std::path::{Path, PathBuf};
 use std::process::{Command, ExitCode, Output, Stdio};
 use std::thread;
 
-use reference::file::{page_file, print_file, write_file};
-use reference::generate::{self, Family};
+use reference::file::{page_file, print_file};
+use reference::generate::{self, text_of, Family};
 use reference::random::Random;
 use reference::small::H1;
 
@@ -132,24 +132,25 @@ impl Run {
 /// A generated file of any family, sound or damaged.
 fn generated(seed: u64) -> Vec<u8> {
     let family = match Random::new(!seed).below(100) {
-        0..=32 => Family::Accepted,
+        0..=29 => Family::Accepted,
+        30..=32 => Family::Compared,
         33..=56 => Family::Fault,
         57..=65 => Family::Several,
         66..=69 => Family::Full,
         70..=72 => Family::Repeats,
         73..=76 => Family::Wall,
         77..=84 => Family::Small,
-        _ => return generate::damage(seed, &write_file(&generate::case(seed))),
+        _ => return generate::damage(seed, &text_of(seed, &generate::case(seed))),
     };
-    write_file(&generate::of_family(family, seed))
+    text_of(seed, &generate::of_family(family, seed))
 }
 
 /// A mutation of a file, most often of a small one.
 fn mutated(seed: u64) -> Vec<u8> {
     let text = match Random::new(!seed).below(20) {
         0..=1 => H1.as_bytes().to_vec(),
-        2..=14 => write_file(&generate::small(seed)),
-        _ => write_file(&generate::case(seed)),
+        2..=14 => text_of(seed, &generate::small(seed)),
+        _ => text_of(seed, &generate::case(seed)),
     };
     generate::mutate(seed, &text)
 }

@@ -1,13 +1,13 @@
 //! Writes a harbour file: arguments are a seed and a family (accepted, fault,
-//! several, full, small, repeats, wall, any, damaged).
+//! several, full, small, repeats, wall, compared, any, damaged).
 
 use std::io::{self, Write};
 use std::process::ExitCode;
 
-use reference::{file, generate};
+use reference::generate;
 
 const USAGE: &str =
-    "usage: generate SEED accepted|fault|several|full|small|repeats|wall|any|damaged";
+    "usage: generate SEED accepted|fault|several|full|small|repeats|wall|compared|any|damaged";
 
 fn main() -> ExitCode {
     let arguments: Vec<String> = std::env::args().skip(1).collect();
@@ -26,10 +26,10 @@ fn text_of(arguments: &[String]) -> Option<Vec<u8>> {
     let tables = match arguments.get(1)?.as_str() {
         "any" => generate::case(seed),
         "damaged" => {
-            let text = file::write_file(&generate::case(seed));
+            let text = generate::text_of(seed, &generate::case(seed));
             return Some(generate::damage(seed, &text));
         }
         name => generate::of_family(generate::family_of(name)?, seed),
     };
-    Some(file::write_file(&tables))
+    Some(generate::text_of(seed, &tables))
 }

@@ -46,6 +46,7 @@ pub fn ranged(features: u64, [first, count]: [u16; 2]) -> Tables {
         queries: vec![1, 0, 0, 0],
         ..Tables::default()
     }
+    .of_moments()
 }
 
 /// The only expression is a range of so many features: the model, and the condition
@@ -78,6 +79,7 @@ pub fn quay(more: &[[u16; 3]]) -> Tables {
         queries: vec![1, 0, 0, 0],
         ..Tables::default()
     }
+    .of_moments()
 }
 
 /// A relation for each kind of quay, with vessel and what that kind has. The report

@@ -7,6 +7,7 @@
 
 pub(crate) mod exactly_one;
 mod find;
+pub(crate) mod kinds;
 pub(crate) mod page;
 mod repeats;
 
@@ -26,7 +27,7 @@ pub struct File {
 }
 
 /// All files.
-pub const FILES: [File; 4] = [
+pub const FILES: [File; 5] = [
     File {
         name: "find",
         first: 1001,
@@ -46,6 +47,11 @@ pub const FILES: [File; 4] = [
         name: "exactly-one",
         first: 4001,
         cases: exactly_one::cases,
+    },
+    File {
+        name: "kinds",
+        first: 5001,
+        cases: kinds::cases,
     },
 ];
 
@@ -120,7 +126,7 @@ fn h1() -> Tables {
 fn h1_with(change: fn(&mut Tables)) -> Tables {
     let mut tables = h1();
     change(&mut tables);
-    tables
+    tables.of_moments()
 }
 
 /// One relation, always there, is the report. Expression 0 is true, 1 + i is
@@ -139,6 +145,7 @@ fn harbour(features: u16, attributes: u64, more: &[[u16; 3]], entries: &[[u16; 2
         queries: vec![1, 0, 0, 0],
         ..Tables::default()
     }
+    .of_moments()
 }
 
 /// A harbour under another model.

@@ -96,6 +96,7 @@ fn relation_lists() -> Vec<Aimed> {
     last.push([0, GATES]);
     let mut highest = yard(&[[63, SWAPS], [63, GATES]]);
     highest.attributes = 64;
+    let highest = highest.of_moments();
     vec![
         check(
             "attribute 0 with swaps and again with gates, there with either, at 1, 2 and 3",

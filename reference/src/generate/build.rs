@@ -8,10 +8,10 @@
 
 mod repeats;
 
-use super::feature_ranges;
+use super::{feature_ranges, kinds};
 use crate::random::Random;
-use crate::tables::{Tables, CHOICE, EMPTY, EXACTLY_ONE, INTERSECTION};
-use crate::tables::{PRODUCT, PROJECT, RELATION, SELECT, UNION};
+use crate::tables::{Tables, CHOICE, COMPARISON_CHOICE, EMPTY, EXACTLY_ONE, INTERSECTION};
+use crate::tables::{PRODUCT, PROJECT, RELATION, SELECT, UNION, WITH_ATTRIBUTE, WITH_CONSTANT};
 
 /// How much of everything a case may have, and whether it has to have it all.
 #[derive(Clone, Copy, Debug)]
@@ -57,9 +57,13 @@ pub struct Builder<'a> {
     permitted: Vec<usize>,
     relations: Vec<Relation>,
     entries: usize,
+    /// The kind of each attribute.
+    kinds: Vec<u16>,
     comparisons: Vec<[u16; 5]>,
     /// Set of attributes named, by comparison, then by configuration.
     named: Vec<Vec<u64>>,
+    /// Do kinds differ, by comparison, then by configuration?
+    clashes: Vec<Vec<bool>>,
     nodes: Vec<Node>,
 }
 
@@ -79,6 +83,7 @@ pub fn accepted(random: &mut Random, size: Size) -> Tables {
 
 impl<'a> Builder<'a> {
     fn new(random: &'a mut Random, size: Size) -> Builder<'a> {
+        let kinds = kinds::sound(random, size.attributes);
         let mut builder = Builder {
             random,
             size,
@@ -89,8 +94,10 @@ impl<'a> Builder<'a> {
             permitted: vec![],
             relations: vec![],
             entries: 0,
+            kinds,
             comparisons: vec![],
             named: vec![],
+            clashes: vec![],
             nodes: vec![],
         };
         builder.make_expressions();
@@ -332,12 +339,44 @@ impl<'a> Builder<'a> {
         if attributes == 0 || self.random.chance(1, 6) {
             return [self.random.below(2) as u16, 0, 0, 0, 0];
         }
-        let operator = self.random.below(6) as u16;
         let a = self.random.below(attributes) as u16;
-        match self.random.chance(1, 2) {
-            true => [2, operator, a, self.constant(), 0],
-            false => [3, operator, a, self.random.below(attributes) as u16, 0],
+        // Kinds that differ, now and then: a report may have such forms, where
+        // nothing reaches them.
+        if self.random.chance(1, 12) {
+            return self.clashing_with(a);
         }
+        let all: Vec<u16> = (0..attributes as u16).collect();
+        self.compared(a, &all)
+    }
+
+    /// A comparison of the attribute with a constant, or with one of the others,
+    /// both sides of one kind.
+    fn compared(&mut self, a: u16, others: &[u16]) -> [u16; 5] {
+        let operator = self.random.below(6) as u16;
+        let kind = self.kind(a);
+        if self.random.chance(1, 2) {
+            return [WITH_CONSTANT, operator, a, self.constant(), kind];
+        }
+        let same = others.iter().copied().filter(|&b| self.kind(b) == kind);
+        let mut same: Vec<u16> = same.collect();
+        same.push(a);
+        [WITH_ATTRIBUTE, operator, a, self.random.pick(&same), 0]
+    }
+
+    /// A comparison of the attribute with something of another kind.
+    fn clashing_with(&mut self, a: u16) -> [u16; 5] {
+        let operator = self.random.below(6) as u16;
+        let all = 0..self.kinds.len() as u16;
+        let unlike: Vec<u16> = all.filter(|&b| self.kind(b) != self.kind(a)).collect();
+        if unlike.is_empty() || self.random.chance(1, 2) {
+            let kind = kinds::other(self.random, self.kind(a));
+            return [WITH_CONSTANT, operator, a, self.constant(), kind];
+        }
+        [WITH_ATTRIBUTE, operator, a, self.random.pick(&unlike), 0]
+    }
+
+    fn kind(&self, attribute: u16) -> u16 {
+        self.kinds[usize::from(attribute)]
     }
 
     fn constant(&mut self) -> u16 {
@@ -356,8 +395,19 @@ impl<'a> Builder<'a> {
             _ if self.holds[a][at] => self.named[b][at],
             _ => self.named[c][at],
         };
+        let clashes = |at: usize| match kind {
+            2 => self.kinds[a] != form[4],
+            3 => self.kinds[a] != self.kinds[b],
+            4 => self.clashes[a][at],
+            5 | 6 => self.clashes[a][at] || self.clashes[b][at],
+            7 if self.holds[a][at] => self.clashes[b][at],
+            7 => self.clashes[c][at],
+            _ => false,
+        };
         let named = (0..self.configurations()).map(set).collect();
+        let clashes = (0..self.configurations()).map(clashes).collect();
         self.named.push(named);
+        self.clashes.push(clashes);
         self.comparisons.push(form);
         (self.comparisons.len() - 1) as u16
     }
@@ -464,11 +514,14 @@ impl<'a> Builder<'a> {
 
     fn comparison_fits(&self, comparison: usize, reach: &[usize], of: usize) -> bool {
         let named = &self.named[comparison];
+        let clashes = &self.clashes[comparison];
         let sets = &self.nodes[of].sets;
-        reach.iter().all(|&c| named[c] & !sets[c] == 0)
+        let fits = |&c: &usize| named[c] & !sets[c] == 0 && !clashes[c];
+        reach.iter().all(fits)
     }
 
-    /// A comparison that names only what the query has, old or new.
+    /// A comparison that names only what the query has, and in which no kinds
+    /// differ where it is reached, old or new.
     fn fitting_comparison(&mut self, reach: &[usize], of: usize) -> Option<u16> {
         if self.random.chance(1, 2) && self.comparisons.len() < self.size.comparisons {
             self.new_comparison(reach, of);
@@ -504,7 +557,8 @@ impl<'a> Builder<'a> {
             let where_held = self.fitting_expression(reach, of, attribute);
             if let Some(expression) = where_held {
                 let constant = self.constant();
-                let one = self.add_comparison([2, operator, attribute, constant, 0]);
+                let kind = self.kind(attribute);
+                let one = self.add_comparison([WITH_CONSTANT, operator, attribute, constant, kind]);
                 let kind = self.random.below(2) as u16;
                 let none = self.add_comparison([kind, 0, 0, 0, 0]);
                 self.add_comparison([7, 0, expression, one, none]);
@@ -514,13 +568,16 @@ impl<'a> Builder<'a> {
         if known.is_empty() {
             return;
         }
-        let (a, b) = (self.random.pick(&known), self.random.pick(&known));
-        let form = match self.random.chance(1, 2) {
-            true => [2, operator, a, self.constant(), 0],
-            false => [3, operator, a, b, 0],
-        };
+        let a = self.random.pick(&known);
+        let form = self.compared(a, &known);
         let new = self.add_comparison(form);
-        if self.comparisons.len() < self.size.comparisons && self.random.chance(1, 2) {
+        let room = self.size.comparisons - self.comparisons.len();
+        if room >= 2 && self.random.chance(1, 4) {
+            let clash = self.clashing_with(a);
+            let clash = self.add_comparison(clash);
+            let expression = self.held_throughout(reach);
+            self.add_comparison([COMPARISON_CHOICE, 0, expression, new, clash]);
+        } else if room >= 1 && self.random.chance(1, 2) {
             let other = self.random.below(self.comparisons.len()) as u16;
             let kind = self.random.pick(&[5, 6]);
             let expression = self.some_expression();
@@ -531,6 +588,17 @@ impl<'a> Builder<'a> {
             };
             self.add_comparison(form);
         }
+    }
+
+    /// An expression that holds wherever the query is reached; the model does.
+    fn held_throughout(&mut self, reach: &[usize]) -> u16 {
+        for _ in 0..6 {
+            let expression = self.some_expression();
+            if reach.iter().all(|&c| self.holds(expression, c)) {
+                return expression;
+            }
+        }
+        self.model
     }
 
     /// An expression that holds, where reached, only where the query has the
@@ -828,6 +896,7 @@ impl<'a> Builder<'a> {
             model: u64::from(self.model),
             expressions: self.expressions.concat(),
             comparisons: self.comparisons.concat(),
+            kinds: self.kinds.clone(),
             ..Tables::default()
         };
         for relation in &self.relations {

@@ -68,7 +68,7 @@ fn damage_lines(random: &mut Random, text: Vec<u8>) -> Vec<u8> {
     }
     let at = random.below(lines.len());
     let other = random.below(lines.len());
-    match random.below(9) {
+    match random.below(10) {
         0 => lines.swap(at, other),
         1 => lines.insert(at, lines[at].clone()),
         2 => {
@@ -83,8 +83,12 @@ fn damage_lines(random: &mut Random, text: Vec<u8>) -> Vec<u8> {
         6 => lines.truncate(at),
         7 => {
             let line = lines[at].clone();
-            let times = random.pick(&[31, 33, 255, 257, 513]);
+            let times = random.pick(&[31, 33, 63, 65, 255, 257, 513]);
             (0..times).for_each(|_| lines.insert(at, line.clone()));
+        }
+        8 => {
+            let place = random.pick(&[at, lines.len()]);
+            lines.insert(place, b"(kind 1)\n".to_vec());
         }
         _ => lines.insert(at, b"(note 1 2 3)\n".to_vec()),
     }

@@ -1,12 +1,21 @@
 //! Faults put into accepted tables: one for every limit of every check.
 
+mod clashes;
+
 use super::feature_ranges::{self, Range};
+use super::kinds;
 use crate::check::{self, ROWS};
 use crate::expression;
 use crate::form;
 use crate::random::Random;
-use crate::tables::{self, Tables, EXACTLY_ONE, RANGES, WIDTHS};
+use crate::refusal::is_of_typing;
+use crate::tables::{self, Tables, EXACTLY_ONE, MOMENT, RANGES, WIDTHS, WITH_CONSTANT};
 use crate::typing;
+
+pub use clashes::has_two_kinds;
+use clashes::{alone, append_choice, append_clash, append_constant, append_unlike};
+use clashes::{everywhere, kinds_of_length, lacking, one_of, select_by, select_lacking};
+use clashes::{unknown_kind, unknown_kind_of_constant};
 
 /// One way to break one condition of the table of refusals.
 pub struct Limit {
@@ -57,13 +66,9 @@ pub fn crossed(random: &mut Random, sound: &Tables) -> Tables {
     for _ in 0..60 {
         tables = sound.clone();
         let limit = &LIMITS[random.below(LIMITS.len())];
-        let apply = match limit.number {
-            15.. => limit.apply,
-            _ => turn,
-        };
         let kind = random.pick(&[2, 3, 5, 6, 7]);
-        if apply(random, &mut tables).is_some()
-            && outcome(&tables) >= 15
+        if apply_of_typing(limit)(random, &mut tables).is_some()
+            && is_of_typing(outcome(&tables))
             && append_query(random, &mut tables, kind).is_some()
             && is_crossed(&tables)
         {
@@ -73,19 +78,46 @@ pub fn crossed(random: &mut Random, sound: &Tables) -> Tables {
     tables
 }
 
+/// What puts the fault of a limit of typing in; for other limits a turned word.
+fn apply_of_typing(limit: &Limit) -> fn(&mut Random, &mut Tables) -> Option<()> {
+    match is_of_typing(limit.number) {
+        true => limit.apply,
+        false => turn,
+    }
+}
+
 /// Is the configuration that typing names another than the first that fails?
 pub fn is_crossed(tables: &Tables) -> bool {
     let mut rows = [0; ROWS];
     let Err(refusal) = check::check(tables, &mut rows) else {
         return false;
     };
-    if refusal.number < 15 {
+    if !is_of_typing(refusal.number) {
         return false;
     }
     let lists = form::check(tables).expect("typing comes after form");
     let mut permitted = expression::permitted(tables).into_iter();
     let first = permitted.find(|at| typing::report_at(tables, &lists, at).is_err());
     first.is_some_and(|at| at.configuration != refusal.configuration)
+}
+
+/// Puts in a fault that has to do with kinds: of 24 and 25, and of others whose words
+/// say so.
+pub fn of_kinds(random: &mut Random, sound: &Tables) -> Tables {
+    let names_kinds = |words: &str| words.contains("kinds differ") || words.contains("a kind");
+    let is_of_kinds = |l: &&Limit| match l.number {
+        10 | 16 => names_kinds(l.words),
+        number => number == 24 || number == 25,
+    };
+    let limits: Vec<&Limit> = LIMITS.iter().filter(is_of_kinds).collect();
+    for _ in 0..40 {
+        let limit = random.pick(&limits);
+        let mut tables = sound.clone();
+        if (limit.apply)(random, &mut tables).is_some() && outcome(&tables) == limit.number {
+            return tables;
+        }
+    }
+    sound.clone()
 }
 
 /// Puts in several faults, of any numbers.
@@ -109,15 +141,17 @@ pub fn several_of_typing(random: &mut Random, sound: &Tables) -> Tables {
     for _ in 0..random.between(2, 4) {
         let mut tried = tables.clone();
         let limit = &LIMITS[random.below(LIMITS.len())];
-        let apply = match limit.number {
-            15.. => limit.apply,
-            _ => turn,
-        };
-        if apply(random, &mut tried).is_some() && !(1..15).contains(&outcome(&tried)) {
+        if apply_of_typing(limit)(random, &mut tried).is_some() && gets_to_typing(&tried) {
             tables = tried;
         }
     }
     tables
+}
+
+/// Are the tables accepted, or refused for a typing fault?
+fn gets_to_typing(tables: &Tables) -> bool {
+    let number = outcome(tables);
+    number == 0 || is_of_typing(number)
 }
 
 /// The number of the refusal when checking, 0 when accepted.
@@ -234,7 +268,10 @@ fn append_comparison(random: &mut Random, tables: &mut Tables, kind: u16) -> Opt
     let operator = random.below(6) as u16;
     let form = match kind {
         0 | 1 => [kind, 0, 0, 0, 0],
-        2 => [kind, operator, any_attribute(random, tables)?, 7, 0],
+        2 => {
+            let left = any_attribute(random, tables)?;
+            [kind, operator, left, 7, kind_of(tables, left)]
+        }
         3 => {
             let left = any_attribute(random, tables)?;
             [kind, operator, left, any_attribute(random, tables)?, 0]
@@ -244,6 +281,12 @@ fn append_comparison(random: &mut Random, tables: &mut Tables, kind: u16) -> Opt
         _ => [kind, 0, any(random, tables, 0)? as u16, a, b],
     };
     append(tables, 3, &form)
+}
+
+/// The kind of an attribute; in a table that is cut short, any.
+fn kind_of(tables: &Tables, attribute: u16) -> u16 {
+    let kind = tables.kinds.get(usize::from(attribute));
+    kind.copied().unwrap_or(MOMENT)
 }
 
 /// A sound form over the report; it becomes the report. (A form without
@@ -518,7 +561,7 @@ fn nowhere(random: &mut Random, tables: &mut Tables) -> Option<u16> {
 /// Turns one word of sound tables into another that is sound in form: a change
 /// of meaning.
 pub fn turn(random: &mut Random, tables: &mut Tables) -> Option<()> {
-    match random.below(12) {
+    match random.below(13) {
         0 => {
             let entry = any(random, tables, 1)?;
             let expression = any(random, tables, 0)? as u16;
@@ -540,6 +583,7 @@ pub fn turn(random: &mut Random, tables: &mut Tables) -> Option<()> {
             tables.model = any(random, tables, 0)? as u64;
             Some(())
         }
+        6 => turn_kind(random, tables),
         _ => turn_query(random, tables),
     }
 }
@@ -565,10 +609,23 @@ fn turn_expression(random: &mut Random, tables: &mut Tables) -> Option<()> {
     }
 }
 
+fn turn_kind(random: &mut Random, tables: &mut Tables) -> Option<()> {
+    if tables.kinds.is_empty() {
+        return None;
+    }
+    let word = random.below(tables.kinds.len());
+    tables.kinds[word] = kinds::other(random, tables.kinds[word] % 3);
+    Some(())
+}
+
 fn turn_comparison(random: &mut Random, tables: &mut Tables) -> Option<()> {
     let form = any(random, tables, 3)?;
     let [kind, _, a, b, c] = tables.comparison(form);
     match kind {
+        WITH_CONSTANT if random.chance(1, 3) => {
+            let kind = kinds::other(random, c % 3);
+            put(tables, 3, form, 4, kind)
+        }
         2 | 3 => {
             let attribute = any_attribute(random, tables)?;
             put(tables, 3, form, 2, attribute)
@@ -613,7 +670,7 @@ fn turn_query(random: &mut Random, tables: &mut Tables) -> Option<()> {
     }
 }
 
-/// Every limit of every check from 1 to 10 and from 12 to 19.
+/// Every limit of every check that tables alone can fail, in the order of the checks.
 pub static LIMITS: &[Limit] = &[
     limit(1, "11 features", |_, t| {
         t.features = 11;
@@ -787,9 +844,6 @@ pub static LIMITS: &[Limit] = &[
     limit(7, "unused c of a constant", |r, t| {
         unused(r, t, 3, &[0, 1], 4)
     }),
-    limit(7, "unused c of one attribute", |r, t| {
-        unused(r, t, 3, &[2], 4)
-    }),
     limit(7, "unused c of two attributes", |r, t| {
         unused(r, t, 3, &[3], 4)
     }),
@@ -962,6 +1016,115 @@ pub static LIMITS: &[Limit] = &[
         let length = t.relation(relation)[1].checked_sub(1)?;
         put(t, 2, relation, 1, length)
     }),
+    limit(10, "one entry more, and a kind over 2", |r, t| {
+        let attribute = any_attribute(r, t)?;
+        append(t, 1, &[attribute, 0])?;
+        match r.chance(1, 2) {
+            true => unknown_kind(r, t),
+            false => unknown_kind_of_constant(r, t),
+        }
+    }),
+    limit(10, "one entry more, and a kind table too short", |r, t| {
+        let attribute = any_attribute(r, t)?;
+        append(t, 1, &[attribute, 0])?;
+        t.kinds.pop().map(|_| ())
+    }),
+    limit(24, "kind table of no words", |_, t| kinds_of_length(t, 0)),
+    limit(24, "kind table a word too short", |_, t| {
+        t.kinds.pop().map(|_| ())
+    }),
+    limit(24, "kind table a word too long", |_, t| {
+        t.kinds.push(MOMENT);
+        Some(())
+    }),
+    limit(
+        24,
+        "kind table of one word with no attributes",
+        |_, t| match t.attributes {
+            0 => kinds_of_length(t, 1),
+            _ => None,
+        },
+    ),
+    limit(24, "kind table of 64 words", |_, t| kinds_of_length(t, 64)),
+    limit(24, "kind table of 65 words", |_, t| kinds_of_length(t, 65)),
+    limit(
+        24,
+        "kind table too short, and a kind over 2 in it",
+        |r, t| {
+            t.kinds.pop()?;
+            unknown_kind(r, t)
+        },
+    ),
+    limit(24, "kind table too long, by a kind over 2", |r, t| {
+        t.kinds.push(kinds::unknown(r));
+        Some(())
+    }),
+    limit(24, "first kind over 2", |r, t| {
+        *t.kinds.first_mut()? = kinds::unknown(r);
+        Some(())
+    }),
+    limit(24, "last kind over 2", |r, t| {
+        *t.kinds.last_mut()? = kinds::unknown(r);
+        Some(())
+    }),
+    limit(24, "a kind of 3", |r, t| {
+        unknown_kind(r, t)?;
+        t.kinds.iter_mut().for_each(|kind| *kind = (*kind).min(3));
+        Some(())
+    }),
+    limit(24, "two kinds over 2", |r, t| {
+        unknown_kind(r, t)?;
+        unknown_kind(r, t)
+    }),
+    limit(24, "a constant's kind of 3", |r, t| {
+        let form = form_of(r, t, 3, &[WITH_CONSTANT])?;
+        put(t, 3, form, 4, 3)
+    }),
+    limit(24, "a constant's kind far over 2", |r, t| {
+        let form = form_of(r, t, 3, &[WITH_CONSTANT])?;
+        let kind = r.pick(&[256, 258, 32768, 65535]);
+        put(t, 3, form, 4, kind)
+    }),
+    limit(
+        24,
+        "a constant's kind over 2, where nothing compares it",
+        |r, t| {
+            let attribute = any_attribute(r, t)?;
+            let form = append_constant(r, t, attribute, true)?;
+            let kind = kinds::unknown(r);
+            put(t, 3, form.into(), 4, kind)
+        },
+    ),
+    limit(24, "two constants' kinds over 2", |r, t| {
+        unknown_kind_of_constant(r, t)?;
+        unknown_kind_of_constant(r, t)
+    }),
+    limit(
+        24,
+        "an attribute's kind and a constant's kind over 2",
+        |r, t| {
+            unknown_kind_of_constant(r, t)?;
+            unknown_kind(r, t)
+        },
+    ),
+    limit(24, "and no configuration permitted", |r, t| {
+        t.model = append(t, 0, &[0, 0, 0])? as u64;
+        match r.chance(1, 2) {
+            true => unknown_kind(r, t),
+            false => unknown_kind_of_constant(r, t),
+        }
+    }),
+    limit(24, "and a relation present nowhere", |r, t| {
+        let expression = nowhere(r, t)?;
+        append(t, 2, &[expression, 0])?;
+        unknown_kind(r, t)
+    }),
+    limit(24, "and kinds differ", |r, t| {
+        let comparison = append_clash(r, t)?;
+        select_by(t, comparison)?;
+        t.kinds.push(MOMENT);
+        Some(())
+    }),
     limit(12, "model false", |_, t| {
         t.model = append(t, 0, &[0, 0, 0])? as u64;
         Some(())
@@ -1094,6 +1257,33 @@ pub static LIMITS: &[Limit] = &[
         let form = append_query(r, t, 2)?;
         put(t, 4, form, 1, comparison)
     }),
+    limit(
+        16,
+        "and kinds differ in the form, at a lower configuration",
+        |r, t| {
+            let later = lacking(r, t, true)?;
+            let clash = append_clash(r, t)?;
+            let missing = append_constant(r, t, later, true)?;
+            let kind = r.pick(&[5, 6]);
+            let both = append(t, 3, &[kind, 0, clash, missing, 0])? as u16;
+            select_by(t, both)
+        },
+    ),
+    limit(
+        16,
+        "and kinds differ in the form, at the same configuration",
+        |r, t| {
+            let attribute = lacking(r, t, false)?;
+            let clash = append_constant(r, t, attribute, false)?;
+            select_by(t, clash)
+        },
+    ),
+    limit(16, "and kinds differ in a higher form", |r, t| {
+        let attribute = lacking(r, t, false)?;
+        let clash = append_clash(r, t)?;
+        select_lacking(r, t, attribute)?;
+        select_by(t, clash)
+    }),
     limit(16, "the reasons of an attribute turned", turn_reasons),
     limit(16, "a word turned", turn),
     limit(17, "a project over the report", |r, t| {
@@ -1151,4 +1341,99 @@ pub static LIMITS: &[Limit] = &[
     }),
     limit(19, "the reasons of an attribute turned", turn_reasons),
     limit(19, "a word turned", turn),
+    limit(25, "a constant of another kind", |r, t| {
+        let known = one_of(r, everywhere(t)?)?;
+        let clash = append_constant(r, t, known, false)?;
+        select_by(t, clash)
+    }),
+    limit(25, "an attribute of another kind", |r, t| {
+        let clash = append_unlike(r, t)?;
+        select_by(t, clash)
+    }),
+    limit(25, "a constant's kind turned", |r, t| {
+        let form = form_of(r, t, 3, &[WITH_CONSTANT])?;
+        let kind = t.comparison(form)[4] % 3;
+        let kind = kinds::other(r, kind);
+        put(t, 3, form, 4, kind)
+    }),
+    limit(25, "an attribute's kind turned", turn_kind),
+    limit(25, "where a choice's expression holds", |r, t| {
+        let expression = any(r, t, 0)? as u16;
+        let choice = append_choice(r, t, expression, true)?;
+        select_by(t, choice)
+    }),
+    limit(25, "where a choice's expression does not hold", |r, t| {
+        let expression = any(r, t, 0)? as u16;
+        let choice = append_choice(r, t, expression, false)?;
+        select_by(t, choice)
+    }),
+    limit(25, "at one configuration alone", |r, t| {
+        let (expression, there) = alone(r, t)?;
+        let choice = append_choice(r, t, expression, there)?;
+        select_by(t, choice)
+    }),
+    limit(
+        25,
+        "at one configuration alone, by a choice above",
+        |r, t| {
+            let report = t.count(4) - 1;
+            let (expression, there) = alone(r, t)?;
+            let clash = append_clash(r, t)?;
+            select_by(t, clash)?;
+            let [select, none] = [report + 1, append(t, 4, &[0, 0, 0, 0])?].map(|form| form as u16);
+            let [b, c] = if there {
+                [select, none]
+            } else {
+                [none, select]
+            };
+            append(t, 4, &[tables::CHOICE, expression, b, c]).map(|_| ())
+        },
+    ),
+    limit(25, "under not, and, or", |r, t| {
+        let clash = append_clash(r, t)?;
+        let other = r.below(usize::from(clash) + 1) as u16;
+        let form = r.pick(&[
+            [4, 0, clash, 0, 0],
+            [5, 0, clash, other, 0],
+            [6, 0, other, clash, 0],
+            [5, 0, clash, clash, 0],
+        ]);
+        let joined = append(t, 3, &form)? as u16;
+        select_by(t, joined)
+    }),
+    limit(25, "at the end of a chain of forms joined twice", |r, t| {
+        let mut last = append_clash(r, t)?;
+        let most = r.pick(&[usize::from(last) + 2, 256]).min(RANGES[3].1);
+        while t.count(3) < most {
+            let kind = r.pick(&[5, 6]);
+            last = append(t, 3, &[kind, 0, last, last, 0])? as u16;
+        }
+        select_by(t, last)
+    }),
+    limit(25, "of two attributes, in one form", |r, t| {
+        let known = everywhere(t)?;
+        let one = one_of(r, known)?;
+        let other = one_of(r, known & !(1 << one))?;
+        let clashes = [one, other].map(|attribute| append_constant(r, t, attribute, false));
+        let both = append(t, 3, &[5, 0, clashes[0]?, clashes[1]?, 0])? as u16;
+        select_by(t, both)
+    }),
+    limit(25, "and 16 in a higher form", |r, t| {
+        let attribute = lacking(r, t, false)?;
+        let clash = append_clash(r, t)?;
+        select_by(t, clash)?;
+        select_lacking(r, t, attribute)
+    }),
+    limit(
+        25,
+        "and in a higher form, at a lower configuration",
+        |r, t| {
+            let expression = any(r, t, 0)? as u16;
+            let choice = append_choice(r, t, expression, true)?;
+            let [_, _, _, clash, _] = t.comparison(choice.into());
+            select_by(t, choice)?;
+            select_by(t, clash)
+        },
+    ),
+    limit(25, "a word turned", turn),
 ];

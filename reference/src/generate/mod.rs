@@ -5,6 +5,7 @@ mod build;
 mod damage;
 mod fault;
 mod feature_ranges;
+mod kinds;
 mod mutate;
 mod repeat;
 mod room;
@@ -20,7 +21,9 @@ pub use room::{page_room, page_room_by, Room, ROOMS};
 pub use wall::DIGITS;
 pub use wanted::{wanted, wanted_by, Aim, Answer, AIMS};
 
+use crate::file;
 use crate::random::Random;
+use crate::refusal::is_of_typing;
 use crate::tables::Tables;
 
 /// The families of cases.
@@ -40,6 +43,9 @@ pub enum Family {
     Repeats,
     /// Accepted, aimed at the limits of the wall page.
     Wall,
+    /// Columns of more than one kind; accepted or with a fault that has to do with
+    /// kinds.
+    Compared,
 }
 
 /// The family of a name.
@@ -52,14 +58,25 @@ pub fn family_of(name: &str) -> Option<Family> {
         "small" => Some(Family::Small),
         "repeats" => Some(Family::Repeats),
         "wall" => Some(Family::Wall),
+        "compared" => Some(Family::Compared),
         _ => None,
+    }
+}
+
+/// The harbour file of tables. Where it needs no kind lines, the seed says whether it
+/// has them.
+pub fn text_of(seed: u64, tables: &Tables) -> Vec<u8> {
+    match Random::new(seed).chance(1, 2) {
+        true => file::write_file(tables),
+        false => file::write_file_with_kinds(tables),
     }
 }
 
 /// A case of a family chosen by the seed.
 pub fn case(seed: u64) -> Tables {
     let family = match Random::new(!seed).below(100) {
-        0..=53 => Family::Accepted,
+        0..=50 => Family::Accepted,
+        51..=53 => Family::Compared,
         54..=55 => Family::Wall,
         56..=81 => Family::Fault,
         82..=87 => Family::Several,
@@ -80,6 +97,7 @@ pub fn of_family(family: Family, seed: u64) -> Tables {
         Family::Small => small(seed),
         Family::Repeats => repeats(seed),
         Family::Wall => wall(seed),
+        Family::Compared => compared(seed),
     }
 }
 
@@ -90,7 +108,7 @@ pub fn accepted(seed: u64) -> Tables {
     build::accepted(&mut random, size)
 }
 
-/// Tables with one fault of some number from 1 to 10 or 12 to 19.
+/// Tables with one fault of some number that tables alone can have.
 pub fn fault(seed: u64) -> Tables {
     let mut random = Random::new(seed);
     let size = any_size(&mut random);
@@ -151,7 +169,7 @@ pub fn repeats(seed: u64) -> Tables {
     match sound {
         true => tables,
         false => {
-            let number = random.pick(&[14, 16, 17, 17, 18, 19]);
+            let number = random.pick(&[14, 16, 17, 17, 18, 19, 25]);
             fault::aimed(&mut random, &tables, number)
         }
     }
@@ -160,6 +178,30 @@ pub fn repeats(seed: u64) -> Tables {
 /// Tables aimed at the limits of the wall page. All are accepted.
 pub fn wall(seed: u64) -> Tables {
     wall::tables(&mut Random::new(seed))
+}
+
+/// Tables with columns of more than one kind, as far as some tries give it, accepted or
+/// with a fault that has to do with kinds.
+pub fn compared(seed: u64) -> Tables {
+    let mut random = Random::new(seed);
+    let sound = of_two_kinds(&mut random, any_size);
+    match random.chance(1, 4) {
+        true => sound,
+        false => fault::of_kinds(&mut random, &sound),
+    }
+}
+
+/// Accepted tables with columns of more than one kind, as far as some tries give it.
+fn of_two_kinds(random: &mut Random, size: fn(&mut Random) -> Size) -> Tables {
+    let mut tables = Tables::default();
+    for _ in 0..30 {
+        let size = size(random);
+        tables = build::accepted(random, size);
+        if fault::has_two_kinds(&tables) {
+            break;
+        }
+    }
+    tables
 }
 
 /// Small tables, accepted or refused.
@@ -180,8 +222,8 @@ pub fn small_accepted(random: &mut Random) -> Tables {
     build::accepted(random, size)
 }
 
-/// Small tables that are refused by the given number (of 1 to 10, 12 to 19), as
-/// far as some tries give it.
+/// Small tables that are refused by the given number, of those that tables alone can
+/// have, as far as some tries give it.
 pub fn small_refused(random: &mut Random, number: u64) -> Tables {
     let mut tables = Tables::default();
     for _ in 0..50 {
@@ -192,10 +234,13 @@ pub fn small_refused(random: &mut Random, number: u64) -> Tables {
             size.queries = 3;
             size.comparisons = 1;
         }
-        let sound = build::accepted(random, size);
+        let sound = match number {
+            25 => of_two_kinds(random, |random| small_size(random, 2)),
+            _ => build::accepted(random, size),
+        };
         tables = match way {
             0 => fault::several(random, &sound),
-            1..=3 if number >= 15 => fault::crossed(random, &sound),
+            1..=3 if is_of_typing(number) => fault::crossed(random, &sound),
             _ => fault::aimed(random, &sound, number),
         };
         if is_small(&tables) && outcome(&tables) == number {
@@ -224,9 +269,10 @@ pub fn small_limit(random: &mut Random, limit: &Limit) -> Tables {
 pub fn is_small(tables: &Tables) -> bool {
     let most = [6, 8, 3, 4, 7];
     let few = |table: usize| tables.count(table) <= most[table];
+    let kinds = tables.kinds.len() <= 65;
     let configurations = tables.features <= 3 || tables.features > 10;
     let attributes = tables.attributes <= 4 || tables.attributes > 64;
-    configurations && attributes && (0..5).all(few)
+    configurations && attributes && kinds && (0..5).all(few)
 }
 
 /// A size in the bounds of a small case, with room left for a fault.
@@ -257,17 +303,17 @@ fn size_of_one_attribute(random: &mut Random) -> Size {
     }
 }
 
-/// Any number of refusal that tables alone can have; those of many limits come
-/// more often.
+/// The numbers of refusal that tables alone can have, in the order of the checks.
+pub const NUMBERS: [u64; 20] = [
+    1, 2, 3, 4, 5, 6, 7, 8, 9, 10, 24, 12, 13, 14, 15, 16, 17, 18, 19, 25,
+];
+
+/// Any of them; those of many limits come more often.
 fn any_number(random: &mut Random) -> u64 {
     if random.chance(1, 2) {
         return LIMITS[random.below(LIMITS.len())].number;
     }
-    let number = random.between(1, 18) as u64;
-    match number {
-        11.. => number + 1,
-        _ => number,
-    }
+    random.pick(&NUMBERS)
 }
 
 /// Any size but the full one.

@@ -1,7 +1,7 @@
 //! Tables aimed at the limits of the wall page: which configurations have a
 //! line, how many lines there are, and how many columns stand on them.
 
-use super::feature_ranges;
+use super::{feature_ranges, kinds};
 use crate::expression::{self, Permitted};
 use crate::random::Random;
 use crate::tables::{Tables, CHOICE, EMPTY, EXACTLY_ONE, PROJECT, RELATION};
@@ -41,6 +41,8 @@ pub fn tables(random: &mut Random) -> Tables {
     let mut wall = Wall::new(random, features, attributes);
     wall.choose_model();
     wall.choose_report();
+    // Nothing is compared, so any kinds do.
+    wall.tables.kinds = kinds::sound(wall.random, attributes as usize);
     wall.tables
 }
 

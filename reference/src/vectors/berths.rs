@@ -65,7 +65,7 @@ fn h1() -> Tables {
 fn h1_with(change: impl Fn(&mut Tables)) -> Tables {
     let mut tables = h1();
     change(&mut tables);
-    tables
+    tables.of_moments()
 }
 
 /// H1 without the list of its project form, with other queries.
@@ -95,6 +95,7 @@ fn h4() -> Tables {
         relations,
         comparisons,
         queries,
+        kinds: source.kinds,
     }
 }
 
@@ -107,6 +108,7 @@ fn yard() -> Tables {
         expressions: vec![1, 0, 0, 2, 0, 0, 2, 1, 0, 3, 2, 0],
         ..Tables::default()
     }
+    .of_moments()
 }
 
 /// A relation that is present with feature 1 only, and a choice on feature 1.
@@ -203,7 +205,8 @@ fn largest_print() -> Tables {
         expressions: vec![1, 0, 0],
         entries: (0..64).flat_map(|attribute| [attribute, 0]).collect(),
         relations: vec![0, 64],
-        comparisons: vec![],
         queries: vec![1, 0, 0, 0],
+        ..Tables::default()
     }
+    .of_moments()
 }

@@ -7,6 +7,7 @@
 
 mod berths;
 mod exactly_one;
+mod kinds;
 mod page;
 mod repeats;
 mod reports;
@@ -39,12 +40,14 @@ impl Vector {
 }
 
 /// All cases, their names numbered: worked examples, repeats, pages, exactly one of
-/// a range, texts that are read or unread, generated reports, and the given examples.
+/// a range, kinds, texts that are read or unread, generated reports, and the given
+/// examples.
 pub fn all(examples: &[Vector]) -> Vec<Vector> {
     let mut cases = berths::cases();
     cases.extend(repeats::cases());
     cases.extend(page::cases());
     cases.extend(exactly_one::cases());
+    cases.extend(kinds::cases());
     cases.extend(texts::cases());
     cases.extend(reports::cases());
     cases.extend(examples.iter().cloned());

@@ -33,6 +33,7 @@ fn yard(entries: &[[u16; 2]]) -> Tables {
         queries: vec![1, 0, 0, 0],
         ..Tables::default()
     }
+    .of_moments()
 }
 
 /// A project over the yard's relation.

@@ -4,16 +4,15 @@
 use super::{Vector, SEED};
 use crate::expression;
 use crate::file::{print_file, print_tables, write_file};
-use crate::generate::{self, Family, Kept, LIMITS};
+use crate::generate::{self, text_of, Family, Kept, LIMITS, NUMBERS};
 use crate::random::Random;
-use crate::tables::{self, Tables, CHOICE, COMPARISON_CHOICE, SELECT};
+use crate::refusal::is_of_typing;
+use crate::tables::{self, Tables, CHOICE, COMPARISON_CHOICE, SELECT, WITH_CONSTANT};
 use crate::typing;
 
 /// The numbers of the refusals that a file can give. The program lends rows of
 /// the right length, and configures nothing.
-pub const REFUSALS: [u64; 18] = [
-    1, 2, 3, 4, 5, 6, 7, 8, 9, 10, 12, 13, 14, 15, 16, 17, 18, 19,
-];
+pub const REFUSALS: [u64; 20] = NUMBERS;
 
 /// The most bytes of a file and of its print, where little is enough, and for
 /// a few large cases.
@@ -55,10 +54,12 @@ pub fn cases() -> Vec<Vector> {
     let over = over.filter(|t| generate::most_often(t) > 400);
     let size = [MUCH[0], LITTLE[1]];
     cases.extend(named("one-attribute-over-and-over", SEVERAL, size, over));
+    let compared = (SEED..SEED + SEEDS).map(generate::compared);
+    cases.extend(named("columns-of-two-kinds", SEVERAL, LITTLE, compared));
     let full = || (SEED..SEED + SEEDS).map(|seed| generate::of_family(Family::Full, seed));
     let accepted = full().filter(|t| generate::outcome(t) == 0);
     cases.extend(named("full-size-accepted", FULL, MUCH, accepted));
-    let refused = full().filter(|t| generate::outcome(t) > 14);
+    let refused = full().filter(|t| is_of_typing(generate::outcome(t)));
     cases.extend(named("full-size-refused", FULL, MUCH, refused));
     cases
 }
@@ -70,7 +71,8 @@ fn named(
     [file, print]: [usize; 2],
     tables: impl Iterator<Item = Tables>,
 ) -> Vec<Vector> {
-    let texts = tables.map(|tables| write_file(&tables));
+    let texts = (SEED..).zip(tables);
+    let texts = texts.map(|(seed, tables)| text_of(seed, &tables));
     let texts = texts.filter(|text| text.len() <= file && print_file(text).len() <= print);
     let texts = texts.take(count).enumerate();
     texts
@@ -83,14 +85,14 @@ fn named(
 fn limits() -> Vec<Vector> {
     let mut random = Random::new(SEED);
     let mut cases = Vec::new();
-    for limit in LIMITS {
+    for (seed, limit) in (SEED..).zip(LIMITS) {
         let tables = generate::small_limit(&mut random, limit);
         let words = slug(limit.words);
         let name = match refused_in_file(&tables) {
             Some(number) => format!("refused-{number}-{words}"),
             None => format!("no-file-for-{}-{words}", limit.number),
         };
-        cases.push(Vector::new(&name, write_file(&tables)));
+        cases.push(Vector::new(&name, text_of(seed, &tables)));
     }
     cases
 }
@@ -167,6 +169,19 @@ const PROPERTIES: &[Property] = &[
     ("with-a-column-for-two-reasons", LITTLE, |t| {
         not_by_one_entry(t, Kept::First) && not_by_one_entry(t, Kept::Last)
     }),
+    ("with-kinds-compared", LITTLE, |t| {
+        let compared = |form: &[u16]| form[0] == WITH_CONSTANT && form[4] > 0;
+        forms(t, 3).any(compared) && kinds(t, SELECT) > 1
+    }),
+    (
+        "with-kinds-that-differ-where-nothing-reaches",
+        LITTLE,
+        |t| {
+            let clashes =
+                |form: &[u16]| form[0] == WITH_CONSTANT && t.kinds[usize::from(form[2])] != form[4];
+            forms(t, 3).any(clashes) && kinds(t, SELECT) > 1
+        },
+    ),
     ("with-some-configurations-not-permitted", LITTLE, |t| {
         let permitted = expression::permitted(t).len() as u64;
         permitted > 2 && permitted < t.configurations() && varies(t)

@@ -508,6 +508,7 @@ fn longest(head: &str) -> String {
         let word = &line[..line.find(' ').unwrap_or(0)];
         text += &format!("{word}{})\n", " 65535".repeat(numbers)).repeat(most);
     }
+    text += &"(kind 65535)\n".repeat(64);
     text
 }
 

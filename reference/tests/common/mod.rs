@@ -1,6 +1,7 @@
 //! Steps that several tests share.
 #![allow(dead_code)]
 
+pub mod kind_readings;
 pub mod readings;
 
 use reference::check::ROWS;
@@ -75,6 +76,7 @@ pub fn written(tables: &Tables, (counts, out): ([usize; 4], [Vec<u16>; 4])) -> T
         relations: words(2),
         comparisons: words(3),
         queries: words(4),
+        kinds: tables.kinds.clone(),
     }
 }
 

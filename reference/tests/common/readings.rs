@@ -155,6 +155,7 @@ fn spelled_out(tables: &Tables, reading: &Reading) -> Option<(Tables, u16)> {
             form[0] == COMPARISON_CHOICE
         }),
         queries: added(&tables.queries, 4, 1, before, |form| form[0] == CHOICE),
+        kinds: tables.kinds.clone(),
         ..*tables
     };
     (tables.count(0) <= RANGES[0].1).then_some((tables, before))

@@ -7,7 +7,7 @@ use Rattle.configuring.proofs.configure.Tie as tie
 
 -- places of the code that the needs look back to
 abbrev start : tie.After-typed → tie.Start
-start y = y .before .before .before .before .before .before .before .before .before .before .before .before .before
+start y = y .before .before .before .before .before .before .before .before .before .before .before .before .before .before
 
 abbrev typed : tie.After-enum-told → tie.After-typed
 typed t = t .before .before .before .before .before
@@ -25,7 +25,7 @@ abbrev tables : tie.After-typed → Tables
 tables y =
     let a = start y .args in
     tablesOf (a .features) (a .attributes) (a .model) (a .expressions .now) (a .entries .now) (a .relations .now) (a .comparisons .now)
-    (a .queries .now)
+    (a .queries .now) (a .kinds .now)
 
 returns : tie.Need-returns
 returns c =

@@ -7,20 +7,20 @@ use Rattle.fault_rows.proofs.fill_faults.Statement.{statement}
 use Rattle.fault_rows.proofs.fill_faults.Tie as tie
 
 abbrev Inv-loop : tie.InvT-loop
-Inv-loop relationEntries projectEntries relations comparisons queries conditions full permits items reach faults₀ columns₀ named₀ relationRows₀ sets₀
-    a₀ faults columns named relationRows sets a =
+Inv-loop relationEntries projectEntries relations comparisons queries kinds conditions full permits items reach faults₀ columns₀ named₀ relationRows₀
+    sets₀ a₀ faults columns named relationRows sets a =
     Arrays named relationRows sets
-    × Failing conditions (full .words) (permits .words) reach relationEntries projectEntries relations comparisons queries items faults₀ columns₀
-    faults columns a
+    × Failing conditions (full .words) (permits .words) reach relationEntries projectEntries relations comparisons queries kinds items faults₀
+    columns₀ faults columns a
 
 abbrev μ-loop : tie.MeasureT-loop
-μ-loop relationEntries projectEntries relations comparisons queries conditions full permits items reach faults₀ columns₀ named₀ relationRows₀ sets₀
-    a₀ faults columns named relationRows sets a =
+μ-loop relationEntries projectEntries relations comparisons queries kinds conditions full permits items reach faults₀ columns₀ named₀ relationRows₀
+    sets₀ a₀ faults columns named relationRows sets a =
     items - a
 
 -- places of the code that the needs look back to
 abbrev start : tie.After-slice-known2 Inv-loop μ-loop → tie.Start Inv-loop μ-loop
-start p = p .before .before .before .before .before .before .before .before .before
+start p = p .before .before .before .before .before .before .before .before .before .before
 
 abbrev turn : tie.After-fill-relation-rows Inv-loop μ-loop → tie.In-loop Inv-loop μ-loop
 turn p = p .before .before .before .before .before
@@ -31,8 +31,8 @@ fill-relation-rows p = p .before .before .before .before .before
 abbrev type-forms : tie.After-store-column-arg Inv-loop μ-loop → tie.After-type-forms Inv-loop μ-loop
 type-forms p = p .before .before .before .before .before
 
-fill-named-rows-requires : tie.Need-fill-named-rows-requires Inv-loop μ-loop
-fill-named-rows-requires c κs =
+fill-gathered-rows-requires : tie.Need-fill-gathered-rows-requires Inv-loop μ-loop
+fill-gathered-rows-requires c κs =
     let l = c .before .before in
     arrays-named (start (l .before) .pre .reads) (l .loop .inv .0)
 
@@ -46,7 +46,7 @@ type-forms-requires c κs =
     let r = fill-relation-rows c in
     let n = r .before .before .before in
     let l = turn r .before in
-    failing-forms (start (l .before) .pre) (l .loop .inv .1) (l .loop .inv .0) (n .fill-named-rows .ensures) (r .fill-relation-rows .ensures)
+    failing-forms (start (l .before) .pre) (l .loop .inv .1) (l .loop .inv .0) (n .fill-gathered-rows .ensures) (r .fill-relation-rows .ensures)
 
 store-column-requires : tie.Need-store-column-requires Inv-loop μ-loop
 store-column-requires c κs =
@@ -55,7 +55,7 @@ store-column-requires c κs =
     let n = r .before .before .before in
     let i = turn r in
     let l = i .before in
-    failing-column (start (l .before) .pre) (l .loop .inv .1) (l .loop .inv .0) (n .fill-named-rows .ensures) (r .fill-relation-rows .ensures)
+    failing-column (start (l .before) .pre) (l .loop .inv .1) (l .loop .inv .0) (n .fill-gathered-rows .ensures) (r .fill-relation-rows .ensures)
     (t .type-forms .ensures) (i .loop-test .taken)
 
 add-a : tie.Need-add-a Inv-loop μ-loop
@@ -73,9 +73,9 @@ loop-again c =
     let n = r .before .before .before in
     let i = turn r in
     let l = i .before in (
-      arrays-kept (l .loop .inv .0) (n .fill-named-rows .kept .1 .1 .1 .1 .0) (r .fill-relation-rows .kept .1 .1 .1 .1 .0)
+      arrays-kept (l .loop .inv .0) (n .fill-gathered-rows .kept .1 .1 .1 .1 .1 .1 .0) (r .fill-relation-rows .kept .1 .1 .1 .1 .0)
           (t .type-forms .kept .1 .1 .1 .1 .1 .1 .1 .1 .0),
-      failing-more (start (l .before) .pre) (l .loop .inv .1) (l .loop .inv .0) (n .fill-named-rows .ensures) (r .fill-relation-rows .ensures)
+      failing-more (start (l .before) .pre) (l .loop .inv .1) (l .loop .inv .0) (n .fill-gathered-rows .ensures) (r .fill-relation-rows .ensures)
           (t .type-forms .ensures) (i .loop-test .taken)
           (t .type-forms .kept .1 .1 .1 .1 .1 .1 .1 .1 .1 .0)
           (s .store-column .kept .1 .1 .1 .1 .0) (s .store-column .ensures),
@@ -94,7 +94,7 @@ fill-faults-spec =
     μ-loop
     (λ c. (arrays-clear, failing-none (start c .pre)))
     (λ c. search needs)
-    fill-named-rows-requires
+    fill-gathered-rows-requires
     (λ c. search needs)
     fill-relation-rows-requires
     (λ c. search needs)

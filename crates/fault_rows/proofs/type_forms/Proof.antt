@@ -95,7 +95,7 @@ loop-again c =
     let x = n .before in
     let i = x .before in
     typing-more (i .before .loop .inv) (i .loop-test .taken) (x .query-at .ensures) (n .project-length .ensures) (l .list-row .ensures)
-    (start i .pre) (r .load .ensures) (join .before .before .fault-row .ensures) (join .join-fault .kept .1 .1 .0) (join .join-fault .ensures)
+    (r .load .ensures) (join .before .before .fault-row .ensures) (join .join-fault .kept .1 .1 .0) (join .join-fault .ensures)
     (store .before .before .set-row .ensures) (store .store .kept .1 .0) (store .store .ensures)
 
 pub type-forms-spec : {M : Type 1} → statement M

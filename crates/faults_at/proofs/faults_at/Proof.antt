@@ -2,17 +2,17 @@ use Prim.Native.Nat.{ℕ}
 use native.Mathlib.Omega.{arith}
 use borrow.Author.Needs.{needs}
 use lib.ListN.{replicate, length-replicate}
-use Rattle.faults_at.proofs.FaultLaws.{reads-relations, readable-comparisons, readable-relations, readable-queries, form-in}
-use Rattle.faults_at.proofs.FaultLaws.{reads-form, faults-are}
+use Rattle.faults_at.proofs.FaultLaws.{readable-comparisons, form-in, faults-are, reads-clashes}
+use Rattle.faults_at.proofs.FaultLaws.{reads-relations, readable-relations, readable-queries, reads-form}
 use Rattle.faults_at.proofs.faults_at.Statement.{statement}
 use Rattle.faults_at.proofs.faults_at.Tie as tie
 
 -- ---- places: back from where each part is worked out to the one before
 
 abbrev start : tie.After-named → tie.Start
-start p = p .before .before .before .before .before .before .before
+start p = p .before .before .before .before .before .before .before .before
 
-abbrev named : tie.After-relation-sets → tie.After-fill-named
+abbrev named : tie.After-relation-sets → tie.After-fill-gathered
 named p = p .before .before
 
 abbrev related : tie.After-sets → tie.After-fill-relation-sets
@@ -21,8 +21,8 @@ related p = p .before .before .before
 abbrev formed : tie.After-sets3 → tie.After-query-at
 formed p = p .before .before
 
-fill-named-requires : tie.Need-fill-named-requires
-fill-named-requires c κs = readable-comparisons (start c .pre .reads) (omega (arith, length-replicate {A = ℕ} 256 0))
+fill-gathered-requires : tie.Need-fill-gathered-requires
+fill-gathered-requires c κs = readable-comparisons (reads-clashes (start c .pre .reads)) (omega (arith, length-replicate {A = ℕ} 256 0))
 
 fill-relation-sets-requires : tie.Need-fill-relation-sets-requires
 fill-relation-sets-requires c κs =
@@ -38,7 +38,7 @@ fill-sets-requires c κs =
 query-at-requires : tie.Need-query-at-requires
 query-at-requires c κs =
     let r = related (c .before .before) in
-    form-in (start (named (r .before) .before) .pre .reads)
+    form-in (reads-clashes (start (named (r .before) .before) .pre .reads))
 
 faults-of-requires : tie.Need-faults-of-requires
 faults-of-requires c κs =
@@ -51,7 +51,7 @@ faults-of-requires c κs =
       tables = p .tables;
       number = _;
       reads =
-          reads-form (p .reads) (x .query-at .ensures) (replicate 256 0) (replicate 32 0) (n .fill-named .ensures)
+          reads-form (p .reads) (x .query-at .ensures) (replicate 256 0) (replicate 32 0) (n .fill-gathered .ensures)
           (r .fill-relation-sets .ensures) (s .fill-sets .ensures);
     }
 
@@ -62,16 +62,16 @@ returns c = λ T R.
     let r = related (s .before) in
     let n = named (r .before) in
     let e = x .query-at .ensures in
-    faults-are R e
+    faults-are (reads-clashes R) e 0
     (c .faults-of .ensures T _
-    (reads-form R e (replicate 256 0) (replicate 32 0) (n .fill-named .ensures) (r .fill-relation-sets .ensures) (s .fill-sets .ensures)))
+    (reads-form R e (replicate 256 0) (replicate 32 0) (n .fill-gathered .ensures) (r .fill-relation-sets .ensures) (s .fill-sets .ensures)))
 
 pub faults-at-spec : {M : Type 1} → statement M
 faults-at-spec =
     tie.close
     (tie.spec
     (λ c. search needs)
-    fill-named-requires
+    fill-gathered-requires
     (λ c. search needs)
     fill-relation-sets-requires
     (λ c. search needs)

@@ -15,7 +15,7 @@ abbrev set : tie.After-typed → tie.After-of-bits
 set y = y .before .before .before .before
 
 abbrev start : tie.After-typed → tie.Start
-start y = set y .before .before .before .before .before .before
+start y = set y .before .before .before .before .before .before .before
 
 abbrev has-from : tie.After-or-else → tie.After-has-from
 has-from j = j .before .before
@@ -33,7 +33,7 @@ abbrev tables : tie.After-typed → Tables
 tables y =
     let a = start y .args in
     tablesOf (a .features) (a .attributes) (a .model) (a .expressions .now) (a .entries .now) (a .relations .now) (a .comparisons .now)
-    (a .queries .now)
+    (a .queries .now) (a .kinds .now)
 
 -- where no check refuses, those of the report do not
 passed : (t : tie.After-enum-told) → typed (joined t) .typed .result ≡ Verdict.Accepted

@@ -1,41 +1,19 @@
 use borrow.Author.Needs.{needs}
-use mathlib.Core.Path.{sym, _∙_}
-use Rattle.report.specs.Tables.{tablesOf}
-use Rattle.report.specs.FormChecks.{formCheck}
-use Rattle.forms.proofs.Chain.{stops, goes-on, lists-ready}
+use Rattle.report.specs.FormChecks.{tablesCheck, formCheck}
+use Rattle.forms.proofs.Chain.{stops, goes-on}
 use Rattle.forms.proofs.check_forms.Statement.{statement}
 use Rattle.forms.proofs.check_forms.Tie as tie
 
--- places of the code that the needs look back to
-abbrev start : tie.After-enum-told2 → tie.Start
-start p = p .before .before .before .before .before .before .before .before
-
+-- the kind table is not read by checks 1 to 10
 returns : tie.Need-returns
-unfolding formCheck
-returns c = stops _ (c .before .before .check-head .ensures) (c .enum-told .given .1)
+unfolding tablesCheck formCheck
+returns c = stops _ (c .before .before .check-tables .ensures) (c .enum-told .given .1)
 
 returns-2 : tie.Need-returns-2
-unfolding formCheck
+unfolding tablesCheck formCheck
 returns-2 c =
-    let d = c .before .before .before in
-    goes-on (d .before .before .check-head .ensures) (d .enum-told2 .given .1)
-    (stops _ (c .before .before .check-lengths .ensures) (c .enum-told3 .given .1))
-
-check-contents-requires : tie.Need-check-contents-requires
-check-contents-requires c κs =
-    let d = c .before .before .before in
-    let a = start d .args in
-    lists-ready (tablesOf (a .n) (a .m) (a .model) (a .expressions .now) (a .entries .now) (a .relations .now) (a .comparisons .now)
-    (a .queries .now))
-    (sym (c .before .before .check-lengths .ensures) ∙ c .enum-told4 .given .1)
-
-returns-3 : tie.Need-returns-3
-unfolding formCheck
-returns-3 c =
-    let w = c .before in
-    let d = w .before .before .before in
-    goes-on (d .before .before .check-head .ensures) (d .enum-told2 .given .1)
-    (goes-on (w .before .before .check-lengths .ensures) (w .enum-told4 .given .1) (c .check-contents .ensures))
+    let t = c .before in
+    goes-on (t .before .before .check-tables .ensures) (t .enum-told2 .given .1) (c .check-kinds .ensures)
 
 pub check-forms-spec : {M : Type 1} → statement M
 check-forms-spec =
@@ -46,8 +24,4 @@ check-forms-spec =
     returns
     (λ c. search needs)
     (λ c κs. search needs)
-    (λ c. search needs)
-    returns-2
-    (λ c. search needs)
-    check-contents-requires
-    returns-3)
+    returns-2)

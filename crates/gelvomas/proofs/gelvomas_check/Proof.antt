@@ -6,7 +6,7 @@ use Rattle.gelvomas.proofs.gelvomas_check.Tie as tie
 
 -- places of the code that the needs look back to
 abbrev start : tie.After-check → tie.Start
-start p = p .before .before .before .before .before .before .before .before
+start p = p .before .before .before .before .before .before .before .before .before
 
 abbrev check : tie.After-slice-known2 → tie.After-check
 check p = p .before .before

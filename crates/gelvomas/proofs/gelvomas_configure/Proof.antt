@@ -7,13 +7,13 @@ use Rattle.gelvomas.proofs.gelvomas_configure.Tie as tie
 
 -- from where the report is configured, back to the start
 abbrev start : tie.After-configure → tie.Start
-start k = k .before .before .before .before .before .before .before .before .before .before .before .before .before .before
+start k = k .before .before .before .before .before .before .before .before .before .before .before .before .before .before .before
 
 abbrev tables : tie.After-configure → Tables
 tables k =
     let a = start k .args in
     tablesOf (a .features) (a .attributes) (a .model) (a .expressions .now) (a .entries .now) (a .relations .now) (a .comparisons .now)
-    (a .queries .now)
+    (a .queries .now) (a .kinds .now)
 
 returns : tie.Need-returns
 returns c =

@@ -8,13 +8,13 @@ use Rattle.gelvomas.proofs.gelvomas_page.Tie as tie
 
 -- from where the page is written, back to the start
 abbrev start : tie.After-write-page → tie.Start
-start k = k .before .before .before .before .before .before .before .before
+start k = k .before .before .before .before .before .before .before .before .before
 
 abbrev tables : tie.After-write-page → Tables
 tables k =
     let a = start k .args in
     tablesOf (a .features) (a .attributes) (a .model) (a .expressions .now) (a .entries .now) (a .relations .now) (a .comparisons .now)
-    (a .queries .now)
+    (a .queries .now) (a .kinds .now)
 
 returns : tie.Need-returns
 returns c =

@@ -9,7 +9,7 @@ use Rattle.judging.proofs.judge.Tie as tie
 
 -- places of the code that the needs look back to
 abbrev first : tie.After-slice-known2 → tie.Start
-first p = p .before .before .before .before .before .before .before .before
+first p = p .before .before .before .before .before .before .before .before .before
 
 abbrev start : tie.After-load → tie.Start
 start l = first (l .before)

@@ -15,7 +15,7 @@ use Rattle.judging.proofs.judge_tables.Tie as tie
 
 -- places of the code that the needs look back to
 abbrev first : tie.After-fill-rows-arg → tie.Start
-first p = p .before .before .before .before .before .before .before .before .before
+first p = p .before .before .before .before .before .before .before .before .before .before
 
 abbrev start : tie.After-fill-rows → tie.Start
 start f = first (f .before)
@@ -32,7 +32,7 @@ fill-rows e = e .before .before .before
 abbrev tables : tie.Start → Tables
 tables s =
     let a = s .args in
-    tablesOf (a .n) (a .m) (a .model) (a .expressions .now) (a .entries .now) (a .relations .now) (a .comparisons .now) (a .queries .now)
+    tablesOf (a .n) (a .m) (a .model) (a .expressions .now) (a .entries .now) (a .relations .now) (a .comparisons .now) (a .queries .now) (a .kinds .now)
 
 fill-rows-requires : tie.Need-fill-rows-requires
 fill-rows-requires c κs =

@@ -7,7 +7,7 @@ use Rattle.judging.proofs.typed.Tie as tie
 
 -- places of the code that the needs look back to
 abbrev start : tie.After-check-forms → tie.Start
-start p = p .before .before .before .before .before .before .before .before .before
+start p = p .before .before .before .before .before .before .before .before .before .before
 
 abbrev told : tie.After-judge-tables-arg3 → tie.After-enum-told2
 told p = p .before .before .before

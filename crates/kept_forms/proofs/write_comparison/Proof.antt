@@ -20,7 +20,7 @@ put-atom-requires c κs =
     let start = k .before .before .before .before in
     let A = start .pre in
     let l = rw (k .x .given .1) at (A .small) in
-    record { operator = l .0; first = l .1; second = l .2; room = rw (k .x .given .1) at (A .room) }
+    record { operator = l .0; first = l .1; second = l .2; third = l .3; room = rw (k .x .given .1) at (A .room) }
 
 put-atom-requires-2 : tie.Need-put-atom-requires-2
 put-atom-requires-2 c κs =
@@ -28,7 +28,7 @@ put-atom-requires-2 c κs =
     let start = k .before .before .before .before in
     let A = start .pre in
     let l = rw (k .x2 .given .1) at (A .small) in
-    record { operator = l .0; first = l .1; second = l .2; room = rw (k .x2 .given .1) at (A .room) }
+    record { operator = l .0; first = l .1; second = l .2; third = omega arith; room = rw (k .x2 .given .1) at (A .room) }
 
 mul-put-comparison : tie.Need-mul-put-comparison
 mul-put-comparison c =

@@ -19,14 +19,14 @@ use Rattle.report_file.proofs.print_file.Tie as tie
 
 -- from where the file has been read, back to the start
 abbrev start : tie.After-read-file → tie.Start
-start f = f .before .before .before .before .before .before .before .before
+start f = f .before .before .before .before .before .before .before .before .before
 
 -- places of the code that the needs look back to
-abbrev read-file : tie.After-queries2 → tie.After-read-file
-read-file p = p .before .before .before .before .before .before
+abbrev read-file : tie.After-kinds2 → tie.After-read-file
+read-file p = p .before .before .before .before .before .before .before
 
-abbrev file2 : tie.After-queries3 → tie.After-file2
-file2 p = p .before .before .before .before .before .before .before
+abbrev file2 : tie.After-kinds3 → tie.After-file2
+file2 p = p .before .before .before .before .before .before .before .before
 
 -- a line number is a number of 64 bits
 short : (p : tie.After-put-unread-arg) → length (unreadLine (p .before .before .file .given .0 .0)) ≤ 201653
@@ -36,7 +36,7 @@ returns : tie.Need-returns
 returns c =
     let k = c .before .before .before in
     let f = read-file (k .before .before) in
-    unread-printed (start f .args .layout) (now (start f .args .text)) refl (bad-told _ _ _ _ _ _ _ (f .read-file .ensures) (k .file .given .1))
+    unread-printed (start f .args .layout) (now (start f .args .text)) refl (bad-told _ _ _ _ _ _ _ _ (f .read-file .ensures) (k .file .given .1))
     (prints (short (c .before)) (omega arith) (c .put-unread .ensures))
 
 -- the tables that were read
@@ -45,9 +45,9 @@ told : (k : tie.After-file2)
     let l = f .read-file .last .1 in
     let n = k .file2 .given .0 in
     (T : Tables) × (readFile (now (start f .args .text)) ≡ File.holds T)
-    × Held T (Outcome.Read (n .0) (n .1 .0) (n .1 .1 .0) (n .1 .1 .1 .0) (n .1 .1 .1 .1 .0))
-    (l .0) (l .1 .0) (l .1 .1 .0) (l .1 .1 .1 .0) (l .1 .1 .1 .1 .0) (l .1 .1 .1 .1 .1 .0)
-told k = read-told _ _ _ _ _ _ _ (read-file (k .before .before) .read-file .ensures) (k .file2 .given .1)
+    × Held T (Outcome.Read (n .0) (n .1 .0) (n .1 .1 .0) (n .1 .1 .1 .0) (n .1 .1 .1 .1 .0) (n .1 .1 .1 .1 .1 .0))
+    (l .0) (l .1 .0) (l .1 .1 .0) (l .1 .1 .1 .0) (l .1 .1 .1 .1 .0) (l .1 .1 .1 .1 .1 .0) (l .1 .1 .1 .1 .1 .1 .0)
+told k = read-told _ _ _ _ _ _ _ _ (read-file (k .before .before) .read-file .ensures) (k .file2 .given .1)
 
 print-read-requires : tie.Need-print-read-requires
 print-read-requires c κs =
@@ -72,9 +72,11 @@ print-file-spec =
     (λ c. search needs)
     (λ c. search needs)
     (λ c. search needs)
+    (λ c. search needs)
     (λ c κs. search needs)
     (λ c. search needs)
     (λ c κs. record { fits = omega (arith, short c) })
+    (λ c. search needs)
     (λ c. search needs)
     (λ c. search needs)
     (λ c. search needs)

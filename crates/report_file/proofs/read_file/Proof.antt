@@ -8,14 +8,14 @@ use Rattle.report_file.proofs.read_file.Statement.{statement}
 use Rattle.report_file.proofs.read_file.Tie as tie
 
 -- places of the code that the needs look back to
-abbrev start : tie.After-slice-known6 → tie.Start
-start p = p .before .before .before .before .before .before .before
+abbrev start : tie.After-slice-known7 → tie.Start
+start p = p .before .before .before .before .before .before .before .before
 
 abbrev else1 : tie.After-read-groups → tie.Else1
-else1 p = p .before .before .before .before .before .before .before
+else1 p = p .before .before .before .before .before .before .before .before
 
-abbrev read-groups : tie.After-slice-known12 → tie.After-read-groups
-read-groups p = p .before .before .before .before .before .before .before .before .before .before .before .before
+abbrev read-groups : tie.After-slice-known14 → tie.After-read-groups
+read-groups p = p .before .before .before .before .before .before .before .before .before .before .before .before .before .before
 
 returns : tie.Need-returns
 unfolding Filed
@@ -36,6 +36,7 @@ read-file-spec =
     (tie.spec
     returns
     (λ c κs. search needs)
+    (λ c. search needs)
     (λ c. search needs)
     (λ c. search needs)
     (λ c. search needs)

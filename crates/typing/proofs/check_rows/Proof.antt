@@ -4,8 +4,8 @@ use Rattle.typing.proofs.check_rows.Statement.{statement}
 use Rattle.typing.proofs.check_rows.Tie as tie
 
 -- places of the code that the needs look back to
-abbrev start : tie.After-shared-slice-known7 → tie.Start
-start p = p .before .before .before .before .before .before .before
+abbrev start : tie.After-shared-slice-known8 → tie.Start
+start p = p .before .before .before .before .before .before .before .before
 
 abbrev lowest : tie.After-refusal-at → tie.After-lowest
 lowest p = p .before .before .before .before

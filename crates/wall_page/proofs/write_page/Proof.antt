@@ -15,7 +15,7 @@ use Rattle.wall_page.proofs.write_page.Tie as tie
 
 -- places of the code that the needs look back to
 abbrev start : tie.After-typed → tie.Start
-start y = y .before .before .before .before .before .before .before .before .before .before
+start y = y .before .before .before .before .before .before .before .before .before .before .before
 
 abbrev refused : tie.After-checked → tie.After-typed
 refused p = p .before .before .before .before .before
@@ -30,7 +30,7 @@ abbrev tables : tie.After-typed → Tables
 tables y =
     let a = start y .args in
     tablesOf (a .features) (a .attributes) (a .model) (a .expressions .now) (a .entries .now) (a .relations .now) (a .comparisons .now)
-    (a .queries .now)
+    (a .queries .now) (a .kinds .now)
 
 returns : tie.Need-returns
 returns c =
@@ -39,7 +39,7 @@ returns c =
 
 -- the rows of tables that pass
 rows : (t : tie.After-enum-told)
-    → let l = typed t .typed .last .1 .1 .1 .1 .1 .1 .1 .1 in Rows (tables (typed t)) (l .0) (l .1 .0) (l .1 .1 .0)
+    → let l = typed t .typed .last .1 .1 .1 .1 .1 .1 .1 .1 .1 in Rows (tables (typed t)) (l .0) (l .1 .0) (l .1 .1 .0)
 rows t = own-rows (typed t .typed .ensures) (t .enum-told .given .1)
 
 load-requires : tie.Need-load-requires

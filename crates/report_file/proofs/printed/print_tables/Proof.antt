@@ -13,7 +13,7 @@ use Rattle.report_file.proofs.printed.print_tables.Tie as tie
 
 -- places of the code that the needs look back to
 abbrev start : tie.After-typed → tie.Start
-start y = y .before .before .before .before .before .before .before .before .before .before
+start y = y .before .before .before .before .before .before .before .before .before .before .before
 
 abbrev typed : tie.After-enum-told → tie.After-typed
 typed t = t .before .before .before .before .before
@@ -28,7 +28,7 @@ abbrev tables : tie.After-typed → Tables
 tables y =
     let a = start y .args in
     tablesOf (a .features) (a .attributes) (a .model) (a .expressions .now) (a .entries .now) (a .relations .now) (a .comparisons .now)
-    (a .queries .now)
+    (a .queries .now) (a .kinds .now)
 
 -- the fields of a refusal are numbers of 64 bits
 short : (p : tie.After-put-refused-arg) → length (refusalLine (p .before .before .v .given .0 .0)) ≤ 201653
