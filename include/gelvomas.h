@@ -22,8 +22,8 @@ extern "C" {
 
 #define GELVOMAS_VERSION_MAJOR 2
 #define GELVOMAS_VERSION_MINOR 0
-#define GELVOMAS_VERSION_PATCH 0
-#define GELVOMAS_VERSION "2.0.0"
+#define GELVOMAS_VERSION_PATCH 1
+#define GELVOMAS_VERSION "2.0.1"
 
 /* The most there may be of each. There is at least one expression and one query;
    of the others there may be none. */

@@ -32,6 +32,8 @@ pub fn case(seed: u64, number: u64) -> (&'static str, Tables) {
         (Family::Repeats, ["repeats", "repeats, damaged"]),
         (Family::Wall, ["wall", "wall, damaged"]),
         (Family::Compared, ["compared", "compared, damaged"]),
+        (Family::Few, ["few", "few, damaged"]),
+        (Family::Few, ["few", "few, damaged"]),
     ]);
     let mut tables = generate::of_family(family, seed);
     let damaged = random.chance(1, 5);
@@ -41,13 +43,15 @@ pub fn case(seed: u64, number: u64) -> (&'static str, Tables) {
     (names[usize::from(damaged)], tables)
 }
 
-/// In seven of ten cases tables that are accepted; else a case of any of the
+/// In six of ten cases tables that are accepted, and in one of ten tables with few
+/// permitted configurations or many, accepted or not; else a case of any of the
 /// generator's families, one in five with raw damage.
 pub fn mostly_accepted(random: &mut Random, seed: u64, number: u64) -> (&'static str, Tables) {
-    if random.chance(7, 10) {
-        return ("accepted", generate::accepted(random.word()));
+    match random.below(10) {
+        0..=5 => ("accepted", generate::accepted(random.word())),
+        6 => ("few", generate::few(random.word())),
+        _ => case(seed, number),
     }
-    case(seed, number)
 }
 
 /// Says the difference, and writes it to the file.

@@ -2,7 +2,11 @@
 
 pub mod cases;
 mod damage;
+pub mod measure;
 pub mod parallel;
+pub mod plot;
+pub mod reports;
+pub mod walk;
 
 use reference::{Refusal, Tables};
 

@@ -196,10 +196,10 @@ fn every_stored_case_has_its_answer() {
     }
     // How many there are of each. After a case more or fewer, it is to be changed.
     let wanted = [
-        ("check", 307),
-        ("configure", 47),
-        ("find", 66),
-        ("page", 105),
+        ("check", 454),
+        ("configure", 52),
+        ("find", 70),
+        ("page", 108),
         ("text", 42),
     ];
     assert_eq!(

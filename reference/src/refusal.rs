@@ -27,9 +27,12 @@ impl Refusal {
     }
 }
 
-/// Is it a typing fault? Those are 15 to 19 and 25.
+/// The numbers of the typing faults.
+pub const TYPING: [u64; 6] = [15, 16, 17, 18, 19, 25];
+
+/// Is it a typing fault?
 pub fn is_of_typing(number: u64) -> bool {
-    matches!(number, 15..=19 | 25)
+    TYPING.contains(&number)
 }
 
 /// Is it checked before the rows lent, 11? Those are 1 to 10 and 24.

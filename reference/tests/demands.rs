@@ -16,7 +16,13 @@ fn cases() -> impl Iterator<Item = Tables> {
     let small = (0..3000).map(generate::small);
     let several = (0..800).map(|seed| generate::of_family(Family::Several, seed));
     let compared = (0..800).map(generate::compared);
-    varied.chain(small).chain(several).chain(compared)
+    let few = (0..600).map(generate::few);
+    let few = few.filter(|tables| tables.count(4) << tables.features < 20_000);
+    varied
+        .chain(small)
+        .chain(several)
+        .chain(compared)
+        .chain(few)
 }
 
 fn attributes(set: u64) -> Attributes {
@@ -91,7 +97,8 @@ fn the_first_fault_comes_first() {
     let small = (0..4000).map(generate::small);
     let several = (0..1500).map(|seed| generate::of_family(Family::Several, seed));
     let compared = (0..1500).map(generate::compared);
-    for tables in small.chain(several).chain(compared) {
+    let few = (0..1500).map(generate::few);
+    for tables in small.chain(several).chain(compared).chain(few) {
         let size = tables.count(4) << tables.features.min(10);
         match checked(&tables) {
             Err(refusal) if is_of_typing(refusal.number) && size < 4000 => {

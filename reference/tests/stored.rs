@@ -1,15 +1,17 @@
 //! What is stored elsewhere in the repository as the reference's output is its
 //! output.
 
-use std::collections::BTreeSet;
+use std::collections::{BTreeMap, BTreeSet};
 use std::fs;
 use std::path::{Path, PathBuf};
 use std::sync::OnceLock;
 
-use reference::file::{page_file, print_file};
-use reference::generate::DIGITS;
+use reference::file::{self, page_file, print_file};
+use reference::generate::{self, DIGITS};
+use reference::refusal::TYPING;
 use reference::small::H1;
 use reference::vectors::{self, Vector, REFUSALS};
+use reference::{expression, form};
 
 fn root() -> PathBuf {
     Path::new(env!("CARGO_MANIFEST_DIR")).join("..")
@@ -115,6 +117,30 @@ fn the_vectors_have_kinds() {
         println!("{start} {times}");
         assert!(times >= least, "{start}");
     }
+}
+
+/// Every answer of typing with few permitted configurations, and files with numbers of them
+/// around the powers of two.
+#[test]
+fn the_vectors_have_few_permitted_configurations_and_many() {
+    let mut counts: BTreeMap<usize, BTreeSet<u64>> = BTreeMap::new();
+    for case in cases() {
+        let tables = match file::read_file(&case.text) {
+            Ok(tables) if form::check(&tables).is_ok() => tables,
+            _ => continue,
+        };
+        let permitted = expression::permitted(&tables).len();
+        let number = generate::outcome(&tables);
+        counts.entry(permitted).or_default().insert(number);
+    }
+    println!("{counts:?}");
+    for power in [8, 16, 32, 64, 128, 256] {
+        let around = [power - 1, power, power + 1];
+        assert!(around.iter().all(|count| counts.contains_key(count)));
+    }
+    let few = counts.range(2..=8).flat_map(|(_, numbers)| numbers);
+    let few: BTreeSet<u64> = few.copied().collect();
+    assert!([0].iter().chain(&TYPING).all(|number| few.contains(number)));
 }
 
 #[test]

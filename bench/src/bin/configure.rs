@@ -5,9 +5,9 @@ use std::collections::BTreeMap;
 use std::process::ExitCode;
 
 use bench::cases::{differ, mostly_accepted, seed_and_count};
+use bench::reports::written;
 use reference::check::{shown, ROWS};
 use reference::random::Random;
-use reference::tables::WIDTHS;
 use reference::{expression, form, Refusal, Tables};
 
 /// Where the first difference is written.
@@ -162,22 +162,6 @@ fn by_product(tables: &Tables, asked: &Asked) -> Result<Outcome, (u64, [u64; 4])
     let lent = words.each_mut().map(Vec::as_mut_slice);
     let answer = bench::configure(tables, asked.configuration, lent)?;
     Ok(Outcome { answer, words })
-}
-
-/// The tables that were written, with their head and table 0.
-fn written(tables: &Tables, counts: [usize; 4], words: &[Vec<u16>; 4]) -> Tables {
-    let table = |t: usize| words[t - 1][..counts[t - 1] * WIDTHS[t]].to_vec();
-    Tables {
-        features: 0,
-        attributes: tables.attributes,
-        model: 0,
-        expressions: vec![1, 0, 0],
-        entries: table(1),
-        relations: table(2),
-        comparisons: table(3),
-        queries: table(4),
-        kinds: tables.kinds.clone(),
-    }
 }
 
 /// Our check accepts the tables that were written, and its rows have at

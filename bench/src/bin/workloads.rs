@@ -8,57 +8,40 @@
 use std::collections::BTreeMap;
 use std::hint::black_box;
 use std::process::ExitCode;
-use std::thread;
 use std::time::Instant;
 
-use bench::parallel;
+use bench::measure::{self, median, micros, same_answer, say_goal, Call, Samples};
+use bench::reports::{
+    deep, first_expressions, mixed_comparisons, mixed_expressions, not_last, three_workloads,
+    ATTRIBUTES, FEATURES, FORMS, MIDDLE,
+};
 use reference::check::ROWS;
 use reference::generate;
 use reference::page::{LINE, MOST_LINES};
-use reference::random::Random;
 use reference::tables::{COMPARISON_CHOICE, COUNT, EXACTLY_ONE, WITH_ATTRIBUTE, WITH_CONSTANT};
-use reference::{expression, Refusal, Tables};
-
-const STACK: usize = 1 << 20;
+use reference::{expression, Tables};
 
 /// Measurements of each workload, and of each of the generated cases.
 const TIMES: usize = 201;
-const FEWER: usize = 15;
+const SAMPLES: Samples = Samples::single(TIMES);
+const FEWER: Samples = Samples::single(15);
 
 /// Our goal for each workload: of a check to the reference's, and of finding to our
 /// check.
 const GOAL: f64 = 0.2;
 const GOAL_OF_FINDING: f64 = 1.1;
 
-const FEATURES: u16 = 10;
-const ATTRIBUTES: u16 = 64;
-const FORMS: u16 = 256;
-
 /// A name, and the tables that are measured.
 type Workload = (&'static str, Tables);
 
 fn main() -> ExitCode {
-    let run = thread::Builder::new().stack_size(STACK).spawn(run);
-    match run.map(thread::JoinHandle::join) {
-        Ok(Ok(Ok(()))) => ExitCode::SUCCESS,
-        Ok(Ok(Err(difference))) => {
-            println!("{difference}");
-            ExitCode::FAILURE
-        }
-        _ => ExitCode::FAILURE,
-    }
+    measure::in_small_stack(run)
 }
 
 /// Measures all parts. An error says where answers or words differ.
 fn run() -> Result<(), String> {
-    let deep = deep(mixed_expressions(), mixed_comparisons());
-    let mut refused = deep.clone();
-    refuse_last(&mut refused);
-    let workloads = [
-        ("(a) union of 32 relations", union_of_relations()),
-        ("(b) deep, accepted", deep.clone()),
-        ("(c) deep, refused last", refused),
-    ];
+    let workloads = three_workloads();
+    let [_, (_, deep), _] = &workloads;
     time_checks(&workloads)?;
     time_generated()?;
     time_chains(deep.clone())?;
@@ -68,48 +51,22 @@ fn run() -> Result<(), String> {
     time_finding(&workloads[..2])?;
     time_paging(&workloads[..2])?;
     time_ranges()?;
-    time_kinds(deep)
-}
-
-fn say_goal(goal: f64, met: bool) {
-    println!(
-        "goal, a ratio of at most {goal} on each of these: {}",
-        if met { "met" } else { "not met" }
-    );
+    time_kinds(deep.clone())
 }
 
 fn time_checks(workloads: &[Workload]) -> Result<(), String> {
     println!("medians of {TIMES} measurements, ours and the reference's in turn; µs a call; a stack of 1 MiB");
     let ratios = check_ratios(workloads)?;
-    say_goal(GOAL, ratios.iter().all(|&ratio| ratio <= GOAL));
+    say_goal(
+        "goal on each of these",
+        GOAL,
+        ratios.iter().all(|&ratio| ratio <= GOAL),
+    );
     Ok(())
 }
 
-/// Prints the times of each workload's check, and gives the ratios of ours to the
-/// reference's.
 fn check_ratios(workloads: &[Workload]) -> Result<Vec<f64>, String> {
-    println!(
-        "{:<26} {:>8} {:>10} {:>7} {:>9} {:>7}  answer",
-        "workload", "ours", "reference", "ratio", "parallel", "ratio"
-    );
-    let mut ratios = Vec::new();
-    for (name, tables) in workloads {
-        let answer =
-            same_answer(tables).ok_or_else(|| format!("{name}: the answers or the rows differ"))?;
-        let [ours, theirs, parallel] = in_turn(
-            TIMES,
-            [tables; 3],
-            [Call::Check, Call::ReferenceCheck, Call::ParallelCheck],
-        );
-        ratios.push(ours / theirs);
-        println!(
-            "{name:<26} {ours:>8.1} {theirs:>10.1} {:>7.3} {parallel:>9.1} {:>7.2}  {}",
-            ours / theirs,
-            ours / parallel,
-            words(answer)
-        );
-    }
-    Ok(ratios)
+    measure::check_ratios(SAMPLES, workloads)
 }
 
 /// The reference's time goes with the number of permitted configurations.
@@ -119,7 +76,7 @@ fn time_generated() -> Result<(), String> {
         if same_answer(&tables).is_none() {
             return Err("a generated case: the answers or the rows differ".to_string());
         }
-        let [ours, theirs] = in_turn(FEWER, [&tables; 2], [Call::Check, Call::ReferenceCheck]);
+        let [ours, theirs] = FEWER.in_turn([&tables; 2], [Call::Check, Call::ReferenceCheck]);
         let permitted = expression::permitted(&tables).len();
         groups.entry(permitted).or_default().push(ours / theirs);
     }
@@ -142,11 +99,11 @@ fn time_chains(full: Tables) -> Result<(), String> {
         ("another full table", full),
         (
             "comparisons 5 0 i i",
-            deep(mixed_expressions(), joined_comparisons()),
+            deep(FEATURES, mixed_expressions(FEATURES), joined_comparisons()),
         ),
         (
             "expressions 5 i i",
-            deep(joined_expressions(), mixed_comparisons()),
+            deep(FEATURES, joined_expressions(), mixed_comparisons(FEATURES)),
         ),
     ];
     for (name, tables) in &chains {
@@ -154,8 +111,7 @@ fn time_chains(full: Tables) -> Result<(), String> {
             return Err(format!("{name}: not accepted, or the rows differ"));
         }
     }
-    let times = in_turn(
-        TIMES,
+    let times = SAMPLES.in_turn(
         chains.each_ref().map(|(_, tables)| tables),
         [Call::Check; 3],
     );
@@ -203,7 +159,7 @@ fn time_finding(workloads: &[Workload]) -> Result<(), String> {
         let sets = wanted_sets(tables);
         let [nothing, all, half] = sets.map(|(_, wanted)| Call::Find(wanted));
         let calls = [Call::Check, nothing, all, half];
-        let [check, finds @ ..] = in_turn(TIMES, [tables; 4], calls);
+        let [check, finds @ ..] = SAMPLES.in_turn([tables; 4], calls);
         for ((set, wanted), find) in sets.into_iter().zip(finds) {
             let found = same_found(tables, wanted)
                 .ok_or_else(|| format!("{name}, {set}: not found, or the answers differ"))?;
@@ -214,7 +170,7 @@ fn time_finding(workloads: &[Workload]) -> Result<(), String> {
             );
         }
     }
-    say_goal(GOAL_OF_FINDING, met);
+    say_goal("goal on each of these", GOAL_OF_FINDING, met);
     Ok(())
 }
 
@@ -236,8 +192,8 @@ fn time_paging(workloads: &[Workload]) -> Result<(), String> {
     for (name, tables) in workloads {
         let lines =
             same_page(tables).ok_or_else(|| format!("{name}: no page, or the bytes differ"))?;
-        let [ours, theirs] = in_turn(TIMES, [tables; 2], [Call::Page, Call::ReferencePage]);
-        let [check, page] = in_turn(TIMES, [tables; 2], [Call::Check, Call::Page]);
+        let [ours, theirs] = SAMPLES.in_turn([tables; 2], [Call::Page, Call::ReferencePage]);
+        let [check, page] = SAMPLES.in_turn([tables; 2], [Call::Check, Call::Page]);
         println!(
             "{name:<26} {ours:>8.1} {theirs:>10.1} {:>7.3} {check:>8.1} {page:>8.1} {:>7.3}  {lines}",
             ours / theirs,
@@ -285,9 +241,6 @@ fn time_kinds(deep: Tables) -> Result<(), String> {
     check_ratios(&workloads).map(drop)
 }
 
-/// The configuration of (e): every other feature is on.
-const MIDDLE: u64 = 0b10_1010_1010;
-
 /// Medians in µs of configuring, ours and the reference's, into tables as long as
 /// their sources. None where the answers or the words differ, or it is refused.
 fn configuring(tables: &Tables) -> Option<[f64; 2]> {
@@ -301,118 +254,15 @@ fn configuring(tables: &Tables) -> Option<[f64; 2]> {
         let tables = black_box(tables);
         let start = Instant::now();
         let ours = black_box(bench::configure(tables, MIDDLE, black_box(mine)));
-        times[0].push(start.elapsed().as_nanos() as f64 / 1000.0);
+        times[0].push(micros(start.elapsed()));
         let start = Instant::now();
         let wanted = black_box(reference::configure(tables, MIDDLE, black_box(theirs)));
-        times[1].push(start.elapsed().as_nanos() as f64 / 1000.0);
+        times[1].push(micros(start.elapsed()));
         if wanted.is_err() || ours != Ok(wanted) || words[0] != words[1] {
             return None;
         }
     }
     Some(times.map(median))
-}
-
-fn median(mut times: Vec<f64>) -> f64 {
-    times.sort_unstable_by(f64::total_cmp);
-    times[times.len() / 2]
-}
-
-fn words(answer: Result<(), Refusal>) -> String {
-    match answer {
-        Ok(()) => "accepted".to_string(),
-        Err(r) => format!("{} {} {} {}", r.number, r.place, r.item, r.configuration),
-    }
-}
-
-/// The answer of all three, where their answers and rows are the same.
-fn same_answer(tables: &Tables) -> Option<Result<(), Refusal>> {
-    let [mut mine, mut theirs, mut parallel] = [[7; ROWS]; 3];
-    let wanted = reference::check(tables, &mut theirs);
-    let same = bench::check(tables, &mut mine) == Ok(wanted)
-        && parallel::check(tables, &mut parallel) == wanted
-        && mine == theirs
-        && parallel == theirs;
-    same.then_some(wanted)
-}
-
-/// What is measured.
-#[derive(Clone, Copy)]
-enum Call {
-    /// Our check.
-    Check,
-    /// The reference's.
-    ReferenceCheck,
-    /// `bench::parallel`'s.
-    ParallelCheck,
-    /// Our finding, of this set.
-    Find(u64),
-    /// Our page.
-    Page,
-    /// The reference's.
-    ReferencePage,
-}
-
-/// What is lent to them.
-struct Lent {
-    rows: Vec<u64>,
-    page: Vec<u8>,
-}
-
-impl Call {
-    fn run(self, tables: &Tables, Lent { rows, page }: &mut Lent) {
-        match self {
-            Call::Check => drop(black_box(bench::check(tables, rows))),
-            Call::ReferenceCheck => drop(black_box(reference::check(tables, rows))),
-            Call::ParallelCheck => drop(black_box(parallel::check(tables, rows))),
-            Call::Find(wanted) => drop(black_box(bench::find(tables, wanted))),
-            Call::Page => drop(black_box(bench::page(tables, page))),
-            Call::ReferencePage => drop(black_box(reference::page(tables, page))),
-        }
-    }
-}
-
-/// Medians in µs of calls that take turns, so that all meet the same machine.
-fn in_turn<const N: usize>(count: usize, tables: [&Tables; N], calls: [Call; N]) -> [f64; N] {
-    let mut times = [const { Vec::new() }; N];
-    let mut lent = Lent {
-        rows: vec![0; ROWS],
-        page: vec![0; LINE * MOST_LINES],
-    };
-    for _ in 0..count {
-        for (number, times) in times.iter_mut().enumerate() {
-            let tables = black_box(tables[number]);
-            let start = Instant::now();
-            calls[number].run(tables, black_box(&mut lent));
-            times.push(start.elapsed().as_nanos() as f64 / 1000.0);
-        }
-    }
-    times.map(median)
-}
-
-/// 32 relations, each listing the same 16 attributes under 200 nots of feature
-/// 9, and their union.
-fn union_of_relations() -> Tables {
-    let mut expressions = vec![[1, 0, 0], [2, 9, 0]];
-    expressions.extend((1..=200).map(|form| [3, form, 0]));
-    let mut entries = Vec::new();
-    let mut queries = Vec::new();
-    for relation in 0..32 {
-        entries.extend((0..16).map(|attribute| [attribute, 201]));
-        queries.push([1, relation, 0, 0]);
-    }
-    queries.push([6, 0, 1, 0]);
-    queries.extend((2..32).map(|relation| [6, relation + 30, relation, 0]));
-    Tables {
-        features: FEATURES.into(),
-        attributes: 16,
-        model: 0,
-        expressions: expressions.concat(),
-        entries: entries.concat(),
-        relations: [[0, 16]; 32].concat(),
-        queries: queries.concat(),
-        ..Tables::default()
-    }
-    .of_moments()
 }
 
 /// A relation that lists one attribute 512 times, under each feature and its
@@ -452,60 +302,9 @@ fn ranges(forms: u16, count: fn(u16) -> u16) -> Tables {
     }
 }
 
-/// In every expression table: true, the features, and the expression that holds
-/// at all configurations but the last.
-const ALWAYS: u16 = 0;
-const NOT_LAST: u16 = 20;
-
-fn first_expressions() -> Vec<[u16; 3]> {
-    let mut forms = vec![[1, 0, 0]];
-    forms.extend((0..FEATURES).map(|feature| [2, feature, 0]));
-    // 11 to 19: all features so far are on.
-    forms.push([4, 1, 2]);
-    forms.extend((3..=FEATURES).map(|feature| [4, feature + 8, feature]));
-    forms.push([3, 19, 0]);
-    forms
-}
-
-fn mixed_expressions() -> Vec<[u16; 3]> {
-    let mut random = Random::new(1);
-    let mut forms = first_expressions();
-    while forms.len() < FORMS.into() {
-        let mut lower = || random.below(forms.len()) as u16;
-        let (a, b) = (lower(), lower());
-        forms.push(random.pick(&[[3, a, 0], [4, a, b], [5, a, b]]));
-    }
-    forms
-}
-
 fn joined_expressions() -> Vec<[u16; 3]> {
-    let mut forms = first_expressions();
-    forms.extend((NOT_LAST..FORMS - 1).map(|below| [5, below, below]));
-    forms
-}
-
-/// Comparison 63 names attribute 63 everywhere; all that is built on the others
-/// names it where `NOT_LAST` holds only.
-const LAST_NAMED: u16 = 63;
-
-fn mixed_comparisons() -> Vec<[u16; 5]> {
-    let mut random = Random::new(2);
-    let mut forms: Vec<[u16; 5]> = (0..ATTRIBUTES).map(|a| [2, a % 6, a, 500, 0]).collect();
-    forms.push([7, 0, NOT_LAST, LAST_NAMED, 0]);
-    while forms.len() < FORMS.into() {
-        let mut lower = || match random.below(forms.len()) as u16 {
-            LAST_NAMED => 64,
-            other => other,
-        };
-        let (a, b) = (lower(), lower());
-        let condition = random.below(FORMS.into()) as u16;
-        forms.push(random.pick(&[
-            [4, 0, a, 0, 0],
-            [5, 0, a, b, 0],
-            [6, 0, a, b, 0],
-            [7, 0, condition, a, b],
-        ]));
-    }
+    let mut forms = first_expressions(FEATURES);
+    forms.extend((not_last(FEATURES)..FORMS - 1).map(|below| [5, below, below]));
     forms
 }
 
@@ -513,43 +312,6 @@ fn joined_comparisons() -> Vec<[u16; 5]> {
     let mut forms = vec![[2, 0, 0, 500, 0]];
     forms.extend((0..FORMS - 1).map(|below| [5, 0, below, below, 0]));
     forms
-}
-
-/// A report of 256 forms, each on the one below it: a relation of 64 attributes,
-/// seven projects that keep them all, and selects; 512 entries in all, of which
-/// the last attribute's hold at all configurations but the last.
-fn deep(expressions: Vec<[u16; 3]>, comparisons: Vec<[u16; 5]>) -> Tables {
-    let list = (0..ATTRIBUTES).map(|a| match a {
-        63 => [a, NOT_LAST],
-        _ => [a, ALWAYS],
-    });
-    let mut queries = vec![[1, 0, 0, 0]];
-    for form in 1..FORMS {
-        queries.push(match (form % 32, form) {
-            (0, _) => [3, ATTRIBUTES, form - 1, 0],
-            (_, LAST_NAMED) => [2, 64, form - 1, 0],
-            _ => [2, form, form - 1, 0],
-        });
-    }
-    Tables {
-        features: FEATURES.into(),
-        attributes: ATTRIBUTES.into(),
-        model: ALWAYS.into(),
-        expressions: expressions.concat(),
-        entries: list.collect::<Vec<_>>().concat().repeat(8),
-        relations: vec![0, ATTRIBUTES],
-        comparisons: comparisons.concat(),
-        queries: queries.concat(),
-        ..Tables::default()
-    }
-    .of_moments()
-}
-
-/// The last form selects by an attribute that is missing at the last
-/// configuration only.
-fn refuse_last(tables: &mut Tables) {
-    let last = tables.queries.len() - 4;
-    tables.queries[last..].copy_from_slice(&[2, LAST_NAMED, FORMS - 2, 0]);
 }
 
 /// Moments, counts and names by turns, and constants of the kinds of their attributes;
@@ -574,7 +336,7 @@ fn of_three_kinds(mut tables: Tables) -> Tables {
 /// configuration only. It takes the last two comparisons for it.
 fn differ_last(tables: &mut Tables) {
     let clash = FORMS - 2;
-    let choice = [COMPARISON_CHOICE, 0, NOT_LAST, 0, clash];
+    let choice = [COMPARISON_CHOICE, 0, not_last(FEATURES), 0, clash];
     let comparisons = tables.comparisons.len() - 10;
     let last_two = [[WITH_CONSTANT, 0, 0, 500, COUNT], choice];
     tables.comparisons[comparisons..].copy_from_slice(&last_two.concat());

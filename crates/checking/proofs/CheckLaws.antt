@@ -20,7 +20,7 @@ use Rattle.report.specs.declared.Verdict.{Verdict}
 use Rattle.report.proofs.VerdictLaws.{or-else-accepted, both-accepted, then-next, accepted-if}
 use Rattle.report.proofs.FirstFault.{first-none, first-one}
 use Rattle.forms.proofs.Chain.{stops, goes-on}
-use Rattle.judging.specs.Judging.{meaningCheck, TablesJudged}
+use Rattle.judging.specs.Judging.{meaningCheck, ColumnsJudged}
 use Rattle.judging.proofs.JudgingLaws.{answer-parts}
 use Rattle.checking.specs.Promises.{Checks}
 use Rattle.checking.specs.Steps.{Meant}
@@ -72,16 +72,15 @@ module _ (T : Tables) where
 
 -- ---- 12 to 19 and 25, where judging leaves the column rows in `columns`
 
-module _ {T : Tables} {v : Verdict} {lentConditions lentReach lentColumns conditions reach columns : List ℕ}
-    (J : TablesJudged T v lentConditions lentReach lentColumns conditions reach columns) (lent : List ℕ) where
+module _ {T : Tables} {v : Verdict} {permits lentColumns columns : List ℕ} (J : ColumnsJudged T v permits lentColumns columns) (lent : List ℕ) where
   pub meaning-refused : {r : Refusal} → v ≡ Verdict.Refused r → Meant T v lent lent
-  meaning-refused f = record { answers = J .judged .answers; shows = ap (λ (x : Verdict). after x (columnRows T) lent) (sym f) }
+  meaning-refused f = record { answers = J .answers; shows = ap (λ (x : Verdict). after x (columnRows T) lent) (sym f) }
 
   pub meaning-accepted : v ≡ Verdict.Accepted → {rows : List ℕ} → rows ≡ columns → Meant T Verdict.Accepted lent rows
   meaning-accepted f e = record {
-    answers = sym f ∙ J .judged .answers;
-    shows = e ∙ J .judged .shows ∙ ap (λ (x : Verdict). after x (columnRows T) lentColumns) early;
+    answers = sym f ∙ J .answers;
+    shows = e ∙ J .shows ∙ ap (λ (x : Verdict). after x (columnRows T) lentColumns) early;
   }
     where
       early : modelAndSchemaCheck T ≡ Verdict.Accepted
-      early = both-accepted (modelAndSchemaCheck T) (typingCheck T) (sym (J .judged .answers) ∙ f) .0
+      early = both-accepted (modelAndSchemaCheck T) (typingCheck T) (sym (J .answers) ∙ f) .0

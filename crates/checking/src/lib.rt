@@ -1,9 +1,7 @@
 // The entry point `check`.
 use forms::check_forms;
 use judging::COLUMN_WORDS;
-use judging::EXPRESSION_WORDS;
-use judging::REACH_WORDS;
-use judging::judge_tables;
+use judging::judge_columns;
 use report::Verdict;
 use table_checks::refuse;
 ghost use mathlib.Core.Path.{_≡_};
@@ -43,10 +41,8 @@ fn check_meaning(
         ⌜ Meant (tablesOf n m model (now (expressions .entry)) (now (entries .entry)) (now (relations .entry)) (now (comparisons .entry))
         (now (queries .entry)) (now (kinds .entry))) v (now (rows .entry)) (now (rows .exit)) ⌝ }
 {
-    let mut conditions = [0; EXPRESSION_WORDS];
-    let mut reach = [0; REACH_WORDS];
     let mut columns = [0; COLUMN_WORDS];
-    let meaning = judge_tables(
+    let judged = judge_columns(
         n,
         m,
         model,
@@ -56,10 +52,9 @@ fn check_meaning(
         comparisons,
         queries,
         kinds,
-        &mut conditions,
-        &mut reach,
         &mut columns,
     );
+    let meaning = judged.verdict;
     if let Verdict::Refused(_) = meaning {
         return meaning;
     }

@@ -1,7 +1,7 @@
 -- Laws of checks 13 and 14: the loops over a list and over the relations, and that they answer as the definitions do.
 use Prim.Native.Nat.{ℕ, _+_, _/_, _<_, _≤_}
 use mathlib.Core.Path.{_≡_, refl, sym, ap, ap₂, _∙_}
-use mathlib.Core.Bool.{Bool, true, false}
+use mathlib.Core.Bool.{Bool, true, false, not, Bool·not-not}
 use mathlib.Core.List.{List}
 use mathlib.Core.Logic.{⊎-elim}
 use native.Mathlib.Nat.{eq-or-lt-of-le}
@@ -57,12 +57,14 @@ module _ (rows present entries : List ℕ) (from n : ℕ) where
   listed-none = record { most = omega arith; each = λ j l h. absurd (omega arith) }
 
   -- one entry more: what the code found of it
-  module _ {i x : ℕ} {own both : List ℕ} {t : Bool} (S : Listed rows present entries from n i) (h : i < n) (p : x ≡ entryExpression entries (from + i))
-      (q : own ≡ rowIn 16 rows x) (m : both ≡ rowIntersect 16 present own) (e : t ≡ rowIsEmpty 16 both) where
-    is-apart : t ≡ apartIn rows present entries (from + i)
-    is-apart = e ∙ ap (rowIsEmpty 16) (met-row rows present (entryExpression entries (from + i)) p q m)
+  module _ {i x : ℕ} {t : Bool} (S : Listed rows present entries from n i) (h : i < n) (p : x ≡ entryExpression entries (from + i))
+      (e : t ≡ not (rowIsEmpty 16 (rowIntersect 16 present (rowIn 16 rows x)))) where
+    is-apart : not t ≡ apartIn rows present entries (from + i)
+    is-apart =
+        ap not e ∙ Bool·not-not (rowIsEmpty 16 (rowIntersect 16 present (rowIn 16 rows x)))
+        ∙ ap (λ (k : ℕ). rowIsEmpty 16 (rowIntersect 16 present (rowIn 16 rows k))) p
 
-    pub listed-more : t ≡ false → Listed rows present entries from n (i + 1)
+    pub listed-more : not t ≡ false → Listed rows present entries from n (i + 1)
     listed-more f = record {
       most = omega arith;
       each =
@@ -70,7 +72,7 @@ module _ (rows present entries : List ℕ) (from n : ℕ) where
           (eq-or-lt-of-le (omega arith));
     }
 
-    pub listed-here : (r : ℕ) → t ≡ true → {a : ℕ} → a ≡ entryAttribute entries (from + i)
+    pub listed-here : (r : ℕ) → not t ≡ true → {a : ℕ} → a ≡ entryAttribute entries (from + i)
         → Verdict.Refused (refusal 14 r a 0) ≡ listRule rows present entries r from n
     unfolding listRule
     listed-here r f g =

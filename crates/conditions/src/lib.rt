@@ -103,8 +103,7 @@ fn check_list(
     while i < count {
         let k = start + i;
         let x = entry_expression(entries, k);
-        let both = present.intersect(Row::load(rows, x));
-        if both.is_empty() {
+        if !present.meets(rows, x) {
             let a = entry_attribute(entries, k);
             return Verdict::Refused(Refusal {
                 number: 14,

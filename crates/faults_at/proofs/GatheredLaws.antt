@@ -17,8 +17,7 @@ use Rattle.report.proofs.StepLaws.{gathered-in}
 use Rattle.report.proofs.OperandLaws.{choice-comparison}
 use Rattle.comparisons.specs.Gathering.{ownOf, Narrow}
 use Rattle.comparisons.specs.declared.Gathered.{Gathered}
-use Rattle.faults_at.specs.FaultsAt.{GatheredReads}
-use Rattle.faults_at.specs.SetsAt.{ComparisonAt, SomeComparison, GatheredReadable}
+use Rattle.faults_at.specs.SetsAt.{ComparisonAt, SomeComparison, GatheredReadable, GatheredReads}
 
 -- what a comparison refers to is lower, and the expression of a choice is one of the tables'
 module _ {T : Tables} {f : ℕ} {set : ℕ → ℕ} {conditions : List ℕ} {c : ℕ} {sets : List ℕ} {to : Operands}

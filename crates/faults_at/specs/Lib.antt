@@ -1,2 +1,1 @@
-pub mod FaultsAt
 pub mod SetsAt

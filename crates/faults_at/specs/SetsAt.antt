@@ -1,5 +1,5 @@
--- What the private functions work out at one configuration c, and what each reads of tables T; `..Readable`, `Some..`: there are such tables, and
--- room for what is written.
+-- What is worked out at one configuration c: what is gathered from comparisons, the sets of relations and query forms, the items at fault; and what
+-- each function reads of tables T. `..Readable`, `Some..`: there are such tables, and room for what is written.
 use Prim.Native.Nat.{ℕ, _/_, _<_, _≤_}
 use mathlib.Core.Path.{_≡_}
 use mathlib.Core.Bool.{cond}
@@ -14,8 +14,7 @@ use Rattle.report.specs.Configuring.{written}
 use Rattle.report.specs.Formed.{Formed}
 use Rattle.report.specs.declared.Operands.{Operands}
 use Rattle.report.specs.declared.Query.{Query}
-use Rattle.at_configuration.specs.AtConfiguration.{AtReads, RelationReads, FormAt}
-use Rattle.faults_at.specs.FaultsAt.{GatheredReads}
+use Rattle.at_configuration.specs.AtConfiguration.{AtReads, RelationReads, ComparisonReads, FormAt}
 
 -- the set of relation r: none where it is absent
 abbrev pub presentSet : Tables → ℕ → ℕ → ℕ
@@ -51,7 +50,12 @@ pub record SomeComparison (conditions : List ℕ) (c : ℕ) (sets : List ℕ) (t
   pub set : ℕ → ℕ
   pub at : ComparisonAt tables number set conditions c sets to
 
--- room for the sets of all
+-- table 3 and the kind table
+pub record GatheredReads (T : Tables) (conditions comparisons kinds : List ℕ) (c : ℕ) : Type 0 where
+  pub compared : ComparisonReads T conditions comparisons c
+  pub kindsAre : kinds ≡ T .kinds
+
+-- and room for the sets of all
 pub record GatheredReadable (conditions comparisons kinds : List ℕ) (c : ℕ) (lent : List ℕ) : Type 0 where
   pub tables : Tables
   pub reads : GatheredReads tables conditions comparisons kinds c

@@ -20,13 +20,12 @@ ghost use lib.Bits.{bitAnd, bitOr, bitXor};
 ghost use lib.ListN.{length, getD};
 ghost use Rattle.sets.specs.Lists.{table};
 ghost use Rattle.report.specs.Tables.{Tables, kindOf, relationCount, comparisonCount};
-ghost use Rattle.report.specs.Typing.{present, gatheredOf, gathered, setRule, setOf, faultsOf, clashesIn, faults};
+ghost use Rattle.report.specs.Typing.{present, gatheredOf, gathered, setRule, setOf, faultsOf, clashesIn};
 ghost use Rattle.report.specs.Configuring.{written};
 ghost use Rattle.comparisons.specs.Gathering.{ownOf};
 ghost use Rattle.at_configuration.specs.AtConfiguration.{PresentReads, PresentReadable, RelationReads};
-ghost use Rattle.faults_at.specs.FaultsAt.{GatheredReads, FaultsReads, FaultsReadable, ClashesReads, ClashesReadable};
 ghost use Rattle.faults_at.specs.SetsAt.{presentSet, RelationSetsReadable, RelationSetReadable};
-ghost use Rattle.faults_at.specs.SetsAt.{ComparisonAt, SomeComparison, GatheredReadable};
+ghost use Rattle.faults_at.specs.SetsAt.{ComparisonAt, SomeComparison, GatheredReads, GatheredReadable};
 ghost use Rattle.faults_at.specs.SetsAt.{SetsReads, SetsReadable, SetsFilled, QueryAt, SomeQuery, FormFaultsReads, FormFaultsReadable};
 ghost use Rattle.faults_at.specs.SetsAt.{FormClashesReads, FormClashesReadable};
 
@@ -52,7 +51,7 @@ fn relation_set(
 }
 
 // Fills `relation_sets` with the sets of all relations.
-fn fill_relation_sets(
+pub fn fill_relation_sets(
     entries: &[u16],
     relations: &[u16],
     conditions: &[u64],
@@ -129,7 +128,7 @@ fn gathered_at(
 }
 
 // Fills `sets` with what is gathered from each comparison at c.
-fn fill_gathered(
+pub fn fill_gathered(
     comparisons: &[u16],
     kinds: &[u16],
     conditions: &[u64],
@@ -186,7 +185,7 @@ fn set_at(
 }
 
 // Fills `sets` with the sets of the query forms below q, and answers where the list of form q starts.
-fn fill_sets(
+pub fn fill_sets(
     entries: &[u16],
     queries: &[u16],
     conditions: &[u64],
@@ -226,7 +225,7 @@ fn absent_item(relations: &[u16], conditions: &[u64], c: usize, r: usize) -> Att
 
 // The items at fault in a query form at c, a project's list starting at `start`; `named` has what each comparison names, `sets` the sets of
 // lower forms.
-fn faults_of(
+pub fn faults_of(
     x: Query,
     entries: &[u16],
     relations: &[u16],
@@ -258,68 +257,8 @@ fn faults_of(
     }
 }
 
-// The items at fault in form q at configuration c in phase 0, of tables whose expression rows `conditions` starts with.
-pub fn faults_at(
-    relation_entries: &[u16],
-    project_entries: &[u16],
-    relations: &[u16],
-    comparisons: &[u16],
-    queries: &[u16],
-    kinds: &[u16],
-    conditions: &[u64],
-    q: usize,
-    c: usize,
-) -> AttributeSet
-    requires { ⌜ FaultsReadable (now conditions) (now «relation_entries») (now «project_entries») (now relations) (now comparisons) (now queries)
-        (now kinds) q c ⌝ }
-    ensures { λ s.
-        ⌜ ((T : Tables)
-        → FaultsReads T (now (conditions .entry)) (now («relation_entries» .entry)) (now («project_entries» .entry)) (now (relations .entry))
-        (now (comparisons .entry)) (now (queries .entry)) (now (kinds .entry)) q c
-        → s .bits ≡ faults T c 0 q) ⌝ }
-{
-    let mut named = [0; AttributeSet::MOST_COMPARISONS];
-    let mut relation_sets = [0; AttributeSet::MOST_RELATIONS];
-    let mut sets = [0; AttributeSet::MOST_QUERIES];
-    fill_gathered(
-        comparisons,
-        kinds,
-        conditions,
-        c,
-        Gathered::Names,
-        &mut named,
-    );
-    fill_relation_sets(
-        relation_entries,
-        relations,
-        conditions,
-        c,
-        &mut relation_sets,
-    );
-    let start = fill_sets(
-        project_entries,
-        queries,
-        conditions,
-        &relation_sets,
-        c,
-        q,
-        &mut sets,
-    );
-    let x = query_at(queries, q);
-    faults_of(
-        x,
-        project_entries,
-        relations,
-        conditions,
-        c,
-        &named,
-        &sets,
-        start,
-    )
-}
-
 // The left attributes at fault in a query form at c; `clashes` has those of the comparisons. Only a select compares.
-fn clashes_in(x: Query, clashes: &[u64]) -> AttributeSet
+pub fn clashes_in(x: Query, clashes: &[u64]) -> AttributeSet
     requires { ⌜ FormClashesReadable (now clashes) x ⌝ }
     ensures { λ s. ⌜ ((T : Tables) (q c : ℕ) → FormClashesReads T q c (now (clashes .entry)) x → s .bits ≡ clashesIn T c x) ⌝ }
 {
@@ -327,30 +266,4 @@ fn clashes_in(x: Query, clashes: &[u64]) -> AttributeSet
         return set_in(clashes, f);
     }
     AttributeSet::empty()
-}
-
-// The items at fault in form q at configuration c in phase 1: the left attributes that are compared with another kind.
-pub fn clashes_at(
-    comparisons: &[u16],
-    queries: &[u16],
-    kinds: &[u16],
-    conditions: &[u64],
-    q: usize,
-    c: usize,
-) -> AttributeSet
-    requires { ⌜ ClashesReadable (now conditions) (now comparisons) (now queries) (now kinds) q c ⌝ }
-    ensures { λ s.
-        ⌜ ((T : Tables) → ClashesReads T (now (conditions .entry)) (now (comparisons .entry)) (now (queries .entry)) (now (kinds .entry)) q c
-        → s .bits ≡ faults T c 1 q) ⌝ }
-{
-    let mut clashes = [0; AttributeSet::MOST_COMPARISONS];
-    fill_gathered(
-        comparisons,
-        kinds,
-        conditions,
-        c,
-        Gathered::Clashes,
-        &mut clashes,
-    );
-    clashes_in(query_at(queries, q), &clashes)
 }

@@ -6,7 +6,7 @@ use mathlib.Core.List.{List}
 use lib.Pow.{pow-mono}
 use Rattle.sets.specs.declared.Found.{Found}
 use Rattle.sets.specs.Bits.{subset, hasFrom}
-use Rattle.sets.specs.Rows.{rowOf, rowIn}
+use Rattle.sets.specs.Rows.{rowOf}
 use Rattle.sets.proofs.SearchLaws.{lowest-same, lowest-narrow}
 use Rattle.sets.proofs.RowLaws.{rowBit-rowOf}
 use Rattle.report.specs.Tables.{Tables, report}
@@ -20,9 +20,9 @@ use Rattle.report.specs.declared.Refusal.{Refusal}
 use Rattle.report.specs.declared.Verdict.{Verdict}
 use Rattle.report.proofs.FirstFault.{first-none, first-one}
 use Rattle.report.proofs.TypingLaws.{shown-columns}
-use Rattle.conditions.proofs.PermittedLaws.{permitted-out, model-row}
+use Rattle.conditions.proofs.PermittedLaws.{permitted-out}
 use Rattle.judging.specs.Judging.{reportCheck}
-use Rattle.judging.proofs.JudgingLaws.{call-parts, Rows}
+use Rattle.judging.proofs.JudgingLaws.{call-parts, Columns}
 use Rattle.finding.specs.declared.FindAnswer.{FindAnswer}
 use Rattle.finding.specs.Finding.{wantedCondition, finding, hasWanted, lowestWanted, foundAnswer, Finds}
 use Rattle.finding.specs.Steps.{showsWanted, lowestShown}
@@ -63,10 +63,9 @@ module _ (T : Tables) {wanted set : ℕ} (same : set ≡ wanted) {checked : Verd
   refused-answers f = ap (λ (x : Verdict). foundAnswer x (lowestWanted T wanted)) (sym f ∙ verdict)
 
   -- none does, and the search answers
-  pub found-answers : v ≡ Verdict.Accepted → {conditions reach columns : List ℕ} → Rows T conditions reach columns → {permits : List ℕ}
-      → permits ≡ rowIn 16 conditions (T .model) → {found : Found} → found ≡ lowestShown permits columns set → Finds T wanted (foundAnswer Verdict.Accepted found)
-  found-answers f R {permits} load search =
-      let permitting : permits ≡ rowOf 16 (permitted T) = load ∙ model-row (R .formed) (R .filled) refl in
+  pub found-answers : v ≡ Verdict.Accepted → {permits columns : List ℕ} → Columns T permits columns → {found : Found}
+      → found ≡ lowestShown permits columns set → Finds T wanted (foundAnswer Verdict.Accepted found)
+  found-answers f C search =
       ap₂ foundAnswer (sym f ∙ verdict)
-      (search ∙ ap₂ (λ (row rows : List ℕ). lowestShown row rows set) permitting (R .shows) ∙ ap (lowestShown (rowOf 16 (permitted T)) (columnRows T)) same
-      ∙ shown-wanted (R .formed) wanted)
+      (search ∙ ap₂ (λ (row rows : List ℕ). lowestShown row rows set) (C .permitting) (C .shows)
+      ∙ ap (lowestShown (rowOf 16 (permitted T)) (columnRows T)) same ∙ shown-wanted (C .formed) wanted)

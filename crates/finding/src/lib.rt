@@ -1,8 +1,6 @@
 // The entry point `find`: the lowest permitted configuration at which a report has wanted columns.
 use judging::COLUMN_WORDS;
-use judging::EXPRESSION_WORDS;
-use judging::REACH_WORDS;
-use judging::typed;
+use judging::typed_columns;
 use report::Refusal;
 use report::Verdict;
 use sets::AttributeSet;
@@ -59,32 +57,28 @@ pub fn find(
         (now (queries .entry)) (now (kinds .entry))) wanted r ⌝ }
 {
     let m = attributes as usize;
-    let model = model as usize;
     let wanted = AttributeSet::of_bits(wanted);
-    let mut conditions = [0; EXPRESSION_WORDS];
-    let mut reach = [0; REACH_WORDS];
     let mut columns = [0; COLUMN_WORDS];
-    let checked = typed(
+    let judged = typed_columns(
         features as usize,
         m,
-        model,
+        model as usize,
         expressions,
         entries,
         relations,
         comparisons,
         queries,
         kinds,
-        &mut conditions,
-        &mut reach,
         &mut columns,
     );
+    let checked = judged.verdict;
     // 22 comes after the checks of the report.
     let late = refuse_if(wanted.has_from(m), 22, 0);
     let verdict = or_else(checked, late);
     if let Verdict::Refused(r) = verdict {
         return FindAnswer::Refused(r);
     }
-    let found = lowest_with(Row::load(&conditions, model), &columns, wanted);
+    let found = lowest_with(judged.permitted, &columns, wanted);
     match found {
         Found::At(c) => FindAnswer::At(c),
         Found::Nothing => FindAnswer::None,

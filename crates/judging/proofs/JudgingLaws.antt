@@ -1,15 +1,15 @@
 -- How the parts of judging make its answer, what each part leaves for the next, and what a caller has of tables that pass.
-use Prim.Native.Nat.{ℕ, _-_, _*_, _/_, _%_, _^_, _≤_, max}
+use Prim.Native.Nat.{ℕ, _+_, _-_, _*_, _/_, _%_, _^_, _≤_, max}
 use mathlib.Core.Path.{_≡_, refl, sym, ap, _∙_}
-use mathlib.Core.Bool.{true}
+use mathlib.Core.Bool.{true, false}
 use mathlib.Core.List.{List}
 use native.Mathlib.Nat.{le-refl, le-max-left, le-max-right, max-le}
 use native.Mathlib.Omega.{arith}
-use lib.ListN.{length, take, drop, replicate}
+use lib.ListN.{length, take, drop, replicate, length-replicate}
 use lib.Pow.{pow-mono}
 use Rattle.sets.specs.Rows.{rowOf, rowIn, rowIsEmpty, within}
 use Rattle.sets.proofs.BitLaws.{shl-one}
-use Rattle.report.specs.Tables.{Tables, expressionCount, relationCount, queryCount, relationsEnd}
+use Rattle.report.specs.Tables.{Tables, relationCount, queryCount, relationsEnd}
 use Rattle.report.specs.Expressions.{configurations, permitted}
 use Rattle.report.specs.ColumnRows.{columnRows}
 use Rattle.report.specs.Configuring.{written}
@@ -26,14 +26,16 @@ use Rattle.report.proofs.VerdictLaws.{or-else-assoc, both-accepted, then-next, 
 use Rattle.report.proofs.FirstFault.{answer-run}
 use Rattle.conditions.specs.Conditions.{expressionRows, Conditioned, SchemaReads, ReachFilled}
 use Rattle.conditions.proofs.FillLaws.{filled}
-use Rattle.conditions.proofs.PermittedLaws.{model-check, model-row}
+use Rattle.conditions.proofs.PermittedLaws.{model-check, model-room, model-row}
 use Rattle.conditions.proofs.PreparedLaws.{prepare}
 use Rattle.reach.specs.Reach.{reachRows, ReachReads}
 use Rattle.reach.proofs.ReachRows.{reach-rows}
 use Rattle.forms.proofs.Chain.{stops, goes-on}
 use Rattle.fault_rows.specs.FaultRows.{Items}
 use Rattle.typing.specs.Typed.{TypingReads, Checked}
-use Rattle.judging.specs.Judging.{meaningCheck, reportCheck, earlyCheck, JudgeReads, JudgeReadable, Judged, RowsLent, TablesJudged, Typed}
+use Rattle.judging.specs.Judging.{meaningCheck, reportCheck, earlyCheck, JudgeReads, JudgeReadable}
+use Rattle.judging.specs.Judging.{Judged, TablesJudgeable, TablesJudged, RowsLent, Typed}
+use Rattle.judging.specs.Judging.{SizeJudgeable, ColumnsJudgeable, ColumnsJudged, ColumnsTyped}
 
 -- ---- the answer of any call
 
@@ -145,15 +147,21 @@ module _ {T : Tables} {v : Verdict} (early : v ≡ modelAndSchemaCheck T) (lentR
 -- ---- whole tables
 
 module _ {T : Tables} (F : Formed T) where
-  pub fill-room : (conditions : List ℕ) → 4096 ≤ length conditions → expressionCount T * 16 ≤ length conditions
-  fill-room conditions h = let s = counts F .most0 in omega arith
+  -- the tables, with the expression rows and table 1 in its parts
+  pub tables-read : {split : ℕ} → split ≡ relationsEnd T → {conditions : List ℕ} → Conditioned T conditions
+      → JudgeReads T (T .features) (T .attributes) (T .model) conditions (take (split * 2) (T .entries))
+      (take (length (T .entries) - split * 2) (drop (split * 2) (T .entries))) (T .relations) (T .comparisons) (T .queries) (T .kinds)
+  tables-read is C = record { prepared = prepare F C is refl refl refl refl; features = refl; attributes = refl; number = refl; kindsAre = refl }
 
-  module _ {split : ℕ} (is : split ≡ relationsEnd T) where
-    -- the tables, with the expression rows and table 1 in its parts
-    pub tables-read : {conditions : List ℕ} → Conditioned T conditions
-        → JudgeReads T (T .features) (T .attributes) (T .model) conditions (take (split * 2) (T .entries))
-        (take (length (T .entries) - split * 2) (drop (split * 2) (T .entries))) (T .relations) (T .comparisons) (T .queries) (T .kinds)
-    tables-read C = record { prepared = prepare F C is refl refl refl refl; features = refl; attributes = refl; number = refl; kindsAre = refl }
+  -- rows enough for all tables are enough for these
+  pub rows-enough : {conditions reach columns : List ℕ} → RowsLent conditions reach columns → TablesJudgeable T conditions reach columns
+  rows-enough L = record {
+    formed = F;
+    expressions = let s = counts F .most0 in let l = L .expressions in omega arith;
+    forms = let s = counts F .most4 in let l = L .forms in omega arith;
+    unreached = L .unreached;
+    unshown = L .unshown;
+  }
 
 module _ {T : Tables} {v : Verdict} (forms : v ≡ formCheck T) {lentConditions lentReach lentColumns : List ℕ} where
   -- a form check refuses
@@ -188,7 +196,78 @@ module _ {T : Tables} {v : Verdict} (forms : v ≡ formCheck T) {lentConditions 
       early : modelAndSchemaCheck T ≡ earlyCheck T
       early = sym (then-next (sym passed))
 
+-- ---- expression rows and reach rows of its own
+
+-- `most` rows of each are enough for tables that have at most so many forms
+pub size-enough : (most : ℕ) {T : Tables} {columns : List ℕ} → SizeJudgeable most T columns
+    → TablesJudgeable T (replicate (most * 16) 0) (replicate (most * 16) 0) columns
+size-enough most A =
+    let l = length-replicate {A = ℕ} (most * 16) 0 in
+    record {
+      formed = A .formed;
+      expressions = let e = A .expressions in omega arith;
+      forms = let e = A .forms in omega arith;
+      unreached = ap (λ (k : ℕ). replicate {A = ℕ} k 0) (sym l);
+      unshown = A .unshown;
+    }
+
+module _ (most : ℕ) {T : Tables} {lentColumns : List ℕ} (A : SizeJudgeable most T lentColumns) {v : Verdict} {lentReach conditions reach columns : List ℕ}
+    (J : TablesJudged T v (replicate (most * 16) 0) lentReach lentColumns conditions reach columns) where
+  conditioned : Conditioned T conditions
+  conditioned = filled (T .features) (T .expressions) (replicate (most * 16) 0) (size-enough most A .expressions) (J .fills)
+
+  -- the model has a row among the expressions
+  pub own-model : T .model * 16 + 16 ≤ length conditions
+  own-model = model-room (A .formed) conditioned refl
+
+  pub own-judged : {permits : List ℕ} → permits ≡ rowIn 16 conditions (T .model) → ColumnsJudged T v permits lentColumns columns
+  own-judged load = record {
+    answers = J .judged .answers;
+    permitting = load ∙ model-row (A .formed) conditioned refl;
+    shows = J .judged .shows;
+  }
+
+-- tables that are not small have as many forms as there can be, at most
+pub any-size : {T : Tables} {columns : List ℕ} → ColumnsJudgeable T columns → SizeJudgeable 256 T columns
+any-size A =
+    let n = counts (A .formed) in
+    record { formed = A .formed; expressions = n .most0; forms = n .most4; unshown = A .unshown }
+
+-- the form checks, and then these
+module _ {T : Tables} {v : Verdict} (forms : v ≡ formCheck T) {lentColumns : List ℕ} where
+  -- a form check refuses
+  pub columns-refuse : {r : Refusal} → v ≡ Verdict.Refused r → {permits : List ℕ} → permits ≡ rowOf 16 (λ c. false)
+      → ColumnsTyped T v permits lentColumns lentColumns
+  columns-refuse {r} f none = record {
+    answers = stops (meaningCheck T) forms f;
+    permitting = none ∙ ap (λ (x : Verdict). after x (rowOf 16 (permitted T)) (rowOf 16 (λ c. false))) refused;
+    shows = ap (λ (x : Verdict). after x (columnRows T) lentColumns) (sym (then-refused (modelAndSchemaCheck T) (sym refused)));
+  }
+    where
+      refused : Verdict.Refused r ≡ formCheck T
+      refused = sym f ∙ forms
+
+  -- the rest is judged
+  pub columns-answer : v ≡ Verdict.Accepted → {w : Verdict} {permits columns : List ℕ} → ColumnsJudged T w permits lentColumns columns
+      → ColumnsTyped T w permits lentColumns columns
+  columns-answer f J = record {
+    answers = goes-on forms f (J .answers);
+    permitting = J .permitting ∙ ap (λ (x : Verdict). after x (rowOf 16 (permitted T)) (rowOf 16 (λ c. false))) passed;
+    shows = J .shows ∙ ap (λ (x : Verdict). after x (columnRows T) lentColumns) (sym (then-next (sym passed)));
+  }
+    where
+      passed : Verdict.Accepted ≡ formCheck T
+      passed = sym f ∙ forms
+
 -- ---- for the callers
+
+-- tables that pass have passed the form checks, and 12 to 14
+module _ (T : Tables) {v : Verdict} (checked : v ≡ reportCheck T) (accepted : v ≡ Verdict.Accepted) where
+  passed : (formCheck T ≡ Verdict.Accepted) × (meaningCheck T ≡ Verdict.Accepted)
+  passed = both-accepted (formCheck T) (meaningCheck T) (sym checked ∙ accepted)
+
+  early-passed : earlyCheck T ≡ Verdict.Accepted
+  early-passed = then-next (passed .0) ∙ both-accepted (modelAndSchemaCheck T) (typingCheck T) (passed .1) .0
 
 -- what a caller has of tables that pass: their rows
 pub record Rows (T : Tables) (conditions reach columns : List ℕ) : Type 0 where
@@ -203,25 +282,42 @@ typed-rows : {T : Tables} {v : Verdict} {lentConditions lentReach lentColumns co
 typed-rows {T} {v} {lentConditions} {lentReach} {lentColumns} L J e = record {
   formed = F;
   filled = filled (T .features) (T .expressions) lentConditions (let s = counts F .most0 in let l = L .expressions in omega arith)
-      (J .fills ∙ ap (λ (x : Verdict). after x (written (expressionRows (T .features) (T .expressions)) lentConditions) lentConditions) (passed .0));
+      (J .fills ∙ ap (λ (x : Verdict). after x (written (expressionRows (T .features) (T .expressions)) lentConditions) lentConditions) forms);
   reaching = reach-rows T (let s = counts F .most4 in let l = L .forms in omega arith)
       (J .reaching ∙ ap (λ (x : Verdict). after x (reachRows T (length lentReach)) lentReach) early);
   shows = J .shows ∙ ap (λ (x : Verdict). after x (columnRows T) lentColumns) early;
 }
   where
-    passed : (formCheck T ≡ Verdict.Accepted) × (meaningCheck T ≡ Verdict.Accepted)
-    passed = both-accepted (formCheck T) (meaningCheck T) (sym (J .answers) ∙ e)
+    forms : formCheck T ≡ Verdict.Accepted
+    forms = passed T (J .answers) e .0
 
     F : Formed T
-    F = formed T (passed .0)
+    F = formed T forms
 
     early : earlyCheck T ≡ Verdict.Accepted
-    early = then-next (passed .0) ∙ both-accepted (modelAndSchemaCheck T) (typingCheck T) (passed .1) .0
+    early = early-passed T (J .answers) e
 
 -- with rows of the call's own, which are all 0 and have room for every table
 pub own-rows : {T : Tables} {v : Verdict} {conditions reach columns : List ℕ}
     → Typed T v (replicate 4096 0) (replicate 4096 0) (replicate 1024 0) conditions reach columns → v ≡ Verdict.Accepted → Rows T conditions reach columns
-own-rows = typed-rows (record { expressions = le-refl 4096; forms = le-refl 4096; attributes = refl })
+own-rows = typed-rows (record { expressions = le-refl 4096; forms = le-refl 4096; unreached = refl; unshown = refl })
+
+-- what a caller has of tables that pass, where judging has rows of its own: the permitted configurations and the column rows
+pub record Columns (T : Tables) (permits columns : List ℕ) : Type 0 where
+  pub formed : Formed T
+  pub permitting : permits ≡ rowOf 16 (permitted T)
+  pub shows : columns ≡ columnRows T
+
+pub own-columns : {T : Tables} {v : Verdict} {permits columns : List ℕ} → ColumnsTyped T v permits (replicate 1024 0) columns → v ≡ Verdict.Accepted
+    → Columns T permits columns
+own-columns {T} J e = record {
+  formed = formed T forms;
+  permitting = J .permitting ∙ ap (λ (x : Verdict). after x (rowOf 16 (permitted T)) (rowOf 16 (λ c. false))) forms;
+  shows = J .shows ∙ ap (λ (x : Verdict). after x (columnRows T) (replicate 1024 0)) (early-passed T (J .answers) e);
+}
+  where
+    forms : formCheck T ≡ Verdict.Accepted
+    forms = passed T (J .answers) e .0
 
 module _ {T : Tables} (F : Formed T) where
   -- 1 << n is the number of configurations

@@ -1,9 +1,12 @@
 -- What every call runs before its own checks: the answers, and what the rows lent to it hold afterwards.
 use Prim.Native.Nat.{ℕ, _*_, _≤_}
 use mathlib.Core.Path.{_≡_}
+use mathlib.Core.Bool.{false}
 use mathlib.Core.List.{List}
-use lib.ListN.{length}
-use Rattle.report.specs.Tables.{Tables, queryCount}
+use lib.ListN.{length, replicate}
+use Rattle.sets.specs.Rows.{rowOf}
+use Rattle.report.specs.Tables.{Tables, expressionCount, queryCount}
+use Rattle.report.specs.Expressions.{permitted}
 use Rattle.report.specs.ColumnRows.{columnRows}
 use Rattle.report.specs.Configuring.{written}
 use Rattle.report.specs.Verdicts.{orElse, after}
@@ -38,13 +41,14 @@ pub record JudgeReads (T : Tables) (n m model : ℕ) (conditions relationEntries
   pub number : model ≡ T .model
   pub kindsAre : kinds ≡ T .kinds
 
--- there are such tables, and room for the reach rows and the column rows
+-- there are such tables, and room for the reach rows and the column rows, all 0
 pub record JudgeReadable (n m model : ℕ) (conditions relationEntries projectEntries relations comparisons queries kinds reach columns : List ℕ)
     : Type 0 where
   pub tables : Tables
   pub reads : JudgeReads tables n m model conditions relationEntries projectEntries relations comparisons queries kinds
   pub forms : queryCount tables * 16 ≤ length reach
-  pub attributes : length columns ≡ 1024
+  pub unreached : reach ≡ replicate (length reach) 0
+  pub unshown : columns ≡ replicate 1024 0
 
 -- the answer, and what the rows lent hold afterwards: the reach rows and the column rows, whatever typing answers, and what they held where 12 to
 -- 14 refuse
@@ -55,25 +59,55 @@ pub record Judged (T : Tables) (answer : Verdict) (lentReach lentColumns reach c
 
 -- ---- whole tables
 
--- rows enough for all tables that pass the form checks
-pub record RowsLent (conditions reach columns : List ℕ) : Type 0 where
-  pub expressions : 4096 ≤ length conditions
-  pub forms : 4096 ≤ length reach
-  pub attributes : length columns ≡ 1024
-
--- tables that have passed the form checks, and such rows
+-- tables that have passed the form checks, and rows for their expressions, their query forms and the attributes; the last two are all 0
 pub record TablesJudgeable (T : Tables) (conditions reach columns : List ℕ) : Type 0 where
   pub formed : Formed T
-  pub rows : RowsLent conditions reach columns
+  pub expressions : expressionCount T * 16 ≤ length conditions
+  pub forms : queryCount T * 16 ≤ length reach
+  pub unreached : reach ≡ replicate (length reach) 0
+  pub unshown : columns ≡ replicate 1024 0
 
 -- the same, with the expression rows
 pub record TablesJudged (T : Tables) (answer : Verdict) (lentConditions lentReach lentColumns conditions reach columns : List ℕ) : Type 0 where
   pub fills : conditions ≡ written (expressionRows (T .features) (T .expressions)) lentConditions
   pub judged : Judged T answer lentReach lentColumns reach columns
 
+-- rows enough for all tables that pass the form checks
+pub record RowsLent (conditions reach columns : List ℕ) : Type 0 where
+  pub expressions : 4096 ≤ length conditions
+  pub forms : 4096 ≤ length reach
+  pub unreached : reach ≡ replicate (length reach) 0
+  pub unshown : columns ≡ replicate 1024 0
+
 -- the same of any tables: where the form checks refuse, or 12 to 14, the rows that are not filled are as they were
 pub record Typed (T : Tables) (answer : Verdict) (lentConditions lentReach lentColumns conditions reach columns : List ℕ) : Type 0 where
   pub answers : answer ≡ reportCheck T
   pub fills : conditions ≡ after (formCheck T) (written (expressionRows (T .features) (T .expressions)) lentConditions) lentConditions
   pub reaching : reach ≡ after (earlyCheck T) (reachRows T (length lentReach)) lentReach
+  pub shows : columns ≡ after (earlyCheck T) (columnRows T) lentColumns
+
+-- ---- with expression rows and reach rows of its own, in two sizes
+
+-- tables that have passed the form checks and have at most so many expressions and query forms, and rows for the attributes, all 0
+pub record SizeJudgeable (most : ℕ) (T : Tables) (columns : List ℕ) : Type 0 where
+  pub formed : Formed T
+  pub expressions : expressionCount T ≤ most
+  pub forms : queryCount T ≤ most
+  pub unshown : columns ≡ replicate 1024 0
+
+-- the same of any size
+pub record ColumnsJudgeable (T : Tables) (columns : List ℕ) : Type 0 where
+  pub formed : Formed T
+  pub unshown : columns ≡ replicate 1024 0
+
+-- the answer, the permitted configurations, and what the rows lent hold afterwards
+pub record ColumnsJudged (T : Tables) (answer : Verdict) (permits lentColumns columns : List ℕ) : Type 0 where
+  pub answers : answer ≡ meaningCheck T
+  pub permitting : permits ≡ rowOf 16 (permitted T)
+  pub shows : columns ≡ after (modelAndSchemaCheck T) (columnRows T) lentColumns
+
+-- the same of any tables: with no permitted configuration where the form checks refuse, and with the rows as they were where these or 12 to 14 do
+pub record ColumnsTyped (T : Tables) (answer : Verdict) (permits lentColumns columns : List ℕ) : Type 0 where
+  pub answers : answer ≡ reportCheck T
+  pub permitting : permits ≡ after (formCheck T) (rowOf 16 (permitted T)) (rowOf 16 (λ c. false))
   pub shows : columns ≡ after (earlyCheck T) (columnRows T) lentColumns

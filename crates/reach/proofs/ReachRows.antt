@@ -17,7 +17,7 @@ use Rattle.reach.specs.Reach.{joined, reachRows, ReachReads, ReachReadab
 use Rattle.reach.proofs.JoinLaws.{row-of}
 
 -- words that are all 0 are rows without a configuration
-pub fresh-none : (n i : ℕ) → _≡_ {A = ℕ} (getD (replicate n 0) i 0) 0
+fresh-none : (n i : ℕ) → _≡_ {A = ℕ} (getD (replicate n 0) i 0) 0
 fresh-none zero i = refl
 fresh-none (suc n) zero = refl
 fresh-none (suc n) (suc i) = fresh-none n i
@@ -47,13 +47,13 @@ module _ {T : Tables} {queries conditions permits : List ℕ} (R : ReachReads T 
       (ap (λ (r : List ℕ). rowBit r (i % 1024)) (R .permitting) ∙ rowBit-rowOf 16 (permitted T) (i % 1024) (omega arith)))
 
 -- the walk may start at the report
-pub ready-report : {queries conditions permits lent : List ℕ} → ReachReadable queries conditions permits lent → {out : List ℕ}
-    → length out ≡ length lent → WalkReady queries conditions permits out (length queries / 4 - 1)
-ready-report A size = record {
+pub ready-report : {queries conditions permits out : List ℕ} → ReachReadable queries conditions permits out
+    → WalkReady queries conditions permits out (length queries / 4 - 1)
+ready-report A = record {
   tables = A .tables;
   reads = reads-permitted (A .reads);
   inside = let i = report-in (A .reads .formed) in let l = last-is (A .reads) in omega arith;
-  room = let r = A .room in omega arith;
+  room = A .room;
 }
 
 -- row x of the reach rows has the configurations that reach form x

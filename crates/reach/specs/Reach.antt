@@ -3,7 +3,7 @@ use Prim.Native.Nat.{ℕ, _*_, _/_, _%_, _<_, _≤_}
 use mathlib.Core.Path.{_≡_}
 use mathlib.Core.Bool.{Bool, true, _&&_, _||_}
 use mathlib.Core.List.{List}
-use lib.ListN.{length}
+use lib.ListN.{length, replicate}
 use Rattle.sets.specs.Rows.{rowBit, rowOf}
 use Rattle.report.specs.Tables.{Tables, queryCount}
 use Rattle.report.specs.Expressions.{configurations, permitted}
@@ -27,11 +27,12 @@ pub record ReachReads (T : Tables) (queries conditions permits : List ℕ) : Typ
   pub queriesAre : queries ≡ T .queries
   pub permitting : permits ≡ rowOf 16 (permitted T)
 
--- there are such tables, and there is a row for each form
+-- there are such tables, and there is a row for each form, without a configuration
 pub record ReachReadable (queries conditions permits out : List ℕ) : Type 0 where
   pub tables : Tables
   pub reads : ReachReads tables queries conditions permits
   pub room : queryCount tables * 16 ≤ length out
+  pub clear : out ≡ replicate (length out) 0
 
 -- ---- the walk
 

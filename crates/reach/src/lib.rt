@@ -5,7 +5,7 @@ use report::Operands;
 use sets::Row;
 ghost use mathlib.Core.Path.{_≡_};
 ghost use Prim.Native.Nat.{_+_, _*_, _≤_};
-ghost use lib.ListN.{length, replicate};
+ghost use lib.ListN.{length};
 ghost use lib.Dec.{eqb};
 ghost use Rattle.report.specs.Tables.{Tables};
 ghost use Rattle.reach.specs.Reach.{joined, reachRows, ReachReads, ReachReadable, WalkReady, Walked};
@@ -46,30 +46,12 @@ fn walk(queries: &[u16], conditions: &[u64], form: usize, reach: Row, out: &mut 
     }
 }
 
-// Makes all words 0: rows without a configuration.
-pub fn clear_words(words: &mut [u64])
-    ensures { λ _. ⌜ now (words .exit) ≡ replicate (length (now (words .entry))) 0 ⌝ }
-{
-    let mut i = 0;
-    while i < words.len() {
-        words[i] = 0;
-        i += 1;
-    }
-}
-
-// Fills `out` with the reach rows, by the walk from the report with the permitted configurations. Words after the rows become 0.
+// Fills `out`, whose words are all 0, with the reach rows, by the walk from the report with the permitted configurations.
 pub fn fill_reach(queries: &[u16], conditions: &[u64], permitted: Row, out: &mut [u64])
     requires { ⌜ ReachReadable (now queries) (now conditions) (permitted .words) (now out) ⌝ }
     ensures { λ _.
         ⌜ ((T : Tables) → ReachReads T (now (queries .entry)) (now (conditions .entry)) (permitted .words)
         → now (out .exit) ≡ reachRows T (length (now (out .entry)))) ⌝ }
 {
-    clear_words(&mut *out);
-    walk(
-        queries,
-        conditions,
-        queries.len() / 4 - 1,
-        permitted,
-        &mut *out,
-    );
+    walk(queries, conditions, queries.len() / 4 - 1, permitted, out);
 }

@@ -1,14 +1,13 @@
 -- That what the calls write is the print of the answer.
-use Prim.Native.Nat.{ℕ, _+_, _*_, _%_, _^_, _≤_}
+use Prim.Native.Nat.{ℕ, _*_, _%_, _^_, _≤_}
 use mathlib.Core.Path.{_≡_, refl, sym, ap, _∙_}
 use mathlib.Core.List.{List}
 use native.Mathlib.Omega.{arith}
 use lib.ListN.{length, getD, take}
-use Rattle.sets.specs.Rows.{rowOf, rowIn}
 use Rattle.sets.specs.Writing.{WrittenAt}
 use Rattle.sets.proofs.WritingLaws.{from-start}
 use Rattle.report.specs.Tables.{Tables, tablesOf}
-use Rattle.report.specs.Expressions.{configurations, permitted}
+use Rattle.report.specs.Expressions.{configurations}
 use Rattle.report.specs.Verdicts.{orElse}
 use Rattle.report.specs.Calls.{answer, checking}
 use Rattle.report.specs.HarbourFile.{File}
@@ -17,9 +16,8 @@ use Rattle.report.specs.declared.Verdict.{Verdict}
 use Rattle.report.proofs.VerdictLaws.{or-else-accepted}
 use Rattle.report.proofs.FirstFault.{first-none, first-one}
 use Rattle.report.proofs.TypingLaws.{rows-length}
-use Rattle.conditions.proofs.PermittedLaws.{model-room, model-row}
 use Rattle.judging.specs.Judging.{reportCheck}
-use Rattle.judging.proofs.JudgingLaws.{call-parts, Rows, shifted-configurations, shifted-few}
+use Rattle.judging.proofs.JudgingLaws.{call-parts, Columns, shifted-configurations, shifted-few}
 use Rattle.printing.specs.Lines.{refusalLine, unreadLine, acceptedText, AcceptedRead}
 use Rattle.printing.proofs.LinePieces.{refusal-print, unread-print}
 use Rattle.printing.proofs.PrintLaws.{accepted-print, accepted-room}
@@ -52,46 +50,45 @@ laid T e f = same-prints (ap (λ (x : Layout). acceptedAs x T) e ∙ sym f)
 
 -- ---- the print of an accepted report
 
-module _ {T : Tables} {n model : ℕ} {conditions columns : List ℕ} (R : ColumnReads T n model conditions columns) where
-  -- the expression rows have that of the model
-  pub columns-room : model * 16 + 16 ≤ length conditions
-  columns-room = model-room (R .formed) (R .filled) (R .modelled)
-
+module _ {T : Tables} {n : ℕ} {permits columns : List ℕ} (R : ColumnReads T n permits columns) where
   -- 1 << n is the number of configurations
   configurations-are : (1 * 2 ^ n) % 2 ^ 64 ≡ configurations T
   configurations-are = shifted-configurations (R .formed) (R .features)
 
-  pub columns-few : (1 * 2 ^ n) % 2 ^ 64 ≤ 1024
+  columns-few : (1 * 2 ^ n) % 2 ^ 64 ≤ 1024
   columns-few = shifted-few (R .formed) (R .features)
 
   columns-long : length columns ≡ 1024
   columns-long = ap length (R .shows) ∙ rows-length T
 
-  -- there is room for the print of up to 1,024 configurations, in each layout
-  module _ (permits : List ℕ) {count : ℕ} {out : List ℕ} (few : count ≤ 1024) (h : 201653 ≤ length out) where
-    pub columns-read : AcceptedRead permits count columns out 0
-    columns-read = record { long = columns-long; few = few; room = record { fits = omega (arith, accepted-room permits count columns few) } }
+  module _ {out : List ℕ} (h : 201653 ≤ length out) where
+    -- there is room for the print in each layout
+    pub columns-read : AcceptedRead permits ((1 * 2 ^ n) % 2 ^ 64) columns out 0
+    columns-read = record {
+      long = columns-long;
+      few = columns-few;
+      room = record { fits = omega (arith, accepted-room permits ((1 * 2 ^ n) % 2 ^ 64) columns columns-few) };
+    }
 
-    pub page-read : PageRead permits count columns out 0
-    page-read = record { long = columns-long; few = few; room = record { fits = omega (arith, page-room permits count columns few) } }
-
-  module _ {permits : List ℕ} (load : permits ≡ rowIn 16 conditions model) where
-    -- the row of the model has the permitted configurations
-    permits-are : permits ≡ rowOf 16 (permitted T)
-    permits-are = load ∙ model-row (R .formed) (R .filled) (R .modelled)
+    pub page-read : PageRead permits ((1 * 2 ^ n) % 2 ^ 64) columns out 0
+    page-read = record {
+      long = columns-long;
+      few = columns-few;
+      room = record { fits = omega (arith, page-room permits ((1 * 2 ^ n) % 2 ^ 64) columns columns-few) };
+    }
 
     -- what was written is the print in the layout
-    pub columns-printed : {layout : Layout} → layout ≡ Layout.Columns → {out o : List ℕ} {r : ℕ} → 201653 ≤ length out
+    pub columns-printed : {layout : Layout} → layout ≡ Layout.Columns → {o : List ℕ} {r : ℕ}
         → WrittenAt (acceptedText permits ((1 * 2 ^ n) % 2 ^ 64) columns) out 0 o r → Prints (acceptedAs layout T) out o r
-    columns-printed e l w =
-        laid T e (ap (λ (k : ℕ). acceptedText permits k columns) configurations-are ∙ accepted-print (R .formed) permits-are (R .shows))
-        (prints (accepted-room permits ((1 * 2 ^ n) % 2 ^ 64) columns columns-few) l w)
+    columns-printed e w =
+        laid T e (ap (λ (k : ℕ). acceptedText permits k columns) configurations-are ∙ accepted-print (R .formed) (R .permitting) (R .shows))
+        (prints (accepted-room permits ((1 * 2 ^ n) % 2 ^ 64) columns columns-few) h w)
 
-    pub page-printed : {layout : Layout} → layout ≡ Layout.Page → {out o : List ℕ} {r : ℕ} → 201653 ≤ length out
+    pub page-printed : {layout : Layout} → layout ≡ Layout.Page → {o : List ℕ} {r : ℕ}
         → WrittenAt (pageText permits ((1 * 2 ^ n) % 2 ^ 64) columns) out 0 o r → Prints (acceptedAs layout T) out o r
-    page-printed e l w =
-        laid T e (ap (λ (k : ℕ). pageText permits k columns) configurations-are ∙ rows-page (R .formed) permits-are (R .shows))
-        (prints (omega (arith, page-room permits ((1 * 2 ^ n) % 2 ^ 64) columns columns-few)) l w)
+    page-printed e w =
+        laid T e (ap (λ (k : ℕ). pageText permits k columns) configurations-are ∙ rows-page (R .formed) (R .permitting) (R .shows))
+        (prints (omega (arith, page-room permits ((1 * 2 ^ n) % 2 ^ 64) columns columns-few)) h w)
 
 -- ---- the print of the answer
 
@@ -113,9 +110,8 @@ module _ (layout : Layout) (T : Tables) {v : Verdict} (own : v ≡ reportCheck T
   acceptance-printed e = same-prints (answers ∙ ap (answerAs layout T) e)
 
 -- what the print reads of a report that has passed
-pub accepted-reads : {T : Tables} {conditions reach columns : List ℕ} → Rows T conditions reach columns
-    → ColumnReads T (T .features) (T .model) conditions columns
-accepted-reads R = record { formed = R .formed; features = refl; modelled = refl; filled = R .filled; shows = R .shows }
+pub accepted-reads : {T : Tables} {permits columns : List ℕ} → Columns T permits columns → ColumnReads T (T .features) permits columns
+accepted-reads C = record { formed = C .formed; features = refl; permitting = C .permitting; shows = C .shows }
 
 -- ---- the print of a file
 

@@ -3,24 +3,24 @@ use Prim.Native.Nat.{ℕ, _≤_}
 use mathlib.Core.Path.{_≡_}
 use mathlib.Core.List.{List}
 use lib.ListN.{length}
+use Rattle.sets.specs.Rows.{rowOf}
 use Rattle.report.specs.Tables.{Tables}
+use Rattle.report.specs.Expressions.{permitted}
 use Rattle.report.specs.ColumnRows.{columnRows}
 use Rattle.report.specs.Configuring.{written}
 use Rattle.report.specs.Formed.{Formed}
-use Rattle.conditions.specs.Conditions.{Conditioned}
 
--- the number of features, the model, the expression rows and the column rows of tables that have passed the form checks
-pub record ColumnReads (T : Tables) (n model : ℕ) (conditions columns : List ℕ) : Type 0 where
+-- the number of features, the permitted configurations and the column rows of tables that have passed the form checks
+pub record ColumnReads (T : Tables) (n : ℕ) (permits columns : List ℕ) : Type 0 where
   pub formed : Formed T
   pub features : n ≡ T .features
-  pub modelled : model ≡ T .model
-  pub filled : Conditioned T conditions
+  pub permitting : permits ≡ rowOf 16 (permitted T)
   pub shows : columns ≡ columnRows T
 
 -- there are such tables, and room for every print
-pub record ColumnReadable (n model : ℕ) (conditions columns out : List ℕ) : Type 0 where
+pub record ColumnReadable (n : ℕ) (permits columns out : List ℕ) : Type 0 where
   pub tables : Tables
-  pub reads : ColumnReads tables n model conditions columns
+  pub reads : ColumnReads tables n permits columns
   pub room : 201653 ≤ length out
 
 -- afterwards the text stands at the start, what stood after it is as before, and the answer is its length

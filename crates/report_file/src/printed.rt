@@ -1,9 +1,7 @@
 // The print of the answer for tables, written into lent bytes.
 use crate::Layout;
 use judging::COLUMN_WORDS;
-use judging::EXPRESSION_WORDS;
-use judging::REACH_WORDS;
-use judging::typed;
+use judging::typed_columns;
 use printing::put_accepted;
 use printing::put_refused;
 use report::Verdict;
@@ -16,22 +14,12 @@ ghost use Rattle.report.specs.HarbourFile.{File};
 ghost use Rattle.report_file.specs.Layouts.{acceptedAs, fileAs};
 ghost use Rattle.report_file.specs.Printing.{ColumnReads, ColumnReadable, Prints};
 
-// The print of an accepted report of n features, whose column rows are `columns` and whose expression rows `conditions` starts with. Its feature
-// model is expression `model` of table 0.
-fn print_columns(
-    n: usize,
-    model: usize,
-    conditions: &[u64],
-    columns: &[u64],
-    layout: Layout,
-    out: &mut [u8],
-) -> usize
-    requires { ⌜ ColumnReadable n model (now conditions) (now columns) (now out) ⌝ }
+// The print of an accepted report of n features, with its permitted configurations and its column rows.
+fn print_columns(n: usize, permitted: Row, columns: &[u64], layout: Layout, out: &mut [u8]) -> usize
+    requires { ⌜ ColumnReadable n (permitted .words) (now columns) (now out) ⌝ }
     ensures { λ r.
-        ⌜ ((T : Tables) → ColumnReads T n model (now (conditions .entry)) (now (columns .entry))
-        → Prints (acceptedAs layout T) (now (out .entry)) (now (out .exit)) r) ⌝ }
+        ⌜ ((T : Tables) → ColumnReads T n (permitted .words) (now (columns .entry)) → Prints (acceptedAs layout T) (now (out .entry)) (now (out .exit)) r) ⌝ }
 {
-    let permitted = Row::load(conditions, model);
     match layout {
         Layout::Columns => put_accepted(out, 0, permitted, 1 << n, columns),
         Layout::Page => put_page(out, 0, permitted, 1 << n, columns),
@@ -60,26 +48,22 @@ pub fn print_tables(
         (now (out .entry)) (now (out .exit)) r ⌝ }
 {
     let n = features as usize;
-    let model = model as usize;
-    let mut conditions = [0; EXPRESSION_WORDS];
-    let mut reach = [0; REACH_WORDS];
     let mut columns = [0; COLUMN_WORDS];
-    let v = typed(
+    let judged = typed_columns(
         n,
         attributes as usize,
-        model,
+        model as usize,
         expressions,
         entries,
         relations,
         comparisons,
         queries,
         kinds,
-        &mut conditions,
-        &mut reach,
         &mut columns,
     );
-    if let Verdict::Refused(r) = v {
+    let checked = judged.verdict;
+    if let Verdict::Refused(r) = checked {
         return put_refused(out, 0, r);
     }
-    print_columns(n, model, &conditions, &columns, layout, out)
+    print_columns(n, judged.permitted, &columns, layout, out)
 }

@@ -369,7 +369,7 @@ pub shl-one : (k a : ℕ) → a < k → (1 * 2 ^ a) % 2 ^ k ≡ 2 ^ a
 shl-one k a h = shl-exact 1 a k (omega arith) (omega arith) ∙ one-mul (2 ^ a)
 
 -- shifted right by m, a number has the bits from m on, and is 0 where there are none
-bit-shifted : (x m i : ℕ) → bit (x / 2 ^ m) i ≡ bit x (m + i)
+pub bit-shifted : (x m i : ℕ) → bit (x / 2 ^ m) i ≡ bit x (m + i)
 bit-shifted x m i = ap (λ (y : ℕ). eqb (y % 2) 1) (shr-shr x m i)
 
 pub shifted-from : (k x m : ℕ) → x < 2 ^ k → not (eqb (x / 2 ^ m) 0) ≡ someBelow (λ a. leb m a && bit x a) k
@@ -407,6 +407,19 @@ trailing-first (suc k) x h e = go (x % 2) (trailingZeros k (x / 2)) refl (traili
     go (suc d) t l ih =
         let one : x % 2 ≡ 1 = omega arith in
         record { below = omega arith; holds = bit-zero x ∙ ap (λ (d : ℕ). eqb d 1) one; before = λ j g. absurd (not-suc-le-zero g) }
+
+-- of a number shifted right by m: it is among the k - m bits that are left
+pub shifted-first : (k x m : ℕ) → x < 2 ^ k → x / 2 ^ m ≢ 0 → First (bit (x / 2 ^ m)) (k - m) (trailingZeros k (x / 2 ^ m))
+shifted-first k x m h e = record { below = go (decLt (trailingZeros k (x / 2 ^ m)) (k - m)); holds = r .holds; before = r .before }
+  where
+    r : First (bit (x / 2 ^ m)) k (trailingZeros k (x / 2 ^ m))
+    r = trailing-first k (x / 2 ^ m) (lt-of-le-of-lt (div-le-self x (2 ^ m)) h) e
+
+    go : Dec (trailingZeros k (x / 2 ^ m) < k - m) → trailingZeros k (x / 2 ^ m) < k - m
+    go (yes l) = l
+    go (no l) =
+        absurd (false≢true
+        (sym (bit-above k x (m + trailingZeros k (x / 2 ^ m)) h (omega arith)) ∙ sym (bit-shifted x m (trailingZeros k (x / 2 ^ m))) ∙ r .holds))
 
 pub trailing-lowest : (k x : ℕ) → x < 2 ^ k → x ≢ 0 → lowest (bit x) k ≡ Found.At (trailingZeros k x)
 trailing-lowest k x h e = at-lowest (bit x) k (trailingZeros k x) (trailing-first k x h e)

@@ -10,18 +10,20 @@ use native.Mathlib.Numerals.{add-one}
 use native.Mathlib.Omega.{arith}
 use lib.Dec.{eqb, ltb}
 use lib.Bits.{bitAnd, bitOr, or-add-and, and-le-l, and-le-r}
-use lib.Count.{trailingZeros}
+use lib.Count.{trailingZeros, ones}
 use lib.ListN.{length, getD, take, drop, length-append, length-drop, take-append-drop, List·getD-append}
 use lib.Seq.{length-take-le, getD-append-add, getD-take, getD-drop, drop-drop}
 use borrow.Author.Tests.{lt-ltb, le-ltb, eq-eqb, ne-eqb, not-true}
 use Rattle.sets.specs.declared.Found.{Found}
-use Rattle.sets.specs.Search.{lowest, isFound, someBelow, First}
+use Rattle.sets.specs.Search.{seek, lowest, someBelow, countBelow, First}
 use Rattle.sets.specs.Lists.{table, concat}
 use Rattle.sets.specs.Bits.{bit, bitsOf, difference}
-use Rattle.sets.specs.Rows.{rowBit, wordOf, rowOf, within, zip, rowJoin, rowIntersect, rowMinus, rowIsEmpty, rowLowest, rowIn, withRow, RowsAre}
-use Rattle.sets.proofs.SearchLaws.{at-lowest, nothing-lowest, lowest-same, some-same, some-none}
+use Rattle.sets.specs.Rows.{rowBit, wordOf, rowOf, within, zip, rowJoin, rowIntersect, rowMinus, rowIsEmpty}
+use Rattle.sets.specs.Rows.{rowLowest, rowLowestFrom, rowCount, rowIn, withRow, RowsAre}
+use Rattle.sets.proofs.SearchLaws.{least-seek, nothing-seek, seek-same, lowest-same, some-same, some-none, none-some, count-same, count-add}
 use Rattle.sets.proofs.ListLaws.{table-length, table-at, table-same, table-of, concat-length, concat-at, concat-step}
-use Rattle.sets.proofs.BitLaws.{bit-none, bit-low, bit-high, bit-and, bit-or, bit-difference, bit-bitsOf, zero-bits, trailing-first}
+use Rattle.sets.proofs.BitLaws.{bit-none, bit-low, bit-high, bit-and, bit-or, bit-difference, bit-bitsOf, zero-bits}
+use Rattle.sets.proofs.BitLaws.{bit-shifted, shifted-first, ones-count}
 use Rattle.sets.proofs.BitLaws.{bitsOf-lt, bitsOf-same, bitsOf-is, bitsOf-none, bitsOf-all, bitsOf-below}
 use Rattle.sets.proofs.BitLaws.{and-bitsOf, or-bitsOf, difference-bitsOf}
 
@@ -203,11 +205,8 @@ rowBit-none l c e = ap (λ (x : ℕ). bit x (c % 64)) e ∙ bit-none (c % 64)
 abbrev pub ZeroWords : ℕ → List ℕ → Type 0
 ZeroWords n l = (i : ℕ) → i < n → getD l i 0 ≡ 0
 
-pub found-nothing : (n : ℕ) (l : List ℕ) → ZeroWords n l → rowLowest n l ≡ Found.Nothing
-found-nothing n l h = nothing-lowest (rowBit l) (n * 64) (λ c g. rowBit-none l c (h (c / 64) (omega arith)))
-
 pub zero-empty : (n : ℕ) (l : List ℕ) → ZeroWords n l → rowIsEmpty n l ≡ true
-zero-empty n l h = ap (λ (x : Found). not (isFound x)) (found-nothing n l h)
+zero-empty n l h = ap not (none-some (rowBit l) (n * 64) (λ c g. rowBit-none l c (h (c / 64) (omega arith))))
 
 pub empty-zero : (n : ℕ) (l : List ℕ) → IsRow n l → rowIsEmpty n l ≡ true → ZeroWords n l
 empty-zero n l r e i h =
@@ -243,29 +242,103 @@ empty-joined n l r = go (rowIsEmpty n l) refl
     go true e = sym (eq-eqb (joined n l) 0 (zero-joined n l (empty-zero n l r e)))
     go false e = sym (ne-eqb (joined n l) 0 (λ z. false≢true (sym e ∙ zero-empty n l (joined-zero n l z))))
 
--- ---- the lowest configuration
+-- ---- a row and row a of rows one after another: what they have in common, word by word
+
+module _ (n : ℕ) (s rows : List ℕ) (a : ℕ) where
+  common-word : (w : ℕ) → w < n → getD (rowIntersect n s (rowIn n rows a)) w 0 ≡ bitAnd (getD s w 0) (getD rows (a * n + w) 0)
+  common-word w h =
+      table-at n (λ i. bitAnd (getD s i 0) (getD (rowIn n rows a) i 0)) 0 w h
+      ∙ ap (bitAnd (getD s w 0)) (table-at n (λ i. getD rows (a * n + i) 0) 0 w h)
+
+  common-row : IsRow n s → IsRow n (rowIntersect n s (rowIn n rows a))
+  common-row r = record {
+    size = table-length n (λ i. bitAnd (getD s i 0) (getD (rowIn n rows a) i 0));
+    fits = λ i h. let f = r .fits i h in omega (arith, common-word i h, and-le-l (getD s i 0) (getD rows (a * n + i) 0));
+  }
+
+  -- they have a configuration in common where a word of both is not 0
+  pub meet-at : IsRow n s → (w : ℕ) → w < n → bitAnd (getD s w 0) (getD rows (a * n + w) 0) ≢ 0
+      → rowIsEmpty n (rowIntersect n s (rowIn n rows a)) ≡ false
+  meet-at r w h e = go (rowIsEmpty n (rowIntersect n s (rowIn n rows a))) refl
+    where
+      go : (b : Bool) → rowIsEmpty n (rowIntersect n s (rowIn n rows a)) ≡ b → b ≡ false
+      go true q = absurd (e (sym (common-word w h) ∙ empty-zero n (rowIntersect n s (rowIn n rows a)) (common-row r) q w h))
+      go false q = refl
+
+  pub meet-none : ((w : ℕ) → w < n → bitAnd (getD s w 0) (getD rows (a * n + w) 0) ≡ 0) → rowIsEmpty n (rowIntersect n s (rowIn n rows a)) ≡ true
+  meet-none f = zero-empty n (rowIntersect n s (rowIn n rows a)) (λ w h. common-word w h ∙ f w h)
+
+-- ---- the lowest configuration, and the lowest that is not below `from`
 
 pub lowest-rowOf : (w : ℕ) (p : ℕ → Bool) → rowLowest w (rowOf w p) ≡ lowest p (w * 64)
 lowest-rowOf w p = lowest-same (rowBit (rowOf w p)) p (w * 64) (rowBit-rowOf w p)
 
--- the first word that is not 0 has it, at its trailing zeros
-pub found-at : (n : ℕ) (l : List ℕ) (i : ℕ) → i < n → ZeroWords i l → getD l i 0 < 2 ^ 64 → getD l i 0 ≢ 0
-    → rowLowest n l ≡ Found.At (i * 64 + trailingZeros 64 (getD l i 0))
-found-at n l i g h f e =
-    at-lowest (rowBit l) (n * 64) (i * 64 + trailingZeros 64 (getD l i 0)) (record {
-      below = omega (arith, r .below);
-      holds = rowBit-word l i (trailingZeros 64 (getD l i 0)) (r .below) ∙ r .holds;
-      before = λ c k. go c k (decLt c (i * 64));
-    })
-  where
-    r : First (bit (getD l i 0)) 64 (trailingZeros 64 (getD l i 0))
-    r = trailing-first 64 (getD l i 0) f e
+pub from-rowOf : (w : ℕ) (p : ℕ → Bool) (from : ℕ) → rowLowestFrom w (rowOf w p) from ≡ seek p (w * 64 - from) from
+from-rowOf w p from = seek-same (rowBit (rowOf w p)) p (w * 64 - from) from (λ c h u. rowBit-rowOf w p c (omega arith))
 
-    go : (c : ℕ) → c < i * 64 + trailingZeros 64 (getD l i 0) → Dec (c < i * 64) → rowBit l c ≡ false
-    go c k (yes b) = rowBit-none l c (h (c / 64) (omega arith))
-    go c k (no b) =
-        let w : c / 64 ≡ i = omega (arith, r .below) in
-        ap (λ (x : ℕ). bit (getD l x 0) (c % 64)) w ∙ r .before (c % 64) (omega arith)
+-- what the word of configuration c has from c on
+abbrev pub rest : List ℕ → ℕ → ℕ
+rest l c = getD l (c / 64) 0 / 2 ^ (c % 64)
+
+rest-bit : (l : List ℕ) (c k : ℕ) → c ≤ k → k < (c / 64 + 1) * 64 → rowBit l k ≡ bit (rest l c) (k - c)
+rest-bit l c k h g =
+    let e : k / 64 ≡ c / 64 = omega arith in
+    let f : k % 64 ≡ c % 64 + (k - c) = omega arith in
+    ap₂ (λ (x y : ℕ). bit (getD l x 0) y) e f ∙ sym (bit-shifted (getD l (c / 64) 0) (c % 64) (k - c))
+
+-- a search from `from` on has come to c: the row has no configuration between
+pub record Passed (l : List ℕ) (from c : ℕ) : Type 0 where
+  pub after : from ≤ c
+  pub none : (k : ℕ) → from ≤ k → k < c → rowBit l k ≡ false
+
+pub passed-none : (l : List ℕ) (from : ℕ) → Passed l from from
+passed-none l from = record { after = le-refl from; none = λ k h g. absurd (omega arith) }
+
+module _ {l : List ℕ} {from c : ℕ} (P : Passed l from c) where
+  -- the word of c has nothing from c on: it is passed
+  pub passed-word : rest l c ≡ 0 → Passed l from ((c / 64 + 1) * 64)
+  passed-word e = record { after = omega (arith, P .after); none = λ k h g. go k h g (decLt k c) }
+    where
+      go : (k : ℕ) → from ≤ k → k < (c / 64 + 1) * 64 → Dec (k < c) → rowBit l k ≡ false
+      go k h g (yes b) = P .none k h b
+      go k h g (no b) = rest-bit l c k (omega arith) g ∙ ap (λ (x : ℕ). bit x (k - c)) e ∙ bit-none (k - c)
+
+  module _ (n : ℕ) where
+    -- it has something: the lowest is found at the trailing zeros
+    pub found-at : c < n * 64 → getD l (c / 64) 0 < 2 ^ 64 → rest l c ≢ 0 → rowLowestFrom n l from ≡ Found.At (c + trailingZeros 64 (rest l c))
+    found-at g f e =
+        least-seek (rowBit l) (n * 64 - from) from (c + t) (record {
+          within = (omega (arith, P .after), omega (arith, P .after, r .below));
+          holds = rest-bit l c (c + t) (omega arith) (omega (arith, r .below)) ∙ ap (bit (rest l c)) back ∙ r .holds;
+          before = λ k h b. go k h b (decLt k c);
+        })
+      where
+        t : ℕ
+        t = trailingZeros 64 (rest l c)
+
+        r : First (bit (rest l c)) (64 - c % 64) t
+        r = shifted-first 64 (getD l (c / 64) 0) (c % 64) f e
+
+        back : c + t - c ≡ t
+        back = omega arith
+
+        go : (k : ℕ) → from ≤ k → k < c + t → Dec (k < c) → rowBit l k ≡ false
+        go k h b (yes d) = P .none k h d
+        go k h b (no d) = rest-bit l c k (omega arith) (omega (arith, r .below)) ∙ r .before (k - c) (omega arith)
+
+    -- every word is passed
+    pub found-nothing : n * 64 ≤ c → rowLowestFrom n l from ≡ Found.Nothing
+    found-nothing g = nothing-seek (rowBit l) (n * 64 - from) from (λ k h u. P .none k h (omega arith))
+
+-- ---- how many configurations
+
+-- one word more: its ones
+pub count-word : (n : ℕ) (l : List ℕ) → getD l n 0 < 2 ^ 64 → rowCount (n + 1) l ≡ rowCount n l + ones (getD l n 0)
+count-word n l h =
+    let e : (n + 1) * 64 ≡ n * 64 + 64 = omega arith in
+    ap (countBelow (rowBit l)) e ∙ count-add (rowBit l) (n * 64) 64
+    ∙ ap (λ (x : ℕ). rowCount n l + x)
+    (count-same (λ j. rowBit l (n * 64 + j)) (bit (getD l n 0)) 64 (rowBit-word l n) ∙ sym (ones-count 64 (getD l n 0) h))
 
 -- ---- rows one after another in a longer list
 

@@ -4,7 +4,7 @@ use mathlib.Core.Path.{_≡_, refl, sym, ap, ap₂, _∙_}
 use mathlib.Core.Bool.{Bool, true, false, cond, not, _&&_, _||_, and-eq-true-iff, or-true, false≢true, Bool·not-not}
 use mathlib.Core.Logic.{⊎-elim, _≢_}
 use native.Mathlib.Nat.{eq-or-lt-of-le, le-refl, add-zero, suc-add, not-suc-le-zero, le-of-suc-le-suc}
-use native.Mathlib.Numerals.{add-one}
+use native.Mathlib.Numerals.{add-one, unary-clauses}
 use native.Mathlib.Decide.{le-ind, decLt}
 use native.Mathlib.Omega.{arith}
 use borrow.Author.Tests.{not-true, not-false, eqb-true, eq-eqb}
@@ -194,6 +194,11 @@ module _ (f g : ℕ → Bool) where
 pub count-head : (test : ℕ → Bool) (n : ℕ) → countBelow test (suc n) ≡ cond (test 0) 1 0 + countBelow (λ j. test (suc j)) n
 count-head test zero = omega arith
 count-head test (suc n) = omega (arith, count-head test n)
+
+-- the first m numbers, and n more
+pub count-add : (test : ℕ → Bool) (m n : ℕ) → countBelow test (m + n) ≡ countBelow test m + countBelow (λ j. test (m + j)) n
+count-add test m zero = simp unary-clauses
+count-add test m (suc n) = simp unary-clauses (omega (arith, count-add test m n))
 
 -- g holds where f does, and at a besides
 pub count-besides : (f g : ℕ → Bool) (a n : ℕ) → a < n → f a ≡ false → g a ≡ true → ((i : ℕ) → i ≢ a → g i ≡ f i)

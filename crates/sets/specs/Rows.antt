@@ -1,5 +1,5 @@
 -- Rows: sets of configurations as lists of 64-bit words, for any number of words and of features.
-use Prim.Native.Nat.{ℕ, _+_, _*_, _/_, _%_, _^_, _<_, _≤_}
+use Prim.Native.Nat.{ℕ, _+_, _-_, _*_, _/_, _%_, _^_, _<_, _≤_}
 use mathlib.Core.Path.{_≡_}
 use mathlib.Core.Bool.{Bool, _&&_, not}
 use mathlib.Core.List.{List, _++_}
@@ -7,7 +7,7 @@ use lib.ListN.{length, getD, take, drop}
 use lib.Dec.{ltb}
 use lib.Bits.{bitAnd, bitOr}
 use Rattle.sets.specs.declared.Found.{Found}
-use Rattle.sets.specs.Search.{lowest, someBelow}
+use Rattle.sets.specs.Search.{seek, lowest, someBelow, countBelow}
 use Rattle.sets.specs.Lists.{table}
 use Rattle.sets.specs.Bits.{bit, bitsOf, difference}
 
@@ -48,6 +48,14 @@ rowIsEmpty words row = not (someBelow (rowBit row) (words * 64))
 -- the lowest configuration that the row has
 abbrev pub rowLowest : ℕ → List ℕ → Found
 rowLowest words row = lowest (rowBit row) (words * 64)
+
+-- the lowest that is not below `from`
+abbrev pub rowLowestFrom : ℕ → List ℕ → ℕ → Found
+rowLowestFrom words row from = seek (rowBit row) (words * 64 - from) from
+
+-- how many configurations the row has
+abbrev pub rowCount : ℕ → List ℕ → ℕ
+rowCount words row = countBelow (rowBit row) (words * 64)
 
 -- rows of `width` words, one after another in a longer list: that of number a, and the list with another in its place
 abbrev pub rowIn : ℕ → List ℕ → ℕ → List ℕ

@@ -1,12 +1,13 @@
 // Rows: sets of configurations.
 use crate::Found;
 ghost use mathlib.Core.Path.{_≡_};
-ghost use mathlib.Core.Bool.{true, false};
+ghost use mathlib.Core.Bool.{true, false, not};
 ghost use Prim.Native.Nat.{_+_, _*_, _<_, _≤_, _^_};
 ghost use lib.ListN.{length};
 ghost use lib.Dec.{ltb};
 ghost use Rattle.sets.specs.Bits.{bit};
-ghost use Rattle.sets.specs.Rows.{rowBit, wordOf, rowOf, within, rowJoin, rowIntersect, rowMinus, rowIsEmpty, rowLowest, rowIn, withRow};
+ghost use Rattle.sets.specs.Rows.{rowBit, wordOf, rowOf, within, rowJoin, rowIntersect, rowMinus, rowIsEmpty};
+ghost use Rattle.sets.specs.Rows.{rowLowest, rowLowestFrom, rowCount, rowIn, withRow};
 
 // A set of configurations below 1,024: configuration c is bit c mod 64 of word c div 64.
 pub struct Row {
@@ -129,16 +130,37 @@ impl Row {
     pub fn lowest(self) -> Found
         ensures { λ r. ⌜ r ≡ rowLowest 16 (self .words) ⌝ }
     {
+        self.lowest_from(0)
+    }
+
+    // The lowest configuration of the row that is not below `from`. The word of `from` is read from there on, and each after it whole.
+    pub fn lowest_from(self, from: usize) -> Found
+        ensures { λ r. ⌜ r ≡ rowLowestFrom 16 (self .words) from ⌝ }
+    {
         let words = self.words;
-        let mut w = 0;
-        while w < Row::WORDS {
-            let word = words[w];
-            if word != 0 {
-                return Found::At(w * 64 + u64::trailing_zeros(word) as usize);
+        let mut c = from;
+        while c < Row::WORDS * 64 {
+            let rest = words[c / 64] >> (c % 64);
+            if rest != 0 {
+                return Found::At(c + u64::trailing_zeros(rest) as usize);
             }
-            w += 1;
+            c = (c / 64 + 1) * 64;
         }
         Found::Nothing
+    }
+
+    // How many configurations the row has.
+    pub fn count(self) -> usize
+        ensures { λ r. ⌜ r ≡ rowCount 16 (self .words) ⌝ }
+    {
+        let words = self.words;
+        let mut many = 0;
+        let mut w = 0;
+        while w < Row::WORDS {
+            many += u64::count_ones(words[w]) as usize;
+            w += 1;
+        }
+        many
     }
 
     // Row number a of the rows that lie one after another in `rows`.
@@ -154,6 +176,23 @@ impl Row {
             w += 1;
         }
         Row { words: words }
+    }
+
+    // The row has a configuration in common with row number a of those rows: most rows that have one have it in an early word, where the search ends.
+    pub fn meets(self, rows: &[u64], a: usize) -> bool
+        requires { ⌜ a * 16 + 16 ≤ length (now rows) ⌝ }
+        ensures { λ r. ⌜ r ≡ not (rowIsEmpty 16 (rowIntersect 16 (self .words) (rowIn 16 (now (rows .entry)) a))) ⌝ }
+    {
+        let words = self.words;
+        let at = a * Row::WORDS;
+        let mut w = 0;
+        while w < Row::WORDS {
+            if words[w] & rows[at + w] != 0 {
+                return true;
+            }
+            w += 1;
+        }
+        false
     }
 
     // Stores this row as number a of the rows that lie one after another in `rows`.

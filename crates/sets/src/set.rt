@@ -31,6 +31,9 @@ impl AttributeSet {
 
     pub const MOST_QUERIES: usize = 256;
 
+    // Small tables have at most so many forms: they do not pay for clearing the scratch of large ones.
+    pub const SMALL: usize = 16;
+
     pub fn empty() -> AttributeSet
         ensures { λ r. ⌜ r .bits ≡ 0 ⌝ }
     {

@@ -1,11 +1,10 @@
 -- The typing check from the rows of the configurations at which each form fails: it names the lowest form whose row is not empty, and the
--- lowest configuration of that row.
+-- lowest configuration of that row, at which it answers as at that configuration alone.
 use Prim.Native.Nat.{ℕ, zero, suc, _≤_, _<_}
 use mathlib.Core.Path.{_≡_, refl, sym, ap, _∙_}
 use mathlib.Core.Bool.{Bool, true, false, cond, not, Bool·not-not, false≢true}
 use mathlib.Core.List.{List}
 use native.Mathlib.Omega.{arith}
-use borrow.Author.Tests.{eq-eqb, ne-eqb}
 use lib.Pow.{pow-mono}
 use Rattle.sets.specs.declared.Found.{Found}
 use Rattle.sets.specs.Search.{lowest, isFound, someBelow, First}
@@ -14,15 +13,16 @@ use Rattle.sets.proofs.SearchLaws.{lowest-nothing, lowest-at, some-none, some-a
 use Rattle.sets.proofs.RowLaws.{empty-rowOf, lowest-rowOf}
 use Rattle.report.specs.Tables.{Tables, queryCount}
 use Rattle.report.specs.Expressions.{configurations, permitted}
-use Rattle.report.specs.Typing.{faults, fails}
+use Rattle.report.specs.Typing.{fails}
 use Rattle.report.specs.Checks.{faultRefusal, typingCheck}
 use Rattle.report.specs.Formed.{Formed}
 use Rattle.report.specs.TypingFaults.{TypingFault}
 use Rattle.report.specs.declared.Verdict.{Verdict}
-use Rattle.report.proofs.TreeLaws.{fails-where, holds-where}
-use Rattle.report.proofs.TypingLaws.{permitted-within, fails-permitted, typing-accepted, typing-refused}
+use Rattle.report.proofs.TypingLaws.{fails-permitted, typing-accepted, typing-refused}
 use Rattle.fault_rows.specs.FaultRows.{failsAt, failingRow}
-use Rattle.typing.specs.Typed.{rowed, told}
+use Rattle.typing_at.specs.TypingAt.{typingHere}
+use Rattle.typing_at.proofs.EachLaws.{fault-here}
+use Rattle.typing.specs.Typed.{rowed}
 
 -- Form q fails at c in this phase, at no configuration in an earlier one, and at none lower in this
 record Failing (T : Tables) (q c : ℕ) : Type 0 where
@@ -30,7 +30,6 @@ record Failing (T : Tables) (q c : ℕ) : Type 0 where
   isPhase : phase < 2
   lowest-in : First (λ d. fails T d phase q) 1024 c
   earlier : (p d : ℕ) → p < phase → d < configurations T → fails T d p q ≡ false
-  toldIs : told T q c ≡ faultRefusal T q phase c
 
 module _ (T : Tables) (q : ℕ) where
   -- a form that fails at no configuration in its first phase that fails at any, fails in none
@@ -59,26 +58,18 @@ module _ (T : Tables) (q : ℕ) where
       here phase same = record { below = f .below; holds = sym (same c) ∙ f .holds; before = λ d l. sym (same d) ∙ f .before d l }
 
       go : (t : Bool) → someBelow (λ d. fails T d 0 q) (configurations T) ≡ t → Failing T q c
-      go true s =
-          let l = here 0 (λ d. ap (λ (t : Bool). cond t (fails T d 0 q) (fails T d 1 q)) s) in
-          record {
-            phase = 0;
-            isPhase = omega arith;
-            lowest-in = l;
-            earlier = λ p d n. absurd (omega arith);
-            toldIs = ap (λ (t : Bool). cond t (faultRefusal T q 1 c) (faultRefusal T q 0 c)) (ne-eqb (faults T c 0 q) 0 (fails-where T c q 0 .0 (l .holds) .1));
-          }
-      go false s =
-          let l = here 1 (λ d. ap (λ (t : Bool). cond t (fails T d 0 q) (fails T d 1 q)) s) in
-          let r = fails-where T c q 1 .0 (l .holds) .0 in
-          let k = some-none (λ d. fails T d 0 q) (configurations T) s c (permitted-within T c (fails-permitted T c 1 q (l .holds))) in
-          record {
-            phase = 1;
-            isPhase = omega arith;
-            lowest-in = l;
-            earlier = λ p d n h. ap (λ (i : ℕ). fails T d i q) (omega arith) ∙ some-none (λ d. fails T d 0 q) (configurations T) s d h;
-            toldIs = ap (λ (t : Bool). cond t (faultRefusal T q 1 c) (faultRefusal T q 0 c)) (eq-eqb (faults T c 0 q) 0 (holds-where T c q 0 .0 k r));
-          }
+      go true s = record {
+        phase = 0;
+        isPhase = omega arith;
+        lowest-in = here 0 (λ d. ap (λ (t : Bool). cond t (fails T d 0 q) (fails T d 1 q)) s);
+        earlier = λ p d n. absurd (omega arith);
+      }
+      go false s = record {
+        phase = 1;
+        isPhase = omega arith;
+        lowest-in = here 1 (λ d. ap (λ (t : Bool). cond t (fails T d 0 q) (fails T d 1 q)) s);
+        earlier = λ p d n h. ap (λ (i : ℕ). fails T d i q) (omega arith) ∙ some-none (λ d. fails T d 0 q) (configurations T) s d h;
+      }
 
 module _ {T : Tables} (F : Formed T) {rows : List ℕ} (R : RowsAre 16 (queryCount T) (failingRow T) rows) where
   -- a row is not empty where its form fails at some configuration
@@ -136,5 +127,6 @@ module _ {T : Tables} (F : Formed T) {rows : List ℕ} (R : RowsAre 16 (queryCou
         lowerConfigurations = failing .lowest-in .before;
       }
 
-      pub rows-refused : typingCheck T ≡ Verdict.Refused (told T q c)
-      rows-refused = typing-refused T (faultRefusal T q (failing .phase) c) .1 rows-fault ∙ ap Verdict.Refused (sym (failing .toldIs))
+      -- so its answer is that at this configuration
+      pub rows-refused : typingHere T c ≡ typingCheck T
+      rows-refused = fault-here rows-fault ∙ sym (typing-refused T (faultRefusal T q (failing .phase) c) .1 rows-fault)

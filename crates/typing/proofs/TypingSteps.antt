@@ -1,23 +1,18 @@
 -- What the parts of the typing check hand to one another.
-use Prim.Native.Nat.{ℕ, _+_, _*_, _/_, _<_, _≤_}
-use mathlib.Core.Path.{_≡_, sym, ap, ap₂, _∙_}
-use mathlib.Core.Bool.{Bool, true, false, cond}
+use Prim.Native.Nat.{ℕ, _+_, _*_, _/_, _≤_}
+use mathlib.Core.Path.{_≡_, sym, ap, _∙_}
 use mathlib.Core.List.{List}
+use native.Mathlib.Nat.{le-refl}
 use native.Mathlib.Omega.{arith}
 use lib.ListN.{length, replicate, length-replicate}
-use lib.Dec.{eqb}
 use Rattle.sets.specs.declared.Found.{Found}
 use Rattle.sets.specs.Search.{lowest}
-use Rattle.sets.specs.Bits.{lowestMember}
 use Rattle.sets.specs.Lists.{concat}
 use Rattle.sets.specs.Rows.{rowIn, rowLowest}
-use Rattle.report.specs.Tables.{Tables, query, comparisonCount, queryCount}
-use Rattle.report.specs.Typing.{faults}
+use Rattle.report.specs.Tables.{Tables, comparisonCount, queryCount}
+use Rattle.report.specs.Expressions.{configurations}
 use Rattle.report.specs.Configuring.{written}
-use Rattle.report.specs.Verdicts.{refusal}
-use Rattle.report.specs.Checks.{ruleNumber, faultRefusal, typingCheck}
-use Rattle.report.specs.declared.Query.{Query}
-use Rattle.report.specs.declared.Refusal.{Refusal}
+use Rattle.report.specs.Checks.{typingCheck}
 use Rattle.report.specs.declared.Verdict.{Verdict}
 use Rattle.report.proofs.FormedFacts.{counts}
 use Rattle.report.proofs.TypingLaws.{permitted-within}
@@ -28,45 +23,15 @@ use Rattle.fault_rows.specs.FaultRows.{failingRow, FailReads, FailReadable, Fai
 use Rattle.fault_rows.proofs.FaultLaws.{columns-shown}
 use Rattle.fault_rows.proofs.FailLaws.{fails-rows}
 use Rattle.fault_rows.proofs.ClashLaws.{failing-rows}
-use Rattle.faults_at.specs.FaultsAt.{FaultsReads, ClashesReads}
-use Rattle.faults_at.proofs.FaultLaws.{reads-clashes}
-use Rattle.typing.specs.Typed.{rowed, told, RowsReads, TypingReads, SecondReads, SecondReadable, FailingReadable, FailingFilled, Checked}
+use Rattle.typing_at.specs.TypingAt.{typingHere, HereReads, EachReads, EachReadable, EachChecked}
+use Rattle.typing_at.proofs.EachLaws.{each-typing}
+use Rattle.typing.specs.Typed.{rowed, RowsReads, TypingReads, TypingReadable, SecondReads, SecondReadable, FailingReadable, FailingFilled, Checked}
 use Rattle.typing.proofs.RowsVerdict.{rows-accepted, form-in, row-some, configuration-permitted, rows-refused}
-
--- ---- the refusal of one form at one configuration
-
-module _ {T : Tables} {conditions relationEntries projectEntries relations comparisons queries kinds : List ℕ} {q c : ℕ}
-    (R : FaultsReads T conditions relationEntries projectEntries relations comparisons queries kinds q c) where
-  pub told-in : q < length queries / 4
-  told-in = rw (R .prepared .queriesAre) (R .inside)
-
-  -- these items are at fault in form q by its rule, and `none` says whether there are any
-  module _ {bits : ℕ} {none : Bool}
-      (found : (T : Tables) → FaultsReads T conditions relationEntries projectEntries relations comparisons queries kinds q c → bits ≡ faults T c 0 q)
-      (tested : none ≡ eqb bits 0)
-    where
-      told-by : {t : Bool} → none ≡ t → cond t (faultRefusal T q 1 c) (faultRefusal T q 0 c) ≡ told T q c
-      told-by e = ap (λ (t : Bool). cond t (faultRefusal T q 1 c) (faultRefusal T q 0 c)) (sym e ∙ tested ∙ ap (λ (s : ℕ). eqb s 0) (found T R))
-
-      -- there are: form q is x
-      pub told-first : {number : ℕ} {x : Query} {r : Refusal} → none ≡ false → x ≡ query queries q → number ≡ ruleNumber x
-          → r ≡ refusal number q (lowestMember bits) c → r ≡ told T q c
-      told-first e form numbered is =
-          is
-          ∙ ap₂ (λ (n i : ℕ). refusal n q i c) (numbered ∙ ap ruleNumber (form ∙ ap (λ (t : List ℕ). query t q) (R .prepared .queriesAre)))
-          (ap lowestMember (found T R))
-          ∙ told-by e
-
-      -- there are none: these left attributes are at fault
-      pub told-second : {clashing : ℕ} {r : Refusal} → none ≡ true
-          → ((T : Tables) → ClashesReads T conditions comparisons queries kinds q c → clashing ≡ faults T c 1 q)
-          → r ≡ refusal 25 q (lowestMember clashing) c → r ≡ told T q c
-      told-second e clashes is = is ∙ ap (λ (s : ℕ). refusal 25 q (lowestMember s) c) (clashes T (reads-clashes R)) ∙ told-by e
 
 -- ---- the answer from the rows
 
-module _ {T : Tables} {conditions relationEntries projectEntries relations comparisons queries kinds rows : List ℕ}
-    (R : RowsReads T conditions relationEntries projectEntries relations comparisons queries kinds rows)
+module _ {T : Tables} {conditions relationEntries projectEntries relations comparisons queries kinds reach rows : List ℕ}
+    (R : RowsReads T conditions relationEntries projectEntries relations comparisons queries kinds reach rows)
   where
     count-is : length queries / 4 ≡ queryCount T
     count-is = ap (λ (t : List ℕ). length t / 4) (R .prepared .queriesAre)
@@ -97,20 +62,18 @@ module _ {T : Tables} {conditions relationEntries projectEntries relations compa
           no-configuration d = absurd (row-some (R .prepared .formed) (R .failing) at-form (sym found-row ∙ d))
 
           module _ {c : ℕ} (d : configuration ≡ Found.At c) where
-            pub form-told : FaultsReads T conditions relationEntries projectEntries relations comparisons queries kinds q c
-            form-told = record {
+            pub here-reads : HereReads T conditions relationEntries projectEntries relations comparisons queries kinds reach c
+            here-reads = record {
               prepared = R .prepared;
               kindsAre = R .kindsAre;
-              inside = form-in (R .prepared .formed) (R .failing) at-form;
-              configuration = permitted-within T c (configuration-permitted (R .prepared .formed) (R .failing) at-form (sym found-row ∙ d));
+              reaching = R .reaching;
+              inside = permitted-within T c (configuration-permitted (R .prepared .formed) (R .failing) at-form (sym found-row ∙ d));
             }
 
-            pub form-refused : {r : Refusal}
-                → ((T : Tables) → FaultsReads T conditions relationEntries projectEntries relations comparisons queries kinds q c → r ≡ told T q c)
-                → Verdict.Refused r ≡ typingCheck T
-            form-refused tell =
-                ap Verdict.Refused (tell T form-told)
-                ∙ sym (rows-refused (R .prepared .formed) (R .failing) at-form (sym found-row ∙ d))
+            pub here-answers : {v : Verdict}
+                → ((T : Tables) → HereReads T conditions relationEntries projectEntries relations comparisons queries kinds reach c → v ≡ typingHere T c)
+                → v ≡ typingCheck T
+            here-answers tell = tell T here-reads ∙ rows-refused (R .prepared .formed) (R .failing) at-form (sym found-row ∙ d)
 
 -- ---- the rows, from the tables
 
@@ -194,10 +157,39 @@ module _ {T : Tables} {conditions full permits reach relationEntries projectEntr
     (F : (T : Tables) → TypingReads T conditions full permits reach relationEntries projectEntries relations comparisons queries kinds items
     → FailingFilled T rows columns)
   where
-    pub rows-read : RowsReads T conditions relationEntries projectEntries relations comparisons queries kinds rows
-    rows-read = record { prepared = R .reads .prepared; kindsAre = R .reads .kindsAre; failing = F T R .failing }
+    pub rows-read : RowsReads T conditions relationEntries projectEntries relations comparisons queries kinds reach rows
+    rows-read = record { prepared = R .reads .prepared; kindsAre = R .reads .kindsAre; reaching = R .reads .reaching; failing = F T R .failing }
 
     pub typing-checked : {v : Verdict}
-        → ((T : Tables) → RowsReads T conditions relationEntries projectEntries relations comparisons queries kinds rows → v ≡ typingCheck T)
+        → ((T : Tables) → RowsReads T conditions relationEntries projectEntries relations comparisons queries kinds reach rows → v ≡ typingCheck T)
         → Checked T v columns
     typing-checked told = record { answers = told T rows-read; shows = F T R .shows }
+
+-- ---- the choice between the two ways
+
+-- what the way configuration by configuration reads is among it
+module _ {conditions full permits reach relationEntries projectEntries relations comparisons queries kinds : List ℕ} {items : ℕ} where
+  each-reads : {T : Tables} → TypingReads T conditions full permits reach relationEntries projectEntries relations comparisons queries kinds items
+      → EachReads T conditions permits reach relationEntries projectEntries relations comparisons queries kinds items
+  each-reads R = record {
+    prepared = R .reads .prepared;
+    kindsAre = R .reads .kindsAre;
+    permitting = R .reads .permitting;
+    reaching = R .reads .reaching;
+    enough = R .enough .attributes;
+  }
+
+  pub each-readable : {columns : List ℕ}
+      → TypingReadable conditions full permits reach relationEntries projectEntries relations comparisons queries kinds items columns
+      → EachReadable conditions permits reach relationEntries projectEntries relations comparisons queries kinds items columns
+  each-readable A = record { tables = A .tables; reads = each-reads (A .reads); most = A .reads .enough .most; clear = A .clear }
+
+  -- and it answers the same (each-typing), whatever the number of configurations up to which it is taken
+  pub each-checked : {v : Verdict} {columns : List ℕ}
+      → ((T : Tables) → EachReads T conditions permits reach relationEntries projectEntries relations comparisons queries kinds items
+      → EachChecked T v columns)
+      → (T : Tables) → TypingReads T conditions full permits reach relationEntries projectEntries relations comparisons queries kinds items
+      → Checked T v columns
+  each-checked C T R =
+      let E = C T (each-reads R) in
+      record { answers = E .answers ∙ each-typing T (configurations T) (le-refl (configurations T)); shows = E .shows }

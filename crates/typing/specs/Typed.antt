@@ -1,16 +1,13 @@
 -- What the typing check works with, and what it reads.
 use Prim.Native.Nat.{ℕ}
 use mathlib.Core.Path.{_≡_}
-use mathlib.Core.Bool.{Bool, cond, not}
+use mathlib.Core.Bool.{Bool, not}
 use mathlib.Core.List.{List}
 use lib.ListN.{replicate}
-use lib.Dec.{eqb}
 use Rattle.sets.specs.Rows.{rowIn, rowIsEmpty, RowsAre}
 use Rattle.report.specs.Tables.{Tables, queryCount}
-use Rattle.report.specs.Typing.{faults}
 use Rattle.report.specs.ColumnRows.{columnRows}
-use Rattle.report.specs.Checks.{faultRefusal, typingCheck}
-use Rattle.report.specs.declared.Refusal.{Refusal}
+use Rattle.report.specs.Checks.{typingCheck}
 use Rattle.report.specs.declared.Verdict.{Verdict}
 use Rattle.conditions.specs.Conditions.{Prepared, ReachFilled}
 use Rattle.attribute_rows.specs.AttributeRows.{GatheredReads}
@@ -20,22 +17,18 @@ use Rattle.fault_rows.specs.FaultRows.{failsRow, failingRow, FailReads, Items}
 abbrev pub rowed : List ℕ → ℕ → Bool
 rowed rows q = not (rowIsEmpty 16 (rowIn 16 rows q))
 
-module _ (T : Tables) where
-  -- what is told of form q at c where it is not known which phase fails: the second where the first finds nothing there
-  abbrev pub told : ℕ → ℕ → Refusal
-  told q c = cond (eqb (faults T c 0 q) 0) (faultRefusal T q 1 c) (faultRefusal T q 0 c)
-
 -- ---- what each function reads of tables T; `..Readable`: there are such tables
 
--- a row for each form, of the configurations at which it fails, and what its items at fault are worked out from
-pub record RowsReads (T : Tables) (conditions relationEntries projectEntries relations comparisons queries kinds rows : List ℕ) : Type 0 where
+-- a row for each form, of the configurations at which it fails, and what the answer at one of them is worked out from
+pub record RowsReads (T : Tables) (conditions relationEntries projectEntries relations comparisons queries kinds reach rows : List ℕ) : Type 0 where
   pub prepared : Prepared T conditions relationEntries projectEntries relations comparisons queries
   pub kindsAre : kinds ≡ T .kinds
+  pub reaching : ReachFilled T reach
   pub failing : RowsAre 16 (queryCount T) (failingRow T) rows
 
-pub record RowsReadable (conditions relationEntries projectEntries relations comparisons queries kinds rows : List ℕ) : Type 0 where
+pub record RowsReadable (conditions relationEntries projectEntries relations comparisons queries kinds reach rows : List ℕ) : Type 0 where
   pub tables : Tables
-  pub reads : RowsReads tables conditions relationEntries projectEntries relations comparisons queries kinds rows
+  pub reads : RowsReads tables conditions relationEntries projectEntries relations comparisons queries kinds reach rows
 
 -- what fault rows are worked out from, and a bound of the items that can be at fault
 pub record TypingReads (T : Tables) (conditions full permits reach relationEntries projectEntries relations comparisons queries kinds : List ℕ)

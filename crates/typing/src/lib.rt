@@ -1,31 +1,27 @@
-// Checks 15 to 19 and 25: the lowest form that fails, in its first phase that fails at any configuration, the lowest failing configuration of that phase
-// and the lowest item at fault there; and the column rows.
+// Checks 15 to 19 and 25, and the column rows: configuration by configuration where few are permitted, and else by rows of all configurations. By rows
+// the lowest form that fails, in its first phase that fails at any configuration, and the lowest failing configuration of that phase are found first,
+// and the answer is that at this configuration.
 use attribute_rows::fill_gathered_rows;
 use comparisons::Gathered;
-use decoders::query_at;
 use fault_rows::add_clashes;
 use fault_rows::fill_faults;
-use faults_at::clashes_at;
-use faults_at::faults_at;
-use report::Query;
-use report::Refusal;
 use report::Verdict;
 use sets::AttributeSet;
 use sets::Found;
 use sets::Row;
+use typing_at::check_at;
+use typing_at::check_each;
 ghost use mathlib.Core.Path.{_≡_};
 ghost use Prim.Native.Nat.{_*_, _≤_};
 ghost use lib.ListN.{length};
 ghost use Rattle.sets.specs.Search.{lowest};
-ghost use Rattle.sets.specs.Bits.{lowestMember};
 ghost use Rattle.sets.specs.Lists.{concat};
 ghost use Rattle.report.specs.Tables.{Tables, queryCount};
 ghost use Rattle.report.specs.Configuring.{written};
-ghost use Rattle.report.specs.Verdicts.{refusal};
-ghost use Rattle.report.specs.Checks.{ruleNumber, typingCheck};
+ghost use Rattle.report.specs.Checks.{typingCheck};
 ghost use Rattle.fault_rows.specs.FaultRows.{failingRow};
-ghost use Rattle.faults_at.specs.FaultsAt.{FaultsReads, FaultsReadable};
-ghost use Rattle.typing.specs.Typed.{rowed, told, RowsReads, RowsReadable, TypingReads, SecondReads, SecondReadable, FailingReadable, FailingFilled, TypingReadable, Checked};
+ghost use Rattle.typing.specs.Typed.{rowed, RowsReads, RowsReadable, TypingReads, SecondReads};
+ghost use Rattle.typing.specs.Typed.{SecondReadable, FailingReadable, FailingFilled, TypingReadable, Checked};
 
 // The lowest of `count` rows that is not empty.
 fn lowest_row(rows: &[u64], count: usize) -> Found
@@ -43,84 +39,6 @@ fn lowest_row(rows: &[u64], count: usize) -> Found
     Found::Nothing
 }
 
-// The number of a query form's rule, the first that is looked for.
-fn rule_number(x: Query) -> u64
-    ensures { λ r. ⌜ r ≡ ruleNumber x ⌝ }
-{
-    match x {
-        Query::Malformed => 0,
-        Query::Empty => 0,
-        Query::Relation(_) => 15,
-        Query::Select(_, _) => 16,
-        Query::Project(_, _) => 17,
-        Query::Choice(_, _, _) => 0,
-        Query::Product(_, _) => 18,
-        Query::Union(_, _) => 19,
-        Query::Intersection(_, _) => 19,
-    }
-}
-
-// The lowest of the items at fault; 0 stands for none.
-fn lowest_item(found: AttributeSet) -> u64
-    ensures { λ r. ⌜ r ≡ lowestMember (found .bits) ⌝ }
-{
-    let item = found.lowest();
-    match item {
-        Found::At(a) => a as u64,
-        Found::Nothing => 0,
-    }
-}
-
-// The refusal by this number of form q at configuration c, where these items are at fault.
-fn refusal_of(number: u64, q: usize, found: AttributeSet, c: usize) -> Refusal
-    ensures { λ r. ⌜ r ≡ refusal number q (lowestMember (found .bits)) c ⌝ }
-{
-    Refusal {
-        number: number,
-        place: q as u64,
-        item: lowest_item(found),
-        configuration: c as u64,
-    }
-}
-
-// The refusal of form q at configuration c: for what its rule finds there, and for kinds that differ where that is nothing.
-fn refusal_at(
-    relation_entries: &[u16],
-    project_entries: &[u16],
-    relations: &[u16],
-    comparisons: &[u16],
-    queries: &[u16],
-    kinds: &[u16],
-    conditions: &[u64],
-    q: usize,
-    c: usize,
-) -> Refusal
-    requires { ⌜ FaultsReadable (now conditions) (now «relation_entries») (now «project_entries») (now relations) (now comparisons) (now queries)
-        (now kinds) q c ⌝ }
-    ensures { λ r.
-        ⌜ ((T : Tables)
-        → FaultsReads T (now (conditions .entry)) (now («relation_entries» .entry)) (now («project_entries» .entry)) (now (relations .entry))
-        (now (comparisons .entry)) (now (queries .entry)) (now (kinds .entry)) q c
-        → r ≡ told T q c) ⌝ }
-{
-    let found = faults_at(
-        relation_entries,
-        project_entries,
-        relations,
-        comparisons,
-        queries,
-        kinds,
-        conditions,
-        q,
-        c,
-    );
-    if found.is_empty() {
-        let clashing = clashes_at(comparisons, queries, kinds, conditions, q, c);
-        return refusal_of(25, q, clashing, c);
-    }
-    refusal_of(rule_number(query_at(queries, q)), q, found, c)
-}
-
 // The answer from the rows of the configurations at which each form fails. A row that is not empty has a lowest configuration, so the second
 // return is never taken.
 fn check_rows(
@@ -131,14 +49,15 @@ fn check_rows(
     queries: &[u16],
     kinds: &[u16],
     conditions: &[u64],
+    reach: &[u64],
     rows: &[u64],
 ) -> Verdict
     requires { ⌜ RowsReadable (now conditions) (now «relation_entries») (now «project_entries») (now relations) (now comparisons) (now queries)
-        (now kinds) (now rows) ⌝ }
+        (now kinds) (now reach) (now rows) ⌝ }
     ensures { λ v.
         ⌜ ((T : Tables)
         → RowsReads T (now (conditions .entry)) (now («relation_entries» .entry)) (now («project_entries» .entry)) (now (relations .entry))
-        (now (comparisons .entry)) (now (queries .entry)) (now (kinds .entry)) (now (rows .entry))
+        (now (comparisons .entry)) (now (queries .entry)) (now (kinds .entry)) (now (reach .entry)) (now (rows .entry))
         → v ≡ typingCheck T) ⌝ }
 {
     let form = lowest_row(rows, queries.len() / 4);
@@ -149,7 +68,7 @@ fn check_rows(
     let Found::At(c) = configuration else {
         return Verdict::Accepted;
     };
-    let refusal = refusal_at(
+    check_at(
         relation_entries,
         project_entries,
         relations,
@@ -157,10 +76,9 @@ fn check_rows(
         queries,
         kinds,
         conditions,
-        q,
+        reach,
         c,
-    );
-    Verdict::Refused(refusal)
+    )
 }
 
 // The second phase, 25: a row of the first phase that is empty becomes that of the configurations at which kinds differ. Done when the first phase has
@@ -237,9 +155,8 @@ fn fill_failing(
     add_second_phase(comparisons, queries, kinds, conditions, full, reach, rows);
 }
 
-// Checks 15 to 19 and 25 of tables whose expression rows `conditions` starts with and whose reach rows `reach` starts with, and the column rows,
-// whatever the answer. `full` has all configurations and `permitted` the permitted ones; every item at fault is below `items`.
-pub fn check_typing(
+// Checks 15 to 19 and 25 by rows of all configurations, and the column rows, whatever the answer.
+fn check_by_rows(
     relation_entries: &[u16],
     project_entries: &[u16],
     relations: &[u16],
@@ -285,6 +202,66 @@ pub fn check_typing(
         queries,
         kinds,
         conditions,
+        reach,
         &rows,
+    )
+}
+
+// How many permitted configurations are few: on reports of full size going through up to so many one by one takes less time than the rows of all do
+// (docs/changes/06-big-schema.md). Both ways answer the same, so the limit is a matter of time alone.
+const FEW: usize = 64;
+
+// Checks 15 to 19 and 25 of tables whose expression rows `conditions` starts with and whose reach rows `reach` starts with, and the column rows,
+// whatever the answer. `full` has all configurations and `permitted` the permitted ones; every item at fault is below `items`.
+pub fn check_typing(
+    relation_entries: &[u16],
+    project_entries: &[u16],
+    relations: &[u16],
+    comparisons: &[u16],
+    queries: &[u16],
+    kinds: &[u16],
+    conditions: &[u64],
+    full: Row,
+    permitted: Row,
+    items: usize,
+    reach: &[u64],
+    columns: &mut [u64],
+) -> Verdict
+    requires { ⌜ TypingReadable (now conditions) (full .words) (permitted .words) (now reach) (now «relation_entries») (now «project_entries»)
+        (now relations) (now comparisons) (now queries) (now kinds) items (now columns) ⌝ }
+    ensures { λ v.
+        ⌜ ((T : Tables)
+        → TypingReads T (now (conditions .entry)) (full .words) (permitted .words) (now (reach .entry)) (now («relation_entries» .entry))
+        (now («project_entries» .entry)) (now (relations .entry)) (now (comparisons .entry)) (now (queries .entry)) (now (kinds .entry)) items
+        → Checked T v (now (columns .exit))) ⌝ }
+{
+    if permitted.count() <= FEW {
+        return check_each(
+            relation_entries,
+            project_entries,
+            relations,
+            comparisons,
+            queries,
+            kinds,
+            conditions,
+            permitted,
+            items,
+            reach,
+            columns,
+        );
+    }
+    check_by_rows(
+        relation_entries,
+        project_entries,
+        relations,
+        comparisons,
+        queries,
+        kinds,
+        conditions,
+        full,
+        permitted,
+        items,
+        reach,
+        columns,
     )
 }

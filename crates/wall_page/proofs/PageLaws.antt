@@ -31,10 +31,9 @@ use Rattle.report.specs.declared.Verdict.{Verdict}
 use Rattle.report.proofs.VerdictLaws.{if-accepted}
 use Rattle.report.proofs.FirstFault.{first-none, first-one}
 use Rattle.report.proofs.TypingLaws.{permitted-within, permitted-1024, rows-length, shown-columns}
-use Rattle.conditions.proofs.PermittedLaws.{model-row}
 use Rattle.printing.proofs.PrintLaws.{permits-bit, shown-lines}
 use Rattle.judging.specs.Judging.{reportCheck}
-use Rattle.judging.proofs.JudgingLaws.{call-refused, call-late, Rows, shifted-configurations, shifted-few}
+use Rattle.judging.proofs.JudgingLaws.{call-refused, call-late, Columns, shifted-configurations, shifted-few}
 use Rattle.wall_page.specs.declared.PageAnswer.{PageAnswer}
 use Rattle.wall_page.specs.Page.{mark, pageLine, page, lineCount, writingPage, pageAnswer, PageWritten}
 use Rattle.wall_page.specs.Steps.{pageText, permittedCount, PageRead}
@@ -146,16 +145,13 @@ module _ (T : Tables) {checked : Verdict} (before : checked ≡ reportCheck T) (
   pub refused-answers : {r : Refusal} → checked ≡ Verdict.Refused r → PageWritten T lent (PageAnswer.Refused r) lent
   refused-answers f = answered (call-refused T (writingPage (length lent)) first-none before f) refl refl
 
-  module _ (passed : checked ≡ Verdict.Accepted) {conditions reach columns permits : List ℕ} (R : Rows T conditions reach columns)
-      (load : permits ≡ rowIn 16 conditions (T .model)) {lines : ℕ} (counted : lines ≡ permittedCount permits ((1 * 2 ^ T .features) % 2 ^ 64)) where
-    permitting : permits ≡ rowOf 16 (permitted T)
-    permitting = load ∙ model-row (R .formed) (R .filled) refl
-
+  module _ (passed : checked ≡ Verdict.Accepted) {permits columns : List ℕ} (C : Columns T permits columns) {lines : ℕ}
+      (counted : lines ≡ permittedCount permits ((1 * 2 ^ T .features) % 2 ^ 64)) where
     all : (1 * 2 ^ T .features) % 2 ^ 64 ≡ configurations T
-    all = shifted-configurations (R .formed) refl
+    all = shifted-configurations (C .formed) refl
 
     lines-are : lines ≡ lineCount T
-    lines-are = counted ∙ ap (permittedCount permits) all ∙ rows-count (R .formed) permitting (R .shows)
+    lines-are = counted ∙ ap (permittedCount permits) all ∙ rows-count (C .formed) (C .permitting) (C .shows)
 
     module _ {late : Verdict} (own : late ≡ refuseIf (ltb (length lent) (73 * lines)) (refusal 23 0 0 0)) where
       verdict : late ≡ answer T (writingPage (length lent))
@@ -174,7 +170,7 @@ module _ (T : Tables) {checked : Verdict} (before : checked ≡ reportCheck T) (
           fits =
               omega (
                 arith,
-                text-length permits ((1 * 2 ^ T .features) % 2 ^ 64) columns (shifted-few (R .formed) refl),
+                text-length permits ((1 * 2 ^ T .features) % 2 ^ 64) columns (shifted-few (C .formed) refl),
                 counted,
                 ltb-false (length lent) (73 * lines) (if-accepted (ltb (length lent) (73 * lines)) (refusal 23 0 0 0) (sym own ∙ f)),
               );
@@ -182,8 +178,8 @@ module _ (T : Tables) {checked : Verdict} (before : checked ≡ reportCheck T) (
 
         pub page-read : PageRead permits ((1 * 2 ^ T .features) % 2 ^ 64) columns lent 0
         page-read = record {
-          long = ap length (R .shows) ∙ rows-length T;
-          few = shifted-few (R .formed) refl;
+          long = ap length (C .shows) ∙ rows-length T;
+          few = shifted-few (C .formed) refl;
           room = room;
         }
 
@@ -192,5 +188,5 @@ module _ (T : Tables) {checked : Verdict} (before : checked ≡ reportCheck T) (
         page-left w =
             from-start room w
             ∙ ap (λ (text : List ℕ). written text lent)
-            (ap (λ (k : ℕ). pageText permits k columns) all ∙ rows-page (R .formed) permitting (R .shows))
+            (ap (λ (k : ℕ). pageText permits k columns) all ∙ rows-page (C .formed) (C .permitting) (C .shows))
             ∙ ap (λ (v : Verdict). after v (written (page T) lent) lent) (sym f)

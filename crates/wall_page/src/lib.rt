@@ -2,9 +2,7 @@
 mod line;
 
 use judging::COLUMN_WORDS;
-use judging::EXPRESSION_WORDS;
-use judging::REACH_WORDS;
-use judging::typed;
+use judging::typed_columns;
 use line::put_page_line;
 use printing::shown_at;
 use report::Refusal;
@@ -89,34 +87,29 @@ pub fn write_page(
         (now (queries .entry)) (now (kinds .entry))) (now (page .entry)) r (now (page .exit)) ⌝ }
 {
     let n = features as usize;
-    let model = model as usize;
-    let mut conditions = [0; EXPRESSION_WORDS];
-    let mut reach = [0; REACH_WORDS];
     let mut columns = [0; COLUMN_WORDS];
-    let checked = typed(
+    let judged = typed_columns(
         n,
         attributes as usize,
-        model,
+        model as usize,
         expressions,
         entries,
         relations,
         comparisons,
         queries,
         kinds,
-        &mut conditions,
-        &mut reach,
         &mut columns,
     );
+    let checked = judged.verdict;
     if let Verdict::Refused(r) = checked {
         return PageAnswer::Refused(r);
     }
-    let permitted = Row::load(&conditions, model);
     let count = 1 << n;
     // The lines are counted before any is written: a refused call changes no byte.
-    let lines = permitted_count(permitted, count);
+    let lines = permitted_count(judged.permitted, count);
     let late = refuse_if(page.len() < LINE_BYTES * lines, 23, 0);
     if let Verdict::Accepted = late {
-        put_page(page, 0, permitted, count, &columns);
+        put_page(page, 0, judged.permitted, count, &columns);
     }
     page_answer(late, lines)
 }

@@ -132,7 +132,8 @@ impl Run {
 /// A generated file of any family, sound or damaged.
 fn generated(seed: u64) -> Vec<u8> {
     let family = match Random::new(!seed).below(100) {
-        0..=29 => Family::Accepted,
+        0..=25 => Family::Accepted,
+        26..=29 => Family::Few,
         30..=32 => Family::Compared,
         33..=56 => Family::Fault,
         57..=65 => Family::Several,

@@ -6,6 +6,7 @@
 //! and the answers worked out, to the reference.
 
 pub(crate) mod exactly_one;
+mod few;
 mod find;
 pub(crate) mod kinds;
 pub(crate) mod page;
@@ -27,7 +28,7 @@ pub struct File {
 }
 
 /// All files.
-pub const FILES: [File; 5] = [
+pub const FILES: [File; 6] = [
     File {
         name: "find",
         first: 1001,
@@ -53,11 +54,19 @@ pub const FILES: [File; 5] = [
         first: 5001,
         cases: kinds::cases,
     },
+    File {
+        name: "few",
+        first: 6001,
+        cases: few::cases,
+    },
 ];
+
+/// The notes have no longer answer whole.
+const LONG: usize = 250;
 
 /// A call, with what it is for and its answer.
 pub struct Aimed {
-    pub note: &'static str,
+    pub note: String,
     /// The answer worked out by hand, as the lines from `gives` on have it.
     pub answer: String,
     pub case: Case,
@@ -78,22 +87,29 @@ impl File {
     }
 
     /// The lines of the notes: one for each case, with the first line of its
-    /// answer.
+    /// answer, or the first words of a long one.
     pub fn notes(&self) -> String {
         let line = |(number, Aimed { note, answer, .. })| {
             let answer: String = answer.lines().take(1).collect();
+            let answer = match answer.len() {
+                0..=LONG => answer,
+                _ => answer.split_inclusive(' ').take(10).collect::<String>() + "..",
+            };
             format!("{number}: {note}: {answer}\n")
         };
         self.numbered().into_iter().map(line).collect()
     }
 }
 
-fn aimed(note: &'static str, answer: impl Into<String>, case: Case) -> Aimed {
-    let answer = answer.into();
-    Aimed { note, answer, case }
+fn aimed(note: impl Into<String>, answer: impl Into<String>, case: Case) -> Aimed {
+    Aimed {
+        note: note.into(),
+        answer: answer.into(),
+        case,
+    }
 }
 
-fn check(note: &'static str, answer: &'static str, tables: Tables) -> Aimed {
+fn check(note: impl Into<String>, answer: impl Into<String>, tables: Tables) -> Aimed {
     aimed(note, answer, Case::Check { tables, room: ROWS })
 }
 

@@ -5,6 +5,7 @@ mod build;
 mod damage;
 mod fault;
 mod feature_ranges;
+mod few;
 mod kinds;
 mod mutate;
 mod repeat;
@@ -15,6 +16,7 @@ mod wanted;
 pub use build::Size;
 pub use damage::{damage, lengthened};
 pub use fault::{is_crossed, lengths_are_sound, more_comparisons, outcome, Limit, LIMITS};
+pub use few::{COUNTS, FORMS};
 pub use mutate::mutate;
 pub use repeat::{delay, has_repeat, most_often, without_repeats, Kept};
 pub use room::{page_room, page_room_by, Room, ROOMS};
@@ -46,6 +48,9 @@ pub enum Family {
     /// Columns of more than one kind; accepted or with a fault that has to do with
     /// kinds.
     Compared,
+    /// Exactly so many permitted configurations and forms, few or many; accepted or with
+    /// typing faults.
+    Few,
 }
 
 /// The family of a name.
@@ -59,6 +64,7 @@ pub fn family_of(name: &str) -> Option<Family> {
         "repeats" => Some(Family::Repeats),
         "wall" => Some(Family::Wall),
         "compared" => Some(Family::Compared),
+        "few" => Some(Family::Few),
         _ => None,
     }
 }
@@ -75,7 +81,8 @@ pub fn text_of(seed: u64, tables: &Tables) -> Vec<u8> {
 /// A case of a family chosen by the seed.
 pub fn case(seed: u64) -> Tables {
     let family = match Random::new(!seed).below(100) {
-        0..=50 => Family::Accepted,
+        0..=47 => Family::Accepted,
+        48..=50 => Family::Few,
         51..=53 => Family::Compared,
         54..=55 => Family::Wall,
         56..=81 => Family::Fault,
@@ -98,6 +105,7 @@ pub fn of_family(family: Family, seed: u64) -> Tables {
         Family::Repeats => repeats(seed),
         Family::Wall => wall(seed),
         Family::Compared => compared(seed),
+        Family::Few => few(seed),
     }
 }
 
@@ -178,6 +186,12 @@ pub fn repeats(seed: u64) -> Tables {
 /// Tables aimed at the limits of the wall page. All are accepted.
 pub fn wall(seed: u64) -> Tables {
     wall::tables(&mut Random::new(seed))
+}
+
+/// Tables with exactly so many permitted configurations and forms, few or many. They are
+/// accepted, or refused by a typing fault.
+pub fn few(seed: u64) -> Tables {
+    few::tables(&mut Random::new(seed))
 }
 
 /// Tables with columns of more than one kind, as far as some tries give it, accepted or

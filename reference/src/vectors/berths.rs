@@ -17,7 +17,7 @@ pub fn cases() -> Vec<Vector> {
 }
 
 /// H1 to H10.
-fn berths() -> Vec<(&'static str, Tables)> {
+pub fn berths() -> Vec<(&'static str, Tables)> {
     let relation = [1, 0, 0, 0];
     let empty = [0; 4];
     let h10 = [relation, empty, [4, 2, 0, 1], [3, 2, 2, 0]].concat();

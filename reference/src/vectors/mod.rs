@@ -18,6 +18,7 @@ use std::io;
 use std::path::Path;
 
 use crate::file::{page_file, print_file};
+pub use berths::berths;
 pub use reports::REFUSALS;
 
 /// The seed of all generated cases.

@@ -1,12 +1,14 @@
 //! Generated reports: accepted ones with the properties that matter, and
 //! refused ones, one for each limit of each check and larger ones.
 
+use std::ops::RangeInclusive;
+
 use super::{Vector, SEED};
 use crate::expression;
 use crate::file::{print_file, print_tables, write_file};
 use crate::generate::{self, text_of, Family, Kept, LIMITS, NUMBERS};
 use crate::random::Random;
-use crate::refusal::is_of_typing;
+use crate::refusal::{is_of_typing, TYPING};
 use crate::tables::{self, Tables, CHOICE, COMPARISON_CHOICE, SELECT, WITH_CONSTANT};
 use crate::typing;
 
@@ -56,11 +58,39 @@ pub fn cases() -> Vec<Vector> {
     cases.extend(named("one-attribute-over-and-over", SEVERAL, size, over));
     let compared = (SEED..SEED + SEEDS).map(generate::compared);
     cases.extend(named("columns-of-two-kinds", SEVERAL, LITTLE, compared));
+    cases.extend(few_and_many());
     let full = || (SEED..SEED + SEEDS).map(|seed| generate::of_family(Family::Full, seed));
     let accepted = full().filter(|t| generate::outcome(t) == 0);
     cases.extend(named("full-size-accepted", FULL, MUCH, accepted));
     let refused = full().filter(|t| is_of_typing(generate::outcome(t)));
     cases.extend(named("full-size-refused", FULL, MUCH, refused));
+    cases
+}
+
+/// Few permitted configurations, with each answer of typing; and numbers of them around a
+/// power of two, with these answers by turns.
+fn few_and_many() -> Vec<Vector> {
+    let answers = || [0].into_iter().chain(TYPING);
+    let of = |number: u64, counts: RangeInclusive<usize>| {
+        let tables = (SEED..SEED + SEEDS).map(generate::few);
+        tables.filter(move |t| {
+            counts.contains(&expression::permitted(t).len()) && generate::outcome(t) == number
+        })
+    };
+    let mut cases = Vec::new();
+    for number in answers() {
+        let name = match number {
+            0 => "few-permitted-accepted".to_string(),
+            _ => format!("few-permitted-refused-{number}"),
+        };
+        cases.extend(named(&name, EACH, LITTLE, of(number, 2..=8)));
+    }
+    let around = |power: usize| [power - 1, power, power + 1];
+    let counts = [8, 16, 32, 64, 128, 256].into_iter().flat_map(around);
+    for (count, number) in counts.zip(answers().cycle()) {
+        let tables = of(number, count..=count);
+        cases.extend(named(&format!("permitted-{count}"), 1, LITTLE, tables));
+    }
     cases
 }
 

@@ -1,6 +1,7 @@
 //! Steps that several tests share.
 #![allow(dead_code)]
 
+pub mod few_readings;
 pub mod kind_readings;
 pub mod readings;
 

@@ -4,27 +4,22 @@ use Rattle.checking.proofs.check_meaning.Statement.{statement}
 use Rattle.checking.proofs.check_meaning.Tie as tie
 
 -- places of the code that the needs look back to
-abbrev refused : tie.After-enum-told → tie.After-judge-tables
-refused p = p .before .before .before .before .before
-
-abbrev passed : tie.After-enum-told2 → tie.After-judge-tables
-passed p = p .before .before .before .before .before
+abbrev judged : tie.After-columns2 → tie.After-judge-columns
+judged p = p .before
 
 returns : tie.Need-returns
-returns c = meaning-refused (refused c .judge-tables .ensures) _ (c .enum-told .given .1)
+returns c = meaning-refused (judged (c .before .before) .judge-columns .ensures) _ (c .enum-told .given .1)
 
 returns-2 : tie.Need-returns-2
 returns-2 c =
     let w = c .before .before in
     let t = w .before .before .before in
-    meaning-accepted (passed t .judge-tables .ensures) _ (t .enum-told2 .given .1) (w .copy-words .ensures)
+    meaning-accepted (judged (t .before .before) .judge-columns .ensures) _ (t .enum-told2 .given .1) (w .copy-words .ensures)
 
 pub check-meaning-spec : {M : Type 1} → statement M
 check-meaning-spec =
     tie.close
     (tie.spec
-    (λ c. search needs)
-    (λ c. search needs)
     (λ c. search needs)
     (λ c κs. search needs)
     (λ c. search needs)

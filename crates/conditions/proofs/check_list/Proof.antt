@@ -15,17 +15,11 @@ abbrev μ-loop : tie.MeasureT-loop
 abbrev start-of-turn : tie.In-loop Inv-loop μ-loop → tie.Start Inv-loop μ-loop
 start-of-turn p = p .before .before .before .before
 
-abbrev turn : tie.After-is-empty Inv-loop μ-loop → tie.In-loop Inv-loop μ-loop
-turn p = p .before .before .before .before
+abbrev turn : tie.After-meets Inv-loop μ-loop → tie.In-loop Inv-loop μ-loop
+turn p = p .before .before
 
-abbrev start-of-is-empty : tie.After-is-empty Inv-loop μ-loop → tie.Start Inv-loop μ-loop
-start-of-is-empty p = start-of-turn (turn p)
-
-abbrev entry-expression : tie.After-is-empty Inv-loop μ-loop → tie.After-entry-expression Inv-loop μ-loop
-entry-expression p = p .before .before .before
-
-load-requires : tie.Need-load-requires Inv-loop μ-loop
-load-requires c κs =
+meets-requires : tie.Need-meets-requires Inv-loop μ-loop
+meets-requires c κs =
     let t = c .before in
     let s = start-of-turn t in
     let i = s .pre .inside in
@@ -35,23 +29,24 @@ load-requires c κs =
 
 entry-attribute-requires : tie.Need-entry-attribute-requires Inv-loop μ-loop
 entry-attribute-requires c κs =
-    let i = start-of-is-empty (c .before) .pre .inside in
-    let t = turn (c .before) .loop-test .taken in
+    let t = turn (c .before) in
+    let i = start-of-turn t .pre .inside in
+    let l = t .loop-test .taken in
     omega arith
 
 returns : tie.Need-returns Inv-loop μ-loop
 returns c =
     let d = c .before in
-    let i = turn (d .before) in
-    listed-here _ _ _ _ _ (i .before .loop .inv) (i .loop-test .taken) (entry-expression (d .before) .entry-expression .ensures .same)
-    (d .before .before .before .load .ensures) (d .before .before .intersect .ensures) (d .before .is-empty .ensures) _ (d .if1 .taken)
+    let m = d .before in
+    let i = turn m in
+    listed-here _ _ _ _ _ (i .before .loop .inv) (i .loop-test .taken) (m .before .entry-expression .ensures .same) (m .meets .ensures) _ (d .if1 .taken)
     (c .entry-attribute .ensures .same)
 
 loop-again : tie.Need-loop-again Inv-loop μ-loop
 loop-again c =
-    let i = turn (c .before) in
-    listed-more _ _ _ _ _ (i .before .loop .inv) (i .loop-test .taken) (entry-expression (c .before) .entry-expression .ensures .same)
-    (c .before .before .before .load .ensures) (c .before .before .intersect .ensures) (c .before .is-empty .ensures) (c .if1 .left)
+    let m = c .before in
+    let i = turn m in
+    listed-more _ _ _ _ _ (i .before .loop .inv) (i .loop-test .taken) (m .before .entry-expression .ensures .same) (m .meets .ensures) (c .if1 .left)
 
 pub check-list-spec : {M : Type 1} → statement M
 check-list-spec =
@@ -62,9 +57,7 @@ check-list-spec =
     (λ c. listed-none _ _ _ _ _)
     (λ c. let i = start-of-turn c .pre .inside in omega arith)
     (λ c κs. let i = start-of-turn c .pre .inside in omega arith)
-    load-requires
-    (λ c κs. search needs)
-    (λ c κs. search needs)
+    meets-requires
     entry-attribute-requires
     returns
     (λ c. search needs)

@@ -1,65 +1,57 @@
-use mathlib.Core.Path.{_≡_, refl, sym, ap, _∙_}
+use mathlib.Core.Path.{_≡_, sym, ap, _∙_}
 use borrow.Author.Needs.{needs}
 use Rattle.report.specs.Tables.{Tables, tablesOf}
 use Rattle.report.specs.declared.Verdict.{Verdict}
 use Rattle.report.proofs.VerdictLaws.{both-accepted}
-use Rattle.conditions.proofs.PermittedLaws.{model-room}
-use Rattle.judging.proofs.JudgingLaws.{own-rows}
+use Rattle.judging.proofs.JudgingLaws.{own-columns}
 use Rattle.finding.specs.Finding.{foundAnswer, Finds}
 use Rattle.finding.proofs.FindLaws.{refused-answers, found-answers}
 use Rattle.finding.proofs.find.Statement.{statement}
 use Rattle.finding.proofs.find.Tie as tie
 
 -- places of the code that the needs look back to
-abbrev set : tie.After-typed → tie.After-of-bits
-set y = y .before .before .before .before
+abbrev set : tie.After-typed-columns → tie.After-of-bits
+set y = y .before .before
 
-abbrev start : tie.After-typed → tie.Start
+abbrev start : tie.After-typed-columns → tie.Start
 start y = set y .before .before .before .before .before .before .before
 
 abbrev has-from : tie.After-or-else → tie.After-has-from
 has-from j = j .before .before
 
-abbrev typed : tie.After-or-else → tie.After-typed
-typed j = has-from j .before .before .before .before
-
-abbrev told : tie.After-load → tie.After-enum-told
-told p = p .before .before
+abbrev typed : tie.After-or-else → tie.After-typed-columns
+typed j = has-from j .before .before
 
 abbrev joined : tie.After-enum-told → tie.After-or-else
 joined t = t .before .before
 
-abbrev tables : tie.After-typed → Tables
+abbrev tables : tie.After-typed-columns → Tables
 tables y =
     let a = start y .args in
     tablesOf (a .features) (a .attributes) (a .model) (a .expressions .now) (a .entries .now) (a .relations .now) (a .comparisons .now)
     (a .queries .now) (a .kinds .now)
 
 -- where no check refuses, those of the report do not
-passed : (t : tie.After-enum-told) → typed (joined t) .typed .result ≡ Verdict.Accepted
+passed : (t : tie.After-enum-told) → typed (joined t) .typed-columns .result .verdict ≡ Verdict.Accepted
 passed t = both-accepted _ _ (sym (joined t .or-else .ensures) ∙ t .enum-told .given .1) .0
 
 returns : tie.Need-returns
 returns c =
     let j = c .before .before .before in
     let y = typed j in
-    refused-answers (tables y) (set y .of-bits .ensures) (y .typed .ensures .answers) (has-from j .has-from .ensures) (j .before .refuse-if .ensures)
-    (j .or-else .ensures) (c .before .verdict .given .1)
-
-load-requires : tie.Need-load-requires
-load-requires c κs =
-    let t = c .before in let r = own-rows (typed (joined t) .typed .ensures) (passed t) in model-room (r .formed) (r .filled) refl
+    refused-answers (tables y) (set y .of-bits .ensures) (y .typed-columns .ensures .answers) (has-from j .has-from .ensures)
+    (j .before .refuse-if .ensures) (j .or-else .ensures) (c .before .verdict .given .1)
 
 answered : (p : tie.After-lowest-with)
-    → let y = typed (joined (told (p .before .before))) in
+    → let y = typed (joined (p .before .before)) in
     Finds (tables y) (start y .args .wanted) (foundAnswer Verdict.Accepted (p .lowest-with .result))
 answered p =
-    let l = p .before .before in
-    let t = told l in
+    let t = p .before .before in
     let j = joined t in
     let y = typed j in
-    found-answers (tables y) (set y .of-bits .ensures) (y .typed .ensures .answers) (has-from j .has-from .ensures) (j .before .refuse-if .ensures)
-    (j .or-else .ensures) (t .enum-told .given .1) (own-rows (y .typed .ensures) (passed t)) (l .load .ensures) (p .lowest-with .ensures)
+    found-answers (tables y) (set y .of-bits .ensures) (y .typed-columns .ensures .answers) (has-from j .has-from .ensures)
+    (j .before .refuse-if .ensures) (j .or-else .ensures) (t .enum-told .given .1) (own-columns (y .typed-columns .ensures) (passed t))
+    (p .lowest-with .ensures)
 
 returns-2 : tie.Need-returns-2
 returns-2 c = let f = c .before in ap (foundAnswer Verdict.Accepted) (sym (f .found .given .1)) ∙ answered (f .before .before)
@@ -73,8 +65,6 @@ find-spec =
     (tie.spec
     (λ c κs. search needs)
     (λ c. search needs)
-    (λ c. search needs)
-    (λ c. search needs)
     (λ c κs. search needs)
     (λ c κs. search needs)
     (λ c κs. search needs)
@@ -82,8 +72,6 @@ find-spec =
     (λ c. search needs)
     returns
     (λ c. search needs)
-    (λ c. search needs)
-    load-requires
     (λ c. search needs)
     (λ c κs. search needs)
     (λ c. search needs)

@@ -1,7 +1,4 @@
 use borrow.Author.Needs.{needs}
-use Prim.Native.Nat.{ℕ}
-use mathlib.Core.Path.{ap, _∙_}
-use lib.ListN.{replicate}
 use Rattle.conditions.proofs.PermittedLaws.{model-room}
 use Rattle.judging.proofs.JudgingLaws.{few-features, schema-reads, reach-reads, typing-reads, reach-room, early-refuses, typing-answers}
 use Rattle.judging.proofs.judge.Statement.{statement}
@@ -20,11 +17,11 @@ load p = p .before .before .before .before
 abbrev told : tie.After-fill-reach → tie.After-enum-told2
 told f = f .before .before
 
-abbrev cleared : tie.After-slice-known4 → tie.After-fill-reach
-cleared p = p .before .before .before .before .before .before
+abbrev reached : tie.After-slice-known3 → tie.After-fill-reach
+reached p = p .before .before
 
 abbrev fill-reach : tie.After-full → tie.After-fill-reach
-fill-reach u = cleared (u .before)
+fill-reach u = reached (u .before)
 
 check-model-requires : tie.Need-check-model-requires
 check-model-requires c κs = let p = start c .pre in record { tables = p .tables; reads = schema-reads (p .reads) (c .load .ensures) }
@@ -38,7 +35,7 @@ fill-reach-requires : tie.Need-fill-reach-requires
 fill-reach-requires c κs =
     let l = load c in
     let p = start l .pre in
-    record { tables = p .tables; reads = reach-reads (p .reads) (l .load .ensures); room = p .forms }
+    record { tables = p .tables; reads = reach-reads (p .reads) (l .load .ensures); room = p .forms; clear = p .unreached }
 
 check-typing-requires : tie.Need-check-typing-requires
 check-typing-requires c κs =
@@ -51,7 +48,7 @@ check-typing-requires c κs =
       tables = p .tables;
       reads = typing-reads (p .reads) (l .load .ensures) (p .forms) (f .fill-reach .ensures (p .tables) (reach-reads (p .reads) (l .load .ensures)))
           (u .full .ensures) (g .larger .ensures);
-      clear = u .before .before .before .clear-words .ensures ∙ ap (λ (k : ℕ). replicate k 0) (p .attributes);
+      clear = p .unshown;
     }
 
 returns-2 : tie.Need-returns-2
@@ -79,8 +76,7 @@ judge-spec =
     returns
     (λ c. search needs)
     fill-reach-requires
-    (λ c κs. search needs)
-    (λ c κs. few-features (start (told (cleared c) .before .before .before) .pre .reads))
+    (λ c κs. few-features (start (told (reached c) .before .before .before) .pre .reads))
     (λ c κs. search needs)
     check-typing-requires
     (λ c. search needs)

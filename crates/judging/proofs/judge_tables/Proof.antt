@@ -9,7 +9,7 @@ use Rattle.report.proofs.FormedFacts.{counts}
 use Rattle.report.proofs.EntryParts.{split-in}
 use Rattle.conditions.specs.Conditions.{Conditioned}
 use Rattle.conditions.proofs.FillLaws.{fillable, filled}
-use Rattle.judging.proofs.JudgingLaws.{fill-room, tables-read}
+use Rattle.judging.proofs.JudgingLaws.{tables-read}
 use Rattle.judging.proofs.judge_tables.Statement.{statement}
 use Rattle.judging.proofs.judge_tables.Tie as tie
 
@@ -37,8 +37,7 @@ tables s =
 fill-rows-requires : tie.Need-fill-rows-requires
 fill-rows-requires c κs =
     let s = first c in
-    let lent = s .args .conditions .now in
-    fillable (s .pre .formed) lent (fill-room (s .pre .formed) lent (s .pre .rows .expressions))
+    fillable (s .pre .formed) (s .args .conditions .now) (s .pre .expressions)
 
 split : (e : tie.After-relations-end) → e .relations-end .result * 2 ≤ length (start (fill-rows e) .args .entries .now)
 split e = split-in (start (fill-rows e) .pre .formed) (e .relations-end .ensures)
@@ -46,8 +45,7 @@ split e = split-in (start (fill-rows e) .pre .formed) (e .relations-end .ensures
 conditioned : (f : tie.After-fill-rows) → Conditioned (tables (start f)) (f .fill-rows .last .1 .1 .0)
 conditioned f =
     let s = start f in
-    let lent = s .args .conditions .now in
-    filled (s .args .n) (s .args .expressions .now) lent (fill-room (s .pre .formed) lent (s .pre .rows .expressions)) (f .fill-rows .ensures)
+    filled (s .args .n) (s .args .expressions .now) (s .args .conditions .now) (s .pre .expressions) (f .fill-rows .ensures)
 
 judge-requires : tie.Need-judge-requires
 judge-requires c κs =
@@ -57,8 +55,9 @@ judge-requires c κs =
     record {
       tables = tables s;
       reads = tables-read (s .pre .formed) (e .relations-end .ensures) (conditioned f);
-      forms = let n = counts (s .pre .formed) .most4 in let l = s .pre .rows .forms in omega arith;
-      attributes = s .pre .rows .attributes;
+      forms = s .pre .forms;
+      unreached = s .pre .unreached;
+      unshown = s .pre .unshown;
     }
 
 returns : tie.Need-returns

@@ -1,7 +1,7 @@
 use borrow.Author.Needs.{needs}
 use mathlib.Core.Path.{sym, _∙_}
 use Rattle.report.proofs.Formed.{formed}
-use Rattle.judging.proofs.JudgingLaws.{forms-refuse, judging-answers}
+use Rattle.judging.proofs.JudgingLaws.{rows-enough, forms-refuse, judging-answers}
 use Rattle.judging.proofs.typed.Statement.{statement}
 use Rattle.judging.proofs.typed.Tie as tie
 
@@ -19,7 +19,7 @@ judge-tables-requires : tie.Need-judge-tables-requires
 judge-tables-requires c κs =
     let t = told c in
     let f = t .before .before in
-    record { formed = formed _ (sym (f .check-forms .ensures) ∙ t .enum-told2 .given .1); rows = start f .pre }
+    rows-enough (formed _ (sym (f .check-forms .ensures) ∙ t .enum-told2 .given .1)) (start f .pre)
 
 returns-2 : tie.Need-returns-2
 returns-2 c =

@@ -1,13 +1,13 @@
 use borrow.Author.Needs.{needs}
-use Rattle.typing.proofs.TypingSteps.{rows-room, no-form, form-room, no-configuration, form-told, form-refused}
+use Rattle.typing.proofs.TypingSteps.{rows-room, no-form, form-room, no-configuration, here-reads, here-answers}
 use Rattle.typing.proofs.check_rows.Statement.{statement}
 use Rattle.typing.proofs.check_rows.Tie as tie
 
 -- places of the code that the needs look back to
-abbrev start : tie.After-shared-slice-known8 → tie.Start
-start p = p .before .before .before .before .before .before .before .before
+abbrev start : tie.After-shared-slice-known9 → tie.Start
+start p = p .before .before .before .before .before .before .before .before .before
 
-abbrev lowest : tie.After-refusal-at → tie.After-lowest
+abbrev lowest : tie.After-check-at → tie.After-lowest
 lowest p = p .before .before .before .before
 
 lowest-row-requires : tie.Need-lowest-row-requires
@@ -28,8 +28,8 @@ returns-2 c =
     λ T R. no-configuration R (f .before .before .lowest-row .ensures) (f .form .given .1) (l .before .load .ensures) (l .lowest .ensures)
     (c .enum-told2 .given .1)
 
-refusal-at-requires : tie.Need-refusal-at-requires
-refusal-at-requires c κs =
+check-at-requires : tie.Need-check-at-requires
+check-at-requires c κs =
     let l = c .before .before .before in
     let f = l .before .before .before in
     let r = f .before .before in
@@ -37,7 +37,7 @@ refusal-at-requires c κs =
     record {
       tables = p .tables;
       reads =
-          form-told (p .reads) (r .lowest-row .ensures) (f .form .given .1) (l .before .load .ensures) (l .lowest .ensures)
+          here-reads (p .reads) (r .lowest-row .ensures) (f .form .given .1) (l .before .load .ensures) (l .lowest .ensures)
           (c .before .configuration .given .1);
     }
 
@@ -45,8 +45,8 @@ returns-3 : tie.Need-returns-3
 returns-3 c =
     let l = lowest c in
     let f = l .before .before .before in
-    λ T R. form-refused R (f .before .before .lowest-row .ensures) (f .form .given .1) (l .before .load .ensures) (l .lowest .ensures)
-    (c .before .before .configuration .given .1) (c .refusal-at .ensures)
+    λ T R. here-answers R (f .before .before .lowest-row .ensures) (f .form .given .1) (l .before .load .ensures) (l .lowest .ensures)
+    (c .before .before .configuration .given .1) (c .check-at .ensures)
 
 pub check-rows-spec : {M : Type 1} → statement M
 check-rows-spec =
@@ -61,5 +61,5 @@ check-rows-spec =
     (λ c. search needs)
     (λ c. search needs)
     returns-2
-    refusal-at-requires
+    check-at-requires
     returns-3)

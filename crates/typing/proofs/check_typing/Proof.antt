@@ -1,32 +1,24 @@
-use mathlib.Core.Path.{refl}
+-- Both ways answer the same, so nothing is asked of the number of configurations up to which one is taken.
 use borrow.Author.Needs.{needs}
-use Rattle.typing.proofs.TypingSteps.{rows-read, typing-checked}
+use Rattle.typing.proofs.TypingSteps.{each-readable, each-checked}
 use Rattle.typing.proofs.check_typing.Statement.{statement}
 use Rattle.typing.proofs.check_typing.Tie as tie
 
 -- places of the code that the needs look back to
-abbrev start : tie.After-fill-failing-arg → tie.Start
+abbrev start : tie.Then1 → tie.Start
 start p = p .before .before .before .before .before .before .before .before .before .before .before
 
-abbrev filled : tie.After-rows3 → tie.After-fill-failing
-filled p = p .before .before .before .before
-
-check-rows-requires : tie.Need-check-rows-requires
-check-rows-requires c κs =
-    let f = filled c in
-    let p = start (f .before) .pre in
-    record { tables = p .tables; reads = rows-read (p .reads) (f .fill-failing .ensures) }
-
 returns : tie.Need-returns
-returns c = λ T R. typing-checked R (filled (c .before) .fill-failing .ensures) (c .check-rows .ensures)
+returns c = each-checked (c .before .before .check-each .ensures)
 
 pub check-typing-spec : {M : Type 1} → statement M
 check-typing-spec =
     tie.close
     (tie.spec
+    (λ c κs. search needs)
+    (λ c κs. each-readable (start (c .before) .pre))
     (λ c. search needs)
-    (λ c κs. record { readable = start c .pre; fresh = refl })
+    returns
+    (λ c κs. search needs)
     (λ c. search needs)
-    check-rows-requires
-    (λ c. search needs)
-    returns)
+    (λ c. search needs))

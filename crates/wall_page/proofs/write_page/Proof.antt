@@ -7,26 +7,19 @@ use borrow.Author.Needs.{needs}
 use lib.ListN.{length}
 use Rattle.sets.proofs.WritingLaws.{same-length}
 use Rattle.report.specs.Tables.{Tables, tablesOf}
-use Rattle.conditions.proofs.PermittedLaws.{model-room}
-use Rattle.judging.proofs.JudgingLaws.{Rows, own-rows, shifted-few}
+use Rattle.judging.proofs.JudgingLaws.{Columns, own-columns, shifted-few}
 use Rattle.wall_page.proofs.PageLaws.{refused-answers, lines-few, late-answers, refused-left, page-read, page-left}
 use Rattle.wall_page.proofs.write_page.Statement.{statement}
 use Rattle.wall_page.proofs.write_page.Tie as tie
 
 -- places of the code that the needs look back to
-abbrev start : tie.After-typed → tie.Start
-start y = y .before .before .before .before .before .before .before .before .before .before .before
+abbrev start : tie.After-typed-columns → tie.Start
+start y = y .before .before .before .before .before .before .before .before .before
 
-abbrev refused : tie.After-checked → tie.After-typed
-refused p = p .before .before .before .before .before
+abbrev typed : tie.After-enum-told → tie.After-typed-columns
+typed t = t .before .before .before
 
-abbrev typed : tie.After-enum-told → tie.After-typed
-typed t = t .before .before .before .before .before
-
-abbrev told : tie.After-load → tie.After-enum-told
-told l = l .before .before
-
-abbrev tables : tie.After-typed → Tables
+abbrev tables : tie.After-typed-columns → Tables
 tables y =
     let a = start y .args in
     tablesOf (a .features) (a .attributes) (a .model) (a .expressions .now) (a .entries .now) (a .relations .now) (a .comparisons .now)
@@ -34,36 +27,32 @@ tables y =
 
 returns : tie.Need-returns
 returns c =
-    let y = refused (c .before) in
-    refused-answers (tables y) (y .typed .ensures .answers) (now (start y .args .page)) (c .before .checked .given .1)
+    let k = c .before in
+    let y = k .before .before .before in
+    refused-answers (tables y) (y .typed-columns .ensures .answers) (now (start y .args .page)) (k .checked .given .1)
 
 -- the rows of tables that pass
 rows : (t : tie.After-enum-told)
-    → let l = typed t .typed .last .1 .1 .1 .1 .1 .1 .1 .1 .1 in Rows (tables (typed t)) (l .0) (l .1 .0) (l .1 .1 .0)
-rows t = own-rows (typed t .typed .ensures) (t .enum-told .given .1)
-
-load-requires : tie.Need-load-requires
-load-requires c κs = let r = rows (c .before) in model-room (r .formed) (r .filled) refl
+    → let y = typed t .typed-columns in Columns (tables (typed t)) (y .result .permitted .words) (y .last .1 .1 .1 .1 .1 .1 .1 .1 .1 .0)
+rows t = own-columns (typed t .typed-columns .ensures) (t .enum-told .given .1)
 
 shl-count : tie.Need-shl-count
-shl-count c = let f = rows (told c) .formed .few in omega arith
+shl-count c = let f = rows c .formed .few in omega arith
 
 permitted-count-requires : tie.Need-permitted-count-requires
-permitted-count-requires c κs = shifted-few (rows (told c) .formed) refl
+permitted-count-requires c κs = shifted-few (rows c .formed) refl
 
 mul-refuse-if : tie.Need-mul-refuse-if
-mul-refuse-if c =
-    let l = lines-few _ (c .permitted-count .ensures) (shifted-few (rows (told (c .before)) .formed) refl) in omega arith
+mul-refuse-if c = let l = lines-few _ (c .permitted-count .ensures) (shifted-few (rows (c .before) .formed) refl) in omega arith
 
 put-page-requires : tie.Need-put-page-requires
 put-page-requires c κs =
     let k = c .before .before in
     let n = k .before .before in
     let p = n .before in
-    let l = p .before in
-    let t = told l in
+    let t = p .before in
     let y = typed t in
-    page-read (tables y) (y .typed .ensures .answers) (now (start y .args .page)) (t .enum-told .given .1) (rows t) (l .load .ensures)
+    page-read (tables y) (y .typed-columns .ensures .answers) (now (start y .args .page)) (t .enum-told .given .1) (rows t)
     (p .permitted-count .ensures) (n .refuse-if .ensures) (k .enum-told2 .given .1)
 
 same-long : tie.Need-same-length
@@ -74,18 +63,14 @@ returns-2 : tie.Need-returns-2
 returns-2 c =
     let n = c .before .before in
     let p = n .before in
-    let l = p .before in
-    let t = told l in
+    let t = p .before in
     let y = typed t in
     let lent = now (start y .args .page) in
-    let a = y .typed .ensures .answers in
+    let a = y .typed-columns .ensures .answers in
     let f = t .enum-told .given .1 in
-    late-answers (tables y) a lent f (rows t) (l .load .ensures) (p .permitted-count .ensures) (n .refuse-if .ensures) (c .page-answer .ensures)
+    late-answers (tables y) a lent f (rows t) (p .permitted-count .ensures) (n .refuse-if .ensures) (c .page-answer .ensures)
     (⊎-elim
-    (λ yes.
-    yes .7
-    ∙ page-left (tables y) a lent f (rows t) (l .load .ensures) (p .permitted-count .ensures) (n .refuse-if .ensures) (yes .1 .given .1)
-    (yes .4 .ensures))
+    (λ yes. yes .7 ∙ page-left (tables y) a lent f (rows t) (p .permitted-count .ensures) (n .refuse-if .ensures) (yes .1 .given .1) (yes .4 .ensures))
     (λ no. no .2 ∙ refused-left _ lent (no .1 .given .1))
     (c .before .match2 .came))
 
@@ -94,14 +79,10 @@ write-page-spec =
     tie.close
     (tie.spec
     (λ c. search needs)
-    (λ c. search needs)
-    (λ c. search needs)
     (λ c κs. search needs)
     (λ c. search needs)
     returns
     (λ c. search needs)
-    (λ c. search needs)
-    load-requires
     shl-count
     permitted-count-requires
     mul-refuse-if

@@ -1,0 +1,4 @@
+pub mod HereLaws
+pub mod EachLaws
+pub mod ColumnLaws
+pub mod EachSteps

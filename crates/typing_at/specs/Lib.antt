@@ -1,0 +1,2 @@
+pub mod TypingAt
+pub mod Steps

@@ -1,0 +1,81 @@
+-- The typing check, configuration by configuration: what it answers at one alone, and how the answers at all of them make one.
+use Prim.Native.Nat.{ℕ, zero, suc, _<_, _≤_}
+use mathlib.Core.Path.{_≡_}
+use mathlib.Core.Bool.{Bool, cond, _&&_, _||_}
+use mathlib.Core.List.{List}
+use lib.Dec.{ltb, eqb}
+use lib.ListN.{replicate}
+use Rattle.sets.specs.Rows.{rowOf}
+use Rattle.report.specs.Tables.{Tables, queryCount}
+use Rattle.report.specs.Expressions.{configurations, permitted}
+use Rattle.report.specs.Typing.{phases, fails}
+use Rattle.report.specs.ColumnRows.{columnRows}
+use Rattle.report.specs.Verdicts.{refuseIf, firstFrom}
+use Rattle.report.specs.Checks.{faultRefusal}
+use Rattle.report.specs.declared.Refusal.{Refusal}
+use Rattle.report.specs.declared.Verdict.{Verdict}
+use Rattle.conditions.specs.Conditions.{Prepared, ReachFilled}
+
+module _ (T : Tables) (c : ℕ) where
+  -- one phase of form q at c alone
+  abbrev pub phaseHere : ℕ → ℕ → Verdict
+  phaseHere q phase = refuseIf (fails T c phase q) (faultRefusal T q phase c)
+
+  -- 15 to 19 of form q at c alone, and 25 only if they find nothing there
+  abbrev pub formHere : ℕ → Verdict
+  formHere q = firstFrom (phaseHere q) phases 0
+
+  -- 15 to 19 and 25 at c alone: the lowest form that fails there
+  unfoldable pub typingHere : Verdict
+  typingHere = firstFrom formHere (queryCount T) 0
+
+-- s is of a lower form than r, or of an earlier phase of the same form: the number of a rule is lower than that of kinds
+abbrev pub precedes : Refusal → Refusal → Bool
+precedes s r = ltb (s .place) (r .place) || (eqb (s .place) (r .place) && ltb (s .number) (r .number))
+
+-- of the answers at lower configurations and at one more: by form, then by phase, then by configuration
+abbrev pub sooner : Verdict → Verdict → Verdict
+sooner Verdict.Accepted w = w
+sooner (Verdict.Refused r) Verdict.Accepted = Verdict.Refused r
+sooner (Verdict.Refused r) (Verdict.Refused s) = cond (precedes s r) (Verdict.Refused s) (Verdict.Refused r)
+
+-- the answer from those at the configurations below k (proofs/EachLaws: each-typing)
+unfoldable pub typingBelow : Tables → ℕ → Verdict
+typingBelow T zero = Verdict.Accepted
+typingBelow T (suc k) = sooner (typingBelow T k) (typingHere T k)
+
+-- the answer from those at all configurations, and the rows that are left whatever it is
+pub record EachChecked (T : Tables) (answer : Verdict) (columns : List ℕ) : Type 0 where
+  pub answers : answer ≡ typingBelow T (configurations T)
+  pub shows : columns ≡ columnRows T
+
+-- ---- what the typing check reads
+
+-- at configuration c: the prepared tables, the kind table and the reach rows
+pub record HereReads (T : Tables) (conditions relationEntries projectEntries relations comparisons queries kinds reach : List ℕ) (c : ℕ) : Type 0 where
+  pub prepared : Prepared T conditions relationEntries projectEntries relations comparisons queries
+  pub kindsAre : kinds ≡ T .kinds
+  pub reaching : ReachFilled T reach
+  pub inside : c < configurations T
+
+-- there are such tables
+pub record HereReadable (conditions relationEntries projectEntries relations comparisons queries kinds reach : List ℕ) (c : ℕ) : Type 0 where
+  pub tables : Tables
+  pub reads : HereReads tables conditions relationEntries projectEntries relations comparisons queries kinds reach c
+
+-- at all: besides, the permitted configurations, and a bound of the attributes
+pub record EachReads (T : Tables) (conditions permits reach relationEntries projectEntries relations comparisons queries kinds : List ℕ) (items : ℕ)
+    : Type 0 where
+  pub prepared : Prepared T conditions relationEntries projectEntries relations comparisons queries
+  pub kindsAre : kinds ≡ T .kinds
+  pub permitting : permits ≡ rowOf 16 (permitted T)
+  pub reaching : ReachFilled T reach
+  pub enough : T .attributes ≤ items
+
+-- there are such tables, and 1,024 words for the column rows, all 0
+pub record EachReadable (conditions permits reach relationEntries projectEntries relations comparisons queries kinds : List ℕ) (items : ℕ)
+    (columns : List ℕ) : Type 0 where
+  pub tables : Tables
+  pub reads : EachReads tables conditions permits reach relationEntries projectEntries relations comparisons queries kinds items
+  pub most : items ≤ 64
+  pub clear : columns ≡ replicate 1024 0
