@@ -16,27 +16,27 @@ use Rattle.report.specs.Tables.{Tables, relationExpression, expressionCount, re
 use Rattle.report.specs.Typing.{at, taken, present, reached}
 use Rattle.report.proofs.FormedFacts.{relation-expression}
 use Rattle.report.proofs.StepLaws.{taken-below}
-use Rattle.conditions.specs.Conditions.{ReachFilled}
+use Rattle.expression_rows.specs.ExpressionRows.{ReachFilled}
 use Rattle.at_configuration.specs.AtConfiguration.{AtReads, PresentReads, PresentReadable}
 
 -- one bit of row x
 pub row-word : (rows : List ℕ) (x c : ℕ) → c < 1024 → bit (getD rows (x * 16 + c / 64) 0) (c % 64) ≡ rowBit (rowIn 16 rows x) c
 row-word rows x c h = ap (λ (w : ℕ). bit w (c % 64)) (sym (table-at 16 (λ i. getD rows (x * 16 + i) 0) 0 (c / 64) (omega arith)))
 
-module _ {T : Tables} {conditions : List ℕ} {c : ℕ} (R : AtReads T conditions c) where
+module _ {T : Tables} {expressionRows : List ℕ} {c : ℕ} (R : AtReads T expressionRows c) where
   narrow : c < 1024
   narrow = lt-of-lt-of-le (R .inside) (pow-mono (R .formed .few))
 
   module _ {e : ℕ} (h : e < expressionCount T) where
     -- an expression has a row, and the row has c where the expression holds at c
-    pub rowed : (e * 16 + 16 ≤ length conditions) × (c < 1024)
+    pub rowed : (e * 16 + 16 ≤ length expressionRows) × (c < 1024)
     rowed = (let m = R .filled .room in omega arith, narrow)
 
-    pub holds-in : rowBit (rowIn 16 conditions e) c ≡ at T c e
+    pub holds-in : rowBit (rowIn 16 expressionRows e) c ≡ at T c e
     holds-in = ap (λ (l : List ℕ). rowBit l c) (R .filled .each e h) ∙ bit-within (T .features) (λ d. at T d e) 16 c (R .inside) narrow
 
     -- a choice on it takes one of two alternatives
-    module _ {a b n : ℕ} (l : (a < n) × (b < n)) {k : ℕ} (p : k ≡ cond (rowBit (rowIn 16 conditions e) c) a b) where
+    module _ {a b n : ℕ} (l : (a < n) × (b < n)) {k : ℕ} (p : k ≡ cond (rowBit (rowIn 16 expressionRows e) c) a b) where
       pub taken-is : k ≡ taken T c e a b
       taken-is = p ∙ ap (λ (t : Bool). cond t a b) holds-in
 
@@ -53,7 +53,7 @@ module _ {T : Tables} {conditions : List ℕ} {c : ℕ} (R : AtReads T condition
 
 -- ---- one relation
 
-module _ {T : Tables} {conditions relations : List ℕ} {c r : ℕ} (R : PresentReads T conditions relations c) (h : r < length relations / 2) where
+module _ {T : Tables} {expressionRows relations : List ℕ} {c r : ℕ} (R : PresentReads T expressionRows relations c) (h : r < length relations / 2) where
   relation-in : r < relationCount T
   relation-in = rw (R .relationsAre) at h
 
@@ -64,14 +64,14 @@ module _ {T : Tables} {conditions relations : List ℕ} {c r : ℕ} (R : Present
     condition-in : e < expressionCount T
     condition-in = rw condition-is (relation-expression (R .reads .formed) r relation-in)
 
-    pub present-rowed : (e * 16 + 16 ≤ length conditions) × (c < 1024)
+    pub present-rowed : (e * 16 + 16 ≤ length expressionRows) × (c < 1024)
     present-rowed = rowed (R .reads) condition-in
 
-    pub present-is : {b : Bool} → b ≡ rowBit (rowIn 16 conditions e) c → b ≡ present T c r
+    pub present-is : {b : Bool} → b ≡ rowBit (rowIn 16 expressionRows e) c → b ≡ present T c r
     present-is d =
         d ∙ holds-in (R .reads) condition-in ∙ ap (at T c) condition-is
         ∙ ap (λ (t : Bool). t && at T c (relationExpression (T .relations) r)) (sym (lt-ltb r (relationCount T) relation-in))
 
 -- relation r can be asked for
-pub relation-read : {conditions relations : List ℕ} {c r : ℕ} → PresentReadable conditions relations c (r + 1) → r < length relations / 2
+pub relation-read : {expressionRows relations : List ℕ} {c r : ℕ} → PresentReadable expressionRows relations c (r + 1) → r < length relations / 2
 relation-read A = rw (A .reads .relationsAre) (let l = A .few in omega arith)

@@ -18,7 +18,7 @@ with-test : (bits a : ℕ) (t : Bool) → cond t (bitOr bits (2 ^ a)) bits ≡ b
 with-test bits a true = refl
 with-test bits a false = sym (or-zero-r bits)
 
-module _ {T : Tables} {offset : ℕ} {conditions entries : List ℕ} {c start count : ℕ} (R : ListReads T offset conditions entries c start count)
+module _ {T : Tables} {offset : ℕ} {expressionRows entries : List ℕ} {c start count : ℕ} (R : ListReads T offset expressionRows entries c start count)
     {i : ℕ} (h : i < count) {a : ℕ} (p : a ≡ entryAttribute entries (start + i)) {t : Bool} (d : t ≡ entryHolds T c (offset + start + i)) where
   entry-more : {bits after : ℕ} → bits ≡ joinedSet T c (offset + start) i → after ≡ cond t (bitOr bits (2 ^ a)) bits
       → after ≡ joinedSet T c (offset + start) (i + 1)
@@ -30,26 +30,26 @@ module _ {T : Tables} {offset : ℕ} {conditions entries : List ℕ} {c start co
 -- ---- the loop over a list
 
 -- of the `count` entries from `start` on the first i are joined
-pub record EntriesJoined (conditions entries : List ℕ) (c start count bits i : ℕ) : Type 0 where
+pub record EntriesJoined (expressionRows entries : List ℕ) (c start count bits i : ℕ) : Type 0 where
   pub most : i ≤ count
-  pub joined : (T : Tables) (offset : ℕ) → ListReads T offset conditions entries c start count → bits ≡ joinedSet T c (offset + start) i
+  pub joined : (T : Tables) (offset : ℕ) → ListReads T offset expressionRows entries c start count → bits ≡ joinedSet T c (offset + start) i
 
-module _ {conditions entries : List ℕ} {c start count bits : ℕ} where
-  pub joined-none : bits ≡ 0 → EntriesJoined conditions entries c start count bits 0
+module _ {expressionRows entries : List ℕ} {c start count bits : ℕ} where
+  pub joined-none : bits ≡ 0 → EntriesJoined expressionRows entries c start count bits 0
   unfolding joinedSet
   joined-none e = record { most = omega arith; joined = λ T offset R. e }
 
-  module _ {i : ℕ} (S : EntriesJoined conditions entries c start count bits i) where
+  module _ {i : ℕ} (S : EntriesJoined expressionRows entries c start count bits i) where
     pub joined-more : i < count → {a after : ℕ} {t : Bool} → a ≡ entryAttribute entries (start + i)
-        → ((T : Tables) (offset : ℕ) → ListReads T offset conditions entries c start (i + 1) → t ≡ entryHolds T c (offset + start + i))
+        → ((T : Tables) (offset : ℕ) → ListReads T offset expressionRows entries c start (i + 1) → t ≡ entryHolds T c (offset + start + i))
         → after ≡ cond t (bitOr bits (2 ^ a)) bits
-        → EntriesJoined conditions entries c start count after (i + 1)
+        → EntriesJoined expressionRows entries c start count after (i + 1)
     joined-more h p d e = record {
       most = omega arith;
       joined = λ T offset R. entry-more R h p (d T offset (each-entry R h)) (S .joined T offset R) e;
     }
 
-    pub joined-all : count ≤ i → (T : Tables) (offset : ℕ) → ListReads T offset conditions entries c start count
+    pub joined-all : count ≤ i → (T : Tables) (offset : ℕ) → ListReads T offset expressionRows entries c start count
         → bits ≡ joinedSet T c (offset + start) count
     joined-all h T offset R =
         let e : i ≡ count = (let l = S .most in omega arith) in

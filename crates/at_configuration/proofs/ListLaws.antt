@@ -18,7 +18,7 @@ use Rattle.at_configuration.proofs.HoldLaws.{rowed, holds-in}
 
 -- ---- one entry
 
-module _ {T : Tables} {offset : ℕ} {conditions entries : List ℕ} {c start count : ℕ} (R : ListReads T offset conditions entries c start count) where
+module _ {T : Tables} {offset : ℕ} {expressionRows entries : List ℕ} {c start count : ℕ} (R : ListReads T offset expressionRows entries c start count) where
   module _ {i : ℕ} (h : i < count) where
     entry-read : start + i < length entries / 2
     entry-read = let l = R .lies in omega arith
@@ -44,28 +44,28 @@ module _ {T : Tables} {offset : ℕ} {conditions entries : List ℕ} {c start co
       expression-in : e < expressionCount T
       expression-in = rw expression-is (entry-expression (R .reads .formed) (offset + start + i) entry-in)
 
-      pub entry-rowed : (e * 16 + 16 ≤ length conditions) × (c < 1024)
+      pub entry-rowed : (e * 16 + 16 ≤ length expressionRows) × (c < 1024)
       entry-rowed = rowed (R .reads) expression-in
 
-      pub entry-holds : {b : Bool} → b ≡ rowBit (rowIn 16 conditions e) c → b ≡ entryHolds T c (offset + start + i)
+      pub entry-holds : {b : Bool} → b ≡ rowBit (rowIn 16 expressionRows e) c → b ≡ entryHolds T c (offset + start + i)
       entry-holds d = d ∙ holds-in (R .reads) expression-in ∙ ap (at T c) expression-is
 
     -- the entries of a list up to entry i
-    pub each-entry : ListReads T offset conditions entries c start (i + 1)
+    pub each-entry : ListReads T offset expressionRows entries c start (i + 1)
     each-entry = record { reads = R .reads; part = R .part; lies = let l = R .lies in omega arith }
 
   -- the length of a list is a word
   pub list-small : count < 65536
   list-small = let l = R .lies in let m = R .part .inside in let k = R .reads .formed .sized1 .fits in omega arith
 
-pub some-entry : {conditions entries : List ℕ} {c start count : ℕ} → ListReadable conditions entries c start count → {i : ℕ} → i < count
-    → ListReadable conditions entries c start (i + 1)
+pub some-entry : {expressionRows entries : List ℕ} {c start count : ℕ} → ListReadable expressionRows entries c start count → {i : ℕ} → i < count
+    → ListReadable expressionRows entries c start (i + 1)
 some-entry A h = record { tables = A .tables; offset = A .offset; reads = each-entry (A .reads) h }
 
 -- ---- the list of a relation
 
-module _ {T : Tables} {conditions entries relations : List ℕ} {c : ℕ} (R : RelationReads T conditions entries relations c) where
-  pub reads-present : PresentReads T conditions relations c
+module _ {T : Tables} {expressionRows entries relations : List ℕ} {c : ℕ} (R : RelationReads T expressionRows entries relations c) where
+  pub reads-present : PresentReads T expressionRows relations c
   reads-present = record { reads = R .reads; relationsAre = R .relationsAre }
 
   module _ {r start : ℕ} (s : start ≡ relationStart relations r) (h : r < length relations / 2) {n : ℕ} (e : n ≡ relationLength relations r) where
@@ -75,7 +75,7 @@ module _ {T : Tables} {conditions entries relations : List ℕ} {c : ℕ} (R : R
     pub is-long : n ≡ relationLength (T .relations) r
     is-long = e ∙ ap (λ (t : List ℕ). relationLength t r) (R .relationsAre)
 
-    pub relation-list : ListReads T 0 conditions entries c start n
+    pub relation-list : ListReads T 0 expressionRows entries c start n
     relation-list = record {
       reads = R .reads;
       part = rw (R .entriesAre) (relation-part (R .reads .formed));
@@ -86,13 +86,13 @@ module _ {T : Tables} {conditions entries relations : List ℕ} {c : ℕ} (R : R
 
 -- ---- the list of a query form
 
-module _ {T : Tables} {q : ℕ} {conditions entries : List ℕ} {c start : ℕ} {x : Query} (A : FormAt T q conditions entries c start x) where
+module _ {T : Tables} {q : ℕ} {expressionRows entries : List ℕ} {c start : ℕ} {x : Query} (A : FormAt T q expressionRows entries c start x) where
   -- what a form is made of
   pub form-lower : QueryLower T q x
   form-lower = rw (A .form) (query-at (A .reads .formed) q (A .inside))
 
   -- a form that is no project lists no entries
-  pub form-list : {n : ℕ} → n ≡ projectLength x → ListReads T (relationsEnd T) conditions entries c start n
+  pub form-list : {n : ℕ} → n ≡ projectLength x → ListReads T (relationsEnd T) expressionRows entries c start n
   form-list e = record {
     reads = A .reads;
     part = rw (A .entriesAre) (project-part (A .reads .formed));

@@ -7,54 +7,54 @@ use Rattle.report.specs.Tables.{Tables, query, relationCount, queryCount, proje
 use Rattle.report.specs.Expressions.{configurations}
 use Rattle.report.specs.Formed.{Formed, EntriesFrom}
 use Rattle.report.specs.declared.Query.{Query}
-use Rattle.conditions.specs.Conditions.{Conditioned}
+use Rattle.expression_rows.specs.ExpressionRows.{TruthFilled}
 
 -- the expression rows of tables that have passed the form checks, and a configuration of their features
-pub record AtReads (T : Tables) (conditions : List ℕ) (c : ℕ) : Type 0 where
+pub record AtReads (T : Tables) (expressionRows : List ℕ) (c : ℕ) : Type 0 where
   pub formed : Formed T
-  pub filled : Conditioned T conditions
+  pub filled : TruthFilled T expressionRows
   pub inside : c < configurations T
 
 -- besides, the entries of table 1 from entry `offset` on, and a list in them
-pub record ListReads (T : Tables) (offset : ℕ) (conditions entries : List ℕ) (c start count : ℕ) : Type 0 where
-  pub reads : AtReads T conditions c
+pub record ListReads (T : Tables) (offset : ℕ) (expressionRows entries : List ℕ) (c start count : ℕ) : Type 0 where
+  pub reads : AtReads T expressionRows c
   pub part : EntriesFrom T offset entries
   pub lies : start + count ≤ length entries / 2
 
-pub record ListReadable (conditions entries : List ℕ) (c start count : ℕ) : Type 0 where
+pub record ListReadable (expressionRows entries : List ℕ) (c start count : ℕ) : Type 0 where
   pub tables : Tables
   pub offset : ℕ
-  pub reads : ListReads tables offset conditions entries c start count
+  pub reads : ListReads tables offset expressionRows entries c start count
 
 -- table 2, of which the relations below a bound may be asked for
-pub record PresentReads (T : Tables) (conditions relations : List ℕ) (c : ℕ) : Type 0 where
-  pub reads : AtReads T conditions c
+pub record PresentReads (T : Tables) (expressionRows relations : List ℕ) (c : ℕ) : Type 0 where
+  pub reads : AtReads T expressionRows c
   pub relationsAre : relations ≡ T .relations
 
-pub record PresentReadable (conditions relations : List ℕ) (c bound : ℕ) : Type 0 where
+pub record PresentReadable (expressionRows relations : List ℕ) (c bound : ℕ) : Type 0 where
   pub tables : Tables
-  pub reads : PresentReads tables conditions relations c
+  pub reads : PresentReads tables expressionRows relations c
   pub few : bound ≤ relationCount tables
 
 -- the relations' entries and table 2
-pub record RelationReads (T : Tables) (conditions entries relations : List ℕ) (c : ℕ) : Type 0 where
-  pub reads : AtReads T conditions c
+pub record RelationReads (T : Tables) (expressionRows entries relations : List ℕ) (c : ℕ) : Type 0 where
+  pub reads : AtReads T expressionRows c
   pub entriesAre : entries ≡ entriesOfRelations T
   pub relationsAre : relations ≡ T .relations
 
 -- table 3, and room for a number of each comparison
-pub record ComparisonReads (T : Tables) (conditions comparisons : List ℕ) (c : ℕ) : Type 0 where
-  pub reads : AtReads T conditions c
+pub record ComparisonReads (T : Tables) (expressionRows comparisons : List ℕ) (c : ℕ) : Type 0 where
+  pub reads : AtReads T expressionRows c
   pub comparisonsAre : comparisons ≡ T .comparisons
 
-pub record ComparisonNumberable (conditions comparisons : List ℕ) (c : ℕ) (numbers : List ℕ) : Type 0 where
+pub record ComparisonNumberable (expressionRows comparisons : List ℕ) (c : ℕ) (numbers : List ℕ) : Type 0 where
   pub tables : Tables
-  pub reads : ComparisonReads tables conditions comparisons c
+  pub reads : ComparisonReads tables expressionRows comparisons c
   pub room : length comparisons / 5 ≤ length numbers
 
 -- the project forms' entries, and x, which is query form q: a project's list starts at `start`
-pub record FormAt (T : Tables) (q : ℕ) (conditions entries : List ℕ) (c start : ℕ) (x : Query) : Type 0 where
-  pub reads : AtReads T conditions c
+pub record FormAt (T : Tables) (q : ℕ) (expressionRows entries : List ℕ) (c start : ℕ) (x : Query) : Type 0 where
+  pub reads : AtReads T expressionRows c
   pub entriesAre : entries ≡ entriesOfProjects T
   pub inside : q < queryCount T
   pub form : x ≡ query (T .queries) q

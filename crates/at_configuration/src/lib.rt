@@ -24,44 +24,50 @@ pub fn holds_at(rows: &[u64], x: usize, c: usize) -> bool
 }
 
 // The alternative that a choice on expression e takes at c: a where e holds, b elsewhere.
-pub fn taken_at(conditions: &[u64], c: usize, e: usize, a: usize, b: usize) -> usize
-    requires { ⌜ (e * 16 + 16 ≤ length (now conditions)) × (c < 1024) ⌝ }
-    ensures { λ k. ⌜ k ≡ cond (rowBit (rowIn 16 (now (conditions .entry)) e) c) a b ⌝ }
+pub fn taken_at(c: usize, e: usize, a: usize, b: usize, expression_rows: &[u64]) -> usize
+    requires { ⌜ (e * 16 + 16 ≤ length (now «expression_rows»)) × (c < 1024) ⌝ }
+    ensures { λ k. ⌜ k ≡ cond (rowBit (rowIn 16 (now («expression_rows» .entry)) e) c) a b ⌝ }
 {
-    if holds_at(conditions, e, c) {
+    if holds_at(expression_rows, e, c) {
         return a;
     }
     b
 }
 
 // Entry i of the list that starts at `start` holds at c.
-pub fn entry_holds(entries: &[u16], conditions: &[u64], c: usize, start: usize, i: usize) -> bool
-    requires { ⌜ ListReadable (now conditions) (now entries) c start (i + 1) ⌝ }
+pub fn entry_holds(
+    c: usize,
+    start: usize,
+    i: usize,
+    expression_rows: &[u64],
+    entries: &[u16],
+) -> bool
+    requires { ⌜ ListReadable (now «expression_rows») (now entries) c start (i + 1) ⌝ }
     ensures { λ b.
-        ⌜ ((T : Tables) (offset : ℕ) → ListReads T offset (now (conditions .entry)) (now (entries .entry)) c start (i + 1)
+        ⌜ ((T : Tables) (offset : ℕ) → ListReads T offset (now («expression_rows» .entry)) (now (entries .entry)) c start (i + 1)
         → b ≡ entryHolds T c (offset + start + i)) ⌝ }
 {
-    holds_at(conditions, entry_expression(entries, start + i), c)
+    holds_at(expression_rows, entry_expression(entries, start + i), c)
 }
 
 // The joined set of a list at c: the attributes of those of the `count` entries from `start` on that hold.
 pub fn joined_at(
-    entries: &[u16],
-    conditions: &[u64],
     c: usize,
     start: usize,
     count: usize,
+    expression_rows: &[u64],
+    entries: &[u16],
 ) -> AttributeSet
-    requires { ⌜ ListReadable (now conditions) (now entries) c start count ⌝ }
+    requires { ⌜ ListReadable (now «expression_rows») (now entries) c start count ⌝ }
     ensures { λ s.
-        ⌜ ((T : Tables) (offset : ℕ) → ListReads T offset (now (conditions .entry)) (now (entries .entry)) c start count
+        ⌜ ((T : Tables) (offset : ℕ) → ListReads T offset (now («expression_rows» .entry)) (now (entries .entry)) c start count
         → s .bits ≡ joinedSet T c (offset + start) count) ⌝ }
 {
     let mut joined = AttributeSet::empty();
     let mut i = 0;
     while i < count {
         let a = entry_attribute(entries, start + i);
-        let holds = entry_holds(entries, conditions, c, start, i);
+        let holds = entry_holds(c, start, i, expression_rows, entries);
         joined = joined.with_if(a, holds);
         i += 1;
     }
@@ -69,9 +75,9 @@ pub fn joined_at(
 }
 
 // Relation r is present at c.
-pub fn is_present(relations: &[u16], conditions: &[u64], c: usize, r: usize) -> bool
-    requires { ⌜ PresentReadable (now conditions) (now relations) c (r + 1) ⌝ }
-    ensures { λ b. ⌜ ((T : Tables) → PresentReads T (now (conditions .entry)) (now (relations .entry)) c → b ≡ present T c r) ⌝ }
+pub fn is_present(c: usize, r: usize, expression_rows: &[u64], relations: &[u16]) -> bool
+    requires { ⌜ PresentReadable (now «expression_rows») (now relations) c (r + 1) ⌝ }
+    ensures { λ b. ⌜ ((T : Tables) → PresentReads T (now («expression_rows» .entry)) (now (relations .entry)) c → b ≡ present T c r) ⌝ }
 {
-    holds_at(conditions, relation_expression(relations, r), c)
+    holds_at(expression_rows, relation_expression(relations, r), c)
 }

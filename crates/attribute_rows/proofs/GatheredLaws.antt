@@ -48,7 +48,8 @@ all-or-none : (n : ℕ) {full : List ℕ} → full ≡ rowOf 16 (within n (λ c.
 all-or-none n whole true = whole
 all-or-none n whole false = none-within n
 
-module _ {T : Tables} {conditions comparisons kinds full : List ℕ} (R : GatheredReads T conditions comparisons kinds full) (what : Gathered) (a : ℕ)
+module _ {T : Tables} {expressionRows comparisons kinds full : List ℕ} (R : GatheredReads T expressionRows comparisons kinds full)
+    (what : Gathered) (a : ℕ)
     {rows : List ℕ} {f : ℕ} (B : RowsAre 16 f (gatheredRow T what a) rows) where
   -- what is gathered from comparison k at configuration c
   abbrev gatheredAt : ℕ → ℕ → ℕ
@@ -56,7 +57,7 @@ module _ {T : Tables} {conditions comparisons kinds full : List ℕ} (R : Gather
 
   -- by operands below f, where `own` is what the comparison gives by itself
   gathered-rule : (own : ℕ) (to : Operands) → OperandsLower (expressionCount T) f to
-      → gatheredStep conditions rows full (shows what a own) to
+      → gatheredStep expressionRows rows full (shows what a own) to
       ≡ rowOf 16 (within (T .features) (λ c. shows what a (gatheredOf T c (gatheredAt c) own to)))
   gathered-rule own Operands.Nothing l = all-or-none (T .features) (R .whole) (shows what a own)
   gathered-rule own (Operands.One b) l = B .each b l
@@ -70,7 +71,7 @@ module _ {T : Tables} {conditions comparisons kinds full : List ℕ} (R : Gather
       ∙ taken-within (T .features) (λ c. at T c e) (λ c k. shows what a (gatheredAt c k)) b d
 
   gathered-is : f < length comparisons / 5 → {x : Comparison} {own : Bool} {to : Operands} {row : List ℕ} → x ≡ comparison comparisons f
-      → own ≡ shows what a (ownOf (kindIn kinds) what x) → to ≡ comparisonOperands x → row ≡ gatheredStep conditions rows full own to
+      → own ≡ shows what a (ownOf (kindIn kinds) what x) → to ≡ comparisonOperands x → row ≡ gatheredStep expressionRows rows full own to
       → row ≡ gatheredRow T what a f
   gathered-is h e shown operands step =
       let F = R .formed in
@@ -78,7 +79,7 @@ module _ {T : Tables} {conditions comparisons kinds full : List ℕ} (R : Gather
       let y = comparison (T .comparisons) f in
       let same = e ∙ ap (λ (t : List ℕ). comparison t f) (R .comparisonsAre) in
       step
-      ∙ ap₂ (gatheredStep conditions rows full)
+      ∙ ap₂ (gatheredStep expressionRows rows full)
       (shown ∙ ap₂ (λ (l : List ℕ) (x : Comparison). shows what a (ownOf (kindIn l) what x)) (R .kindsAre) same) (operands ∙ ap comparisonOperands same)
       ∙ gathered-rule (ownOf (kindOf T) what y) (comparisonOperands y) (operands-at F f k)
       ∙ row-same (T .features) (λ c. shows what a (gatheredOf T c (gatheredAt c) (ownOf (kindOf T) what y) (comparisonOperands y)))
@@ -86,28 +87,30 @@ module _ {T : Tables} {conditions comparisons kinds full : List ℕ} (R : Gather
 
 -- ---- the loop
 
-module _ (what : Gathered) {conditions comparisons kinds full : List ℕ} {a : ℕ} {lent rows : List ℕ} {f : ℕ}
-    (S : RowsFilling (λ T. GatheredReads T conditions comparisons kinds full) (λ T. gatheredRow T what) a (length comparisons / 5) lent rows f) where
+module _ (what : Gathered) {expressionRows comparisons kinds full : List ℕ} {a : ℕ} {lent rows : List ℕ} {f : ℕ}
+    (S : RowsFilling (λ T. GatheredReads T expressionRows comparisons kinds full) (λ T. gatheredRow T what) a
+    (length comparisons / 5) lent rows f) where
   module _ (h : f < length comparisons / 5) {x : Comparison} (e : x ≡ comparison comparisons f) where
     -- what the next row is made of has a row
-    pub gathered-read : GatheredReadable conditions comparisons kinds full lent → GatheredRead conditions rows (comparisonOperands x)
+    pub gathered-read : GatheredReadable expressionRows comparisons kinds full lent → GatheredRead expressionRows rows (comparisonOperands x)
     gathered-read A =
         let R = A .reads in
         record {
           expressions = expressionCount (A .tables);
           form = f;
           lower = rw (e, R .comparisonsAre) (operands-at (R .formed) f (rw (R .comparisonsAre) at h));
-          conditioned = R .filled .room;
+          rowed = R .filled .room;
           below = let m = A .room in let s = S .size in omega arith;
         }
 
     pub gathered-more : {own : Bool} {to : Operands} {row after : List ℕ} → own ≡ shows what a (ownOf (kindIn kinds) what x)
-        → to ≡ comparisonOperands x → row ≡ gatheredStep conditions rows full own to
+        → to ≡ comparisonOperands x → row ≡ gatheredStep expressionRows rows full own to
         → length after ≡ length rows → after ≡ withRow 16 rows f row
-        → RowsFilling (λ T. GatheredReads T conditions comparisons kinds full) (λ T. gatheredRow T what) a (length comparisons / 5) lent after (f + 1)
+        → RowsFilling (λ T. GatheredReads T expressionRows comparisons kinds full) (λ T. gatheredRow T what) a (length comparisons / 5) lent after
+        (f + 1)
     gathered-more shown operands step =
         filling-more (λ T. gathered-wide T what) S h (λ T R B. gathered-is R what a B h e shown operands step)
 
-  pub gathered-all : length comparisons / 5 ≤ f → (T : Tables) → GatheredReads T conditions comparisons kinds full
+  pub gathered-all : length comparisons / 5 ≤ f → (T : Tables) → GatheredReads T expressionRows comparisons kinds full
       → rows ≡ written (concat (comparisonCount T) (gatheredRow T what a)) lent
   gathered-all h T R = filling-all (λ T. gathered-wide T what) S h T R (ap (λ (t : List ℕ). length t / 5) (R .comparisonsAre))

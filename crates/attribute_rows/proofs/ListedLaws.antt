@@ -27,12 +27,13 @@ use Rattle.attribute_rows.proofs.FillLaws.{RowsFilling, filling-none, f
 
 -- ---- one entry: what the code found of it (E says which entry of which table)
 
-module _ {conditions entries : List ℕ} {k : ℕ} (E : EntryRead conditions entries k) (row : List ℕ) {a t : ℕ} (p : t ≡ entryAttribute entries k) where
-  pub entry-named : a ≡ t → {x : ℕ} {own all : List ℕ} → x ≡ entryExpression entries k → own ≡ rowIn 16 conditions x → all ≡ rowJoin 16 row own
-      → all ≡ entryRow conditions entries a k row
-  entry-named e q load joined = rw (eq-eqb a (entryAttribute entries k) (e ∙ p)) (joined ∙ ap (rowJoin 16 row) (load ∙ ap (rowIn 16 conditions) q))
+module _ {expressionRows entries : List ℕ} {k : ℕ} (E : EntryRead expressionRows entries k) (row : List ℕ) {a t : ℕ}
+    (p : t ≡ entryAttribute entries k) where
+  pub entry-named : a ≡ t → {x : ℕ} {own all : List ℕ} → x ≡ entryExpression entries k → own ≡ rowIn 16 expressionRows x → all ≡ rowJoin 16 row own
+      → all ≡ entryRow expressionRows entries a k row
+  entry-named e q load joined = rw (eq-eqb a (entryAttribute entries k) (e ∙ p)) (joined ∙ ap (rowJoin 16 row) (load ∙ ap (rowIn 16 expressionRows) q))
 
-  pub entry-other : (a ≡ t → ⊥) → row ≡ entryRow conditions entries a k row
+  pub entry-other : (a ≡ t → ⊥) → row ≡ entryRow expressionRows entries a k row
   entry-other e = rw (ne-eqb a (entryAttribute entries k) (λ i. e (i ∙ sym p)))
 
 -- ---- one entry more
@@ -64,12 +65,13 @@ module _ (T : Tables) (a : ℕ) (h : ℕ → Bool) (f : ℕ → ℕ) where
 -- ---- the loop over a list
 
 -- of the `count` entries from `start` on the first i are joined
-pub record EntriesJoining (conditions entries : List ℕ) (a start count : ℕ) (row : List ℕ) (i : ℕ) : Type 0 where
+pub record EntriesJoining (expressionRows entries : List ℕ) (a start count : ℕ) (row : List ℕ) (i : ℕ) : Type 0 where
   pub most : i ≤ count
-  pub joined : (T : Tables) (offset : ℕ) → ListRowReads T offset conditions entries start count → row ≡ listRow T a (offset + start) i
+  pub joined : (T : Tables) (offset : ℕ) → ListRowReads T offset expressionRows entries start count → row ≡ listRow T a (offset + start) i
 
 -- entry i of a list, in table 1
-module _ {T : Tables} {offset : ℕ} {conditions entries : List ℕ} {start count : ℕ} (R : ListRowReads T offset conditions entries start count) (i : ℕ)
+module _ {T : Tables} {offset : ℕ} {expressionRows entries : List ℕ} {start count : ℕ}
+    (R : ListRowReads T offset expressionRows entries start count) (i : ℕ)
     (h : i < count) where
   in-part : start + i < length entries / 2
   in-part = let l = R .inside in omega arith
@@ -86,8 +88,8 @@ module _ {T : Tables} {offset : ℕ} {conditions entries : List ℕ} {start coun
   expression-in : entryExpression (T .entries) (offset + start + i) < expressionCount T
   expression-in = entry-expression (R .formed) (offset + start + i) in-table
 
-pub entry-read : {conditions entries : List ℕ} {start count : ℕ} → ListRowReadable conditions entries start count → (i : ℕ) → i < count
-    → EntryRead conditions entries (start + i)
+pub entry-read : {expressionRows entries : List ℕ} {start count : ℕ} → ListRowReadable expressionRows entries start count → (i : ℕ) → i < count
+    → EntryRead expressionRows entries (start + i)
 entry-read A i h =
     let R = A .reads in
     record {
@@ -95,14 +97,14 @@ entry-read A i h =
       rowed = let x = expression-in R i h in let e = expression-is R i h in let m = R .filled .room in omega arith;
     }
 
-module _ {conditions entries : List ℕ} {a start count : ℕ} {row : List ℕ} where
-  pub listing-none : row ≡ rowOf 16 (λ c. false) → EntriesJoining conditions entries a start count row 0
+module _ {expressionRows entries : List ℕ} {a start count : ℕ} {row : List ℕ} where
+  pub listing-none : row ≡ rowOf 16 (λ c. false) → EntriesJoining expressionRows entries a start count row 0
   unfolding joinedSet
   listing-none e = record { most = omega arith; joined = λ T offset R. e ∙ has-none T a }
 
-  module _ {i : ℕ} (S : EntriesJoining conditions entries a start count row i) where
-    pub listing-more : i < count → {after : List ℕ} → after ≡ entryRow conditions entries a (start + i) row
-        → EntriesJoining conditions entries a start count after (i + 1)
+  module _ {i : ℕ} (S : EntriesJoining expressionRows entries a start count row i) where
+    pub listing-more : i < count → {after : List ℕ} → after ≡ entryRow expressionRows entries a (start + i) row
+        → EntriesJoining expressionRows entries a start count after (i + 1)
     unfolding joinedSet
     listing-more h e = record {
       most = omega arith;
@@ -110,12 +112,12 @@ module _ {conditions entries : List ℕ} {a start count : ℕ} {row : List ℕ} 
           let x = entryExpression (T .entries) (offset + start + i) in
           let t = entryAttribute (T .entries) (offset + start + i) in
           let l = listRow T a (offset + start) in
-          e ∙ ap₂ (λ (b y : ℕ). cond (eqb a b) (rowJoin 16 row (rowIn 16 conditions y)) row) (attribute-is R i h) (expression-is R i h)
+          e ∙ ap₂ (λ (b y : ℕ). cond (eqb a b) (rowJoin 16 row (rowIn 16 expressionRows y)) row) (attribute-is R i h) (expression-is R i h)
           ∙ ap₂ (λ (r own : List ℕ). cond (eqb a t) (rowJoin 16 r own) r) (S .joined T offset R) (R .filled .each x (expression-in R i h))
           ∙ join-entry T a (λ c. at T c x) (λ c. joinedSet T c (offset + start) i) t ∙ ap l (sym (add-one i));
     }
 
-    pub listing-all : count ≤ i → (T : Tables) (offset : ℕ) → ListRowReads T offset conditions entries start count
+    pub listing-all : count ≤ i → (T : Tables) (offset : ℕ) → ListRowReads T offset expressionRows entries start count
         → row ≡ listRow T a (offset + start) count
     listing-all h T offset R =
         let e : i ≡ count = (let l = S .most in omega arith) in
@@ -123,8 +125,8 @@ module _ {conditions entries : List ℕ} {a start count : ℕ} {row : List ℕ} 
 
 -- ---- one relation
 
-module _ {T : Tables} {conditions entries relations : List ℕ} {r start : ℕ} (A : RelationAt T conditions entries relations r start) where
-  pub relation-reads : {n : ℕ} → n ≡ relationLength relations r → ListRowReads T 0 conditions entries start n
+module _ {T : Tables} {expressionRows entries relations : List ℕ} {r start : ℕ} (A : RelationAt T expressionRows entries relations r start) where
+  pub relation-reads : {n : ℕ} → n ≡ relationLength relations r → ListRowReads T 0 expressionRows entries start n
   relation-reads e = record {
     formed = A .reads .formed;
     filled = A .reads .filled;
@@ -132,7 +134,7 @@ module _ {T : Tables} {conditions entries relations : List ℕ} {r start : ℕ} 
     inside = rw (e, A .reads .relationsAre, A .reads .entriesAre, A .starts) (relation-in-part (A .reads .formed) r (A .inside));
   }
 
-  pub relation-rowed : {x : ℕ} → x ≡ relationExpression relations r → x * 16 + 16 ≤ length conditions
+  pub relation-rowed : {x : ℕ} → x ≡ relationExpression relations r → x * 16 + 16 ≤ length expressionRows
   relation-rowed e =
       let l = relation-expression (A .reads .formed) r (A .inside) in
       let m = A .reads .filled .room in
@@ -141,13 +143,13 @@ module _ {T : Tables} {conditions entries relations : List ℕ} {r start : ℕ} 
 
   pub relation-is : (a : ℕ) {n x : ℕ} {all own row : List ℕ} → n ≡ relationLength relations r → x ≡ relationExpression relations r
       → all ≡ listRow T a (0 + start) n
-      → own ≡ rowIn 16 conditions x → row ≡ rowIntersect 16 all own → row ≡ relationRow T a r
+      → own ≡ rowIn 16 expressionRows x → row ≡ rowIntersect 16 all own → row ≡ relationRow T a r
   relation-is a {n} {x} p q list load met =
       let e = relationExpression (T .relations) r in
       let s : 0 + start ≡ relationStart (T .relations) r = (let b = A .starts in omega arith) in
       met
       ∙ ap₂ (rowIntersect 16) (list ∙ ap₂ (listRow T a) s (p ∙ ap (λ (t : List ℕ). relationLength t r) (A .reads .relationsAre)))
-      (load ∙ ap (rowIn 16 conditions) (q ∙ ap (λ (t : List ℕ). relationExpression t r) (A .reads .relationsAre))
+      (load ∙ ap (rowIn 16 expressionRows) (q ∙ ap (λ (t : List ℕ). relationExpression t r) (A .reads .relationsAre))
       ∙ A .reads .filled .each e (relation-expression (A .reads .formed) r (A .inside)))
       ∙ has-where T a (λ c. at T c e) (λ c. relationSet T c r)
       ∙ ap (λ (t : Bool). hasRow T a (λ c. cond (t && at T c e) (relationSet T c r) 0)) (sym (lt-ltb r (relationCount T) (A .inside)))
@@ -155,35 +157,36 @@ module _ {T : Tables} {conditions entries relations : List ℕ} {r start : ℕ} 
 -- ---- the loop over the relations
 
 -- the rows of those below r stand over `lent`, and the list of r starts at `start`
-pub record RelationsFilling (conditions entries relations : List ℕ) (a : ℕ) (lent relationRows : List ℕ) (r start : ℕ) : Type 0 where
-  pub rows : RowsFilling (λ T. RelationRowReads T conditions entries relations) relationRow a (length relations / 2) lent relationRows r
+pub record RelationsFilling (expressionRows entries relations : List ℕ) (a : ℕ) (lent relationRows : List ℕ) (r start : ℕ) : Type 0 where
+  pub rows : RowsFilling (λ T. RelationRowReads T expressionRows entries relations) relationRow a (length relations / 2) lent relationRows r
   pub starts : start ≡ relationStart relations r
 
-pub related-none : {conditions entries relations : List ℕ} {a : ℕ} {lent : List ℕ} → RelationsFilling conditions entries relations a lent lent 0 0
+pub related-none : {expressionRows entries relations : List ℕ} {a : ℕ} {lent : List ℕ}
+    → RelationsFilling expressionRows entries relations a lent lent 0 0
 related-none = record { rows = filling-none; starts = refl }
 
-module _ {conditions entries relations : List ℕ} {a : ℕ} {lent relationRows : List ℕ} {r start : ℕ}
-    (S : RelationsFilling conditions entries relations a lent relationRows r start) where
+module _ {expressionRows entries relations : List ℕ} {a : ℕ} {lent relationRows : List ℕ} {r start : ℕ}
+    (S : RelationsFilling expressionRows entries relations a lent relationRows r start) where
   module _ (h : r < length relations / 2) where
-    related-at : {T : Tables} → RelationRowReads T conditions entries relations → RelationAt T conditions entries relations r start
+    related-at : {T : Tables} → RelationRowReads T expressionRows entries relations → RelationAt T expressionRows entries relations r start
     related-at R = record { reads = R; inside = rw (R .relationsAre) at h; starts = rw (R .relationsAre) at (S .starts) }
 
-    pub related-some : RelationRowReadable conditions entries relations lent → SomeRelation conditions entries relations r start
+    pub related-some : RelationRowReadable expressionRows entries relations lent → SomeRelation expressionRows entries relations r start
     related-some A = record { tables = A .tables; at = related-at (A .reads) }
 
     module _ {n : ℕ} (e : n ≡ relationLength relations r) where
       -- the next list starts in the entries, or at their end
-      pub related-small : RelationRowReadable conditions entries relations lent → start + n ≤ length entries / 2
+      pub related-small : RelationRowReadable expressionRows entries relations lent → start + n ≤ length entries / 2
       related-small A = relation-reads (related-at (A .reads)) e .inside
 
-      pub related-more : {row after : List ℕ} → ((T : Tables) → RelationAt T conditions entries relations r start → row ≡ relationRow T a r)
+      pub related-more : {row after : List ℕ} → ((T : Tables) → RelationAt T expressionRows entries relations r start → row ≡ relationRow T a r)
           → length after ≡ length relationRows → after ≡ withRow 16 relationRows r row
-          → RelationsFilling conditions entries relations a lent after (r + 1) (start + n)
+          → RelationsFilling expressionRows entries relations a lent after (r + 1) (start + n)
       related-more row same stored = record {
         rows = filling-more relation-wide (S .rows) h (λ T R B. row T (related-at R)) same stored;
         starts = ap₂ _+_ (S .starts) e ∙ ap (relationStart relations) (sym (add-one r));
       }
 
-  pub related-all : length relations / 2 ≤ r → (T : Tables) → RelationRowReads T conditions entries relations
+  pub related-all : length relations / 2 ≤ r → (T : Tables) → RelationRowReads T expressionRows entries relations
       → relationRows ≡ written (concat (relationCount T) (relationRow T a)) lent
   related-all h T R = filling-all relation-wide (S .rows) h T R (ap (λ (t : List ℕ). length t / 2) (R .relationsAre))

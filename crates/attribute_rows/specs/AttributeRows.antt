@@ -12,7 +12,7 @@ use Rattle.report.specs.Typing.{joinedSet, present, relationSet, gathered, setO
 use Rattle.report.specs.Formed.{Formed, EntriesFrom}
 use Rattle.comparisons.specs.Gathering.{ownOf, shows}
 use Rattle.comparisons.specs.declared.Gathered.{Gathered}
-use Rattle.conditions.specs.Conditions.{Conditioned}
+use Rattle.expression_rows.specs.ExpressionRows.{TruthFilled}
 
 module _ (T : Tables) (a : ℕ) where
   -- the configurations at which a set that goes by configurations has attribute a
@@ -35,42 +35,42 @@ module _ (T : Tables) (a : ℕ) where
 abbrev pub gatheredRow : Tables → Gathered → ℕ → ℕ → List ℕ
 gatheredRow T what a f = rowOf 16 (within (T .features) (λ c. shows what a (gathered T c (ownOf (kindOf T) what) f)))
 
--- ---- what each function reads of tables T that have passed the form checks, whose expression rows `conditions` starts with; `..Readable`: there are
+-- ---- what each function reads of tables T that have passed the form checks, whose expression rows `expressionRows` starts with; `..Readable`: there are
 -- such tables, and room
 
 -- a list in `entries`, which are those of table 1 from entry `offset` on
-pub record ListRowReads (T : Tables) (offset : ℕ) (conditions entries : List ℕ) (start count : ℕ) : Type 0 where
+pub record ListRowReads (T : Tables) (offset : ℕ) (expressionRows entries : List ℕ) (start count : ℕ) : Type 0 where
   pub formed : Formed T
-  pub filled : Conditioned T conditions
+  pub filled : TruthFilled T expressionRows
   pub part : EntriesFrom T offset entries
   pub inside : start + count ≤ length entries / 2
 
-pub record ListRowReadable (conditions entries : List ℕ) (start count : ℕ) : Type 0 where
+pub record ListRowReadable (expressionRows entries : List ℕ) (start count : ℕ) : Type 0 where
   pub tables : Tables
   pub offset : ℕ
-  pub reads : ListRowReads tables offset conditions entries start count
+  pub reads : ListRowReads tables offset expressionRows entries start count
 
 -- the relations' entries and table 2
-pub record RelationRowReads (T : Tables) (conditions relationEntries relations : List ℕ) : Type 0 where
+pub record RelationRowReads (T : Tables) (expressionRows relationEntries relations : List ℕ) : Type 0 where
   pub formed : Formed T
-  pub filled : Conditioned T conditions
+  pub filled : TruthFilled T expressionRows
   pub entriesAre : relationEntries ≡ entriesOfRelations T
   pub relationsAre : relations ≡ T .relations
 
-pub record RelationRowReadable (conditions relationEntries relations lent : List ℕ) : Type 0 where
+pub record RelationRowReadable (expressionRows relationEntries relations lent : List ℕ) : Type 0 where
   pub tables : Tables
-  pub reads : RelationRowReads tables conditions relationEntries relations
+  pub reads : RelationRowReads tables expressionRows relationEntries relations
   pub room : length relations / 2 * 16 ≤ length lent
 
 -- table 3 and the kind table; `full` has all configurations
-pub record GatheredReads (T : Tables) (conditions comparisons kinds full : List ℕ) : Type 0 where
+pub record GatheredReads (T : Tables) (expressionRows comparisons kinds full : List ℕ) : Type 0 where
   pub formed : Formed T
-  pub filled : Conditioned T conditions
+  pub filled : TruthFilled T expressionRows
   pub comparisonsAre : comparisons ≡ T .comparisons
   pub kindsAre : kinds ≡ T .kinds
   pub whole : full ≡ rowOf 16 (within (T .features) (λ c. true))
 
-pub record GatheredReadable (conditions comparisons kinds full lent : List ℕ) : Type 0 where
+pub record GatheredReadable (expressionRows comparisons kinds full lent : List ℕ) : Type 0 where
   pub tables : Tables
-  pub reads : GatheredReads tables conditions comparisons kinds full
+  pub reads : GatheredReads tables expressionRows comparisons kinds full
   pub room : length comparisons / 5 * 16 ≤ length lent

@@ -18,31 +18,31 @@ choiceRow holds x y = rowJoin 16 (rowIntersect 16 x holds) (rowMinus 16 y holds)
 
 -- a row, joined with that of entry k if it names attribute a
 abbrev pub entryRow : List ℕ → List ℕ → ℕ → ℕ → List ℕ → List ℕ
-entryRow conditions entries a k row =
-    cond (eqb a (entryAttribute entries k)) (rowJoin 16 row (rowIn 16 conditions (entryExpression entries k))) row
+entryRow expressionRows entries a k row =
+    cond (eqb a (entryAttribute entries k)) (rowJoin 16 row (rowIn 16 expressionRows (entryExpression entries k))) row
 
 -- entry k is one of these, and its expression has a row
-pub record EntryRead (conditions entries : List ℕ) (k : ℕ) : Type 0 where
+pub record EntryRead (expressionRows entries : List ℕ) (k : ℕ) : Type 0 where
   pub inside : k < length entries / 2
-  pub rowed : entryExpression entries k < length conditions / 16
+  pub rowed : entryExpression entries k < length expressionRows / 16
 
 -- relation r is in table 2, and its list starts at `start`
-pub record RelationAt (T : Tables) (conditions relationEntries relations : List ℕ) (r start : ℕ) : Type 0 where
-  pub reads : RelationRowReads T conditions relationEntries relations
+pub record RelationAt (T : Tables) (expressionRows relationEntries relations : List ℕ) (r start : ℕ) : Type 0 where
+  pub reads : RelationRowReads T expressionRows relationEntries relations
   pub inside : r < relationCount T
   pub starts : start ≡ relationStart (T .relations) r
 
-pub record SomeRelation (conditions relationEntries relations : List ℕ) (r start : ℕ) : Type 0 where
+pub record SomeRelation (expressionRows relationEntries relations : List ℕ) (r start : ℕ) : Type 0 where
   pub tables : Tables
-  pub at : RelationAt tables conditions relationEntries relations r start
+  pub at : RelationAt tables expressionRows relationEntries relations r start
 
 -- the row of a comparison with these operands, from the rows of lower ones; without operands it is `full`, which has all configurations, or empty: what
 -- a comparison gives by itself it gives at all of them
 abbrev pub gatheredStep : List ℕ → List ℕ → List ℕ → Bool → Operands → List ℕ
-gatheredStep conditions rows full own Operands.Nothing = cond own full (rowOf 16 (λ c. false))
-gatheredStep conditions rows full own (Operands.One b) = rowIn 16 rows b
-gatheredStep conditions rows full own (Operands.Both b d) = rowJoin 16 (rowIn 16 rows b) (rowIn 16 rows d)
-gatheredStep conditions rows full own (Operands.Choice e b d) = choiceRow (rowIn 16 conditions e) (rowIn 16 rows b) (rowIn 16 rows d)
+gatheredStep expressionRows rows full own Operands.Nothing = cond own full (rowOf 16 (λ c. false))
+gatheredStep expressionRows rows full own (Operands.One b) = rowIn 16 rows b
+gatheredStep expressionRows rows full own (Operands.Both b d) = rowJoin 16 (rowIn 16 rows b) (rowIn 16 rows d)
+gatheredStep expressionRows rows full own (Operands.Choice e b d) = choiceRow (rowIn 16 expressionRows e) (rowIn 16 rows b) (rowIn 16 rows d)
 
 -- operands are below f, and the expression of a choice below n
 abbrev pub OperandsLower : ℕ → ℕ → Operands → Type 0
@@ -52,30 +52,31 @@ OperandsLower n f (Operands.Both b d) = (b < f) × (d < f)
 OperandsLower n f (Operands.Choice e b d) = (e < n) × (b < f) × (d < f)
 
 -- all that the row of a comparison with these operands is made of has a row
-pub record GatheredRead (conditions rows : List ℕ) (to : Operands) : Type 0 where
+pub record GatheredRead (expressionRows rows : List ℕ) (to : Operands) : Type 0 where
   pub expressions : ℕ
   pub form : ℕ
   pub lower : OperandsLower expressions form to
-  pub conditioned : expressions * 16 ≤ length conditions
+  pub rowed : expressions * 16 ≤ length expressionRows
   pub below : form * 16 ≤ length rows
 
 -- the row of a query form, from those of the relations, of the lower forms and of its own list
 abbrev pub setStep : List ℕ → List ℕ → List ℕ → List ℕ → Query → List ℕ
-setStep conditions relationRows sets listed Query.Malformed = rowOf 16 (λ c. false)
-setStep conditions relationRows sets listed Query.Empty = rowOf 16 (λ c. false)
-setStep conditions relationRows sets listed (Query.Relation r) = rowIn 16 relationRows r
-setStep conditions relationRows sets listed (Query.Select f b) = rowIn 16 sets b
-setStep conditions relationRows sets listed (Query.Project n b) = rowIntersect 16 listed (rowIn 16 sets b)
-setStep conditions relationRows sets listed (Query.Choice e b d) = choiceRow (rowIn 16 conditions e) (rowIn 16 sets b) (rowIn 16 sets d)
-setStep conditions relationRows sets listed (Query.Product b d) = rowJoin 16 (rowIn 16 sets b) (rowIn 16 sets d)
-setStep conditions relationRows sets listed (Query.Union b d) = rowIn 16 sets b
-setStep conditions relationRows sets listed (Query.Intersection b d) = rowIn 16 sets b
+setStep expressionRows relationRows formRows listed Query.Malformed = rowOf 16 (λ c. false)
+setStep expressionRows relationRows formRows listed Query.Empty = rowOf 16 (λ c. false)
+setStep expressionRows relationRows formRows listed (Query.Relation r) = rowIn 16 relationRows r
+setStep expressionRows relationRows formRows listed (Query.Select f b) = rowIn 16 formRows b
+setStep expressionRows relationRows formRows listed (Query.Project n b) = rowIntersect 16 listed (rowIn 16 formRows b)
+setStep expressionRows relationRows formRows listed (Query.Choice e b d) = choiceRow (rowIn 16 expressionRows e) (rowIn 16 formRows b)
+    (rowIn 16 formRows d)
+setStep expressionRows relationRows formRows listed (Query.Product b d) = rowJoin 16 (rowIn 16 formRows b) (rowIn 16 formRows d)
+setStep expressionRows relationRows formRows listed (Query.Union b d) = rowIn 16 formRows b
+setStep expressionRows relationRows formRows listed (Query.Intersection b d) = rowIn 16 formRows b
 
 -- a query stands as a form of some tables, and what it is made of has a row
-pub record SetRead (conditions relationRows sets : List ℕ) (x : Query) : Type 0 where
+pub record SetRead (expressionRows relationRows formRows : List ℕ) (x : Query) : Type 0 where
   pub tables : Tables
   pub form : ℕ
   pub lower : QueryLower tables form x
-  pub conditioned : expressionCount tables * 16 ≤ length conditions
+  pub rowed : expressionCount tables * 16 ≤ length expressionRows
   pub related : relationCount tables * 16 ≤ length relationRows
-  pub below : form * 16 ≤ length sets
+  pub below : form * 16 ≤ length formRows

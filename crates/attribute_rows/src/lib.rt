@@ -3,12 +3,13 @@
 // that others share is worked out once.
 use comparisons::Gathered;
 use comparisons::own_shows;
-use decoders::comparison_at;
 use decoders::comparison_operands;
+use decoders::decode_comparison;
 use decoders::entry_attribute;
 use decoders::entry_expression;
 use decoders::relation_expression;
 use decoders::relation_length;
+use report::Comparison;
 use report::Operands;
 use report::Query;
 use sets::Row;
@@ -18,37 +19,51 @@ ghost use Prim.Native.Nat.{ℕ, _+_, _*_, _≤_};
 ghost use lib.ListN.{length};
 ghost use Rattle.sets.specs.Lists.{concat};
 ghost use Rattle.sets.specs.Rows.{rowOf, rowIn, rowJoin, rowIntersect, rowMinus};
-ghost use Rattle.report.specs.Tables.{Tables, relationCount, comparisonCount};
+ghost use Rattle.report.specs.Tables.{Tables, kindIn, relationCount, comparisonCount};
 ghost use Rattle.report.specs.Configuring.{written};
+ghost use Rattle.comparisons.specs.Gathering.{shows, ownOf};
 ghost use Rattle.attribute_rows.specs.AttributeRows.{listRow, relationRow, gatheredRow, ListRowReads, ListRowReadable};
 ghost use Rattle.attribute_rows.specs.AttributeRows.{RelationRowReads, RelationRowReadable, GatheredReads, GatheredReadable};
 ghost use Rattle.attribute_rows.specs.RowRules.{choiceRow, entryRow, EntryRead, RelationAt, SomeRelation};
 ghost use Rattle.attribute_rows.specs.RowRules.{gatheredStep, GatheredRead, setStep, SetRead};
 
 // A row joined with that of entry i of the list that starts at `start`, if it names attribute a.
-fn with_entry(entries: &[u16], conditions: &[u64], start: usize, i: usize, a: usize, r: Row) -> Row
-    requires { ⌜ EntryRead (now conditions) (now entries) (start + i) ⌝ }
-    ensures { λ s. ⌜ s .words ≡ entryRow (now (conditions .entry)) (now (entries .entry)) a (start + i) (r .words) ⌝ }
+fn with_entry(
+    start: usize,
+    i: usize,
+    a: usize,
+    r: Row,
+    expression_rows: &[u64],
+    entries: &[u16],
+) -> Row
+    requires { ⌜ EntryRead (now «expression_rows») (now entries) (start + i) ⌝ }
+    ensures { λ s. ⌜ s .words ≡ entryRow (now («expression_rows» .entry)) (now (entries .entry)) a (start + i) (r .words) ⌝ }
 {
     let k = start + i;
     if a == entry_attribute(entries, k) {
         let x = entry_expression(entries, k);
-        return r.join(Row::load(conditions, x));
+        return r.join(Row::load(expression_rows, x));
     }
     r
 }
 
 // The join of the rows of the entries that name attribute a, of `count` entries from `start` on.
-pub fn list_row(entries: &[u16], conditions: &[u64], start: usize, count: usize, a: usize) -> Row
-    requires { ⌜ ListRowReadable (now conditions) (now entries) start count ⌝ }
+pub fn list_row(
+    start: usize,
+    count: usize,
+    a: usize,
+    expression_rows: &[u64],
+    entries: &[u16],
+) -> Row
+    requires { ⌜ ListRowReadable (now «expression_rows») (now entries) start count ⌝ }
     ensures { λ r.
-        ⌜ ((T : Tables) (offset : ℕ) → ListRowReads T offset (now (conditions .entry)) (now (entries .entry)) start count
+        ⌜ ((T : Tables) (offset : ℕ) → ListRowReads T offset (now («expression_rows» .entry)) (now (entries .entry)) start count
         → r .words ≡ listRow T a (offset + start) count) ⌝ }
 {
     let mut r = Row::empty();
     let mut i = 0;
     while i < count {
-        r = with_entry(entries, conditions, start, i, a, r);
+        r = with_entry(start, i, a, r, expression_rows, entries);
         i += 1;
     }
     r
@@ -62,7 +77,7 @@ fn choice_row(holds: Row, x: Row, y: Row) -> Row
 }
 
 // All configurations if the test is true, and none else.
-fn row_if(full: Row, test: bool) -> Row
+fn row_if(test: bool, full: Row) -> Row
     ensures { λ r. ⌜ r .words ≡ cond test (full .words) (rowOf 16 (λ c. false)) ⌝ }
 {
     if test {
@@ -72,7 +87,7 @@ fn row_if(full: Row, test: bool) -> Row
 }
 
 // The join of rows b and d.
-fn joined_row(rows: &[u64], b: usize, d: usize) -> Row
+fn joined_row(b: usize, d: usize, rows: &[u64]) -> Row
     requires { ⌜ (b * 16 + 16 ≤ length (now rows)) × (d * 16 + 16 ≤ length (now rows)) ⌝ }
     ensures { λ r. ⌜ r .words ≡ rowJoin 16 (rowIn 16 (now (rows .entry)) b) (rowIn 16 (now (rows .entry)) d) ⌝ }
 {
@@ -80,54 +95,65 @@ fn joined_row(rows: &[u64], b: usize, d: usize) -> Row
 }
 
 // Where expression e holds row b, elsewhere row d.
-fn chosen_row(conditions: &[u64], rows: &[u64], e: usize, b: usize, d: usize) -> Row
-    requires { ⌜ (e * 16 + 16 ≤ length (now conditions)) × (b * 16 + 16 ≤ length (now rows)) × (d * 16 + 16 ≤ length (now rows)) ⌝ }
+fn chosen_row(e: usize, b: usize, d: usize, expression_rows: &[u64], rows: &[u64]) -> Row
+    requires { ⌜ (e * 16 + 16 ≤ length (now «expression_rows»)) × (b * 16 + 16 ≤ length (now rows)) × (d * 16 + 16 ≤ length (now rows)) ⌝ }
     ensures { λ r.
-        ⌜ r .words ≡ choiceRow (rowIn 16 (now (conditions .entry)) e) (rowIn 16 (now (rows .entry)) b) (rowIn 16 (now (rows .entry)) d) ⌝ }
+        ⌜ r .words ≡ choiceRow (rowIn 16 (now («expression_rows» .entry)) e) (rowIn 16 (now (rows .entry)) b) (rowIn 16 (now (rows .entry)) d) ⌝ }
 {
     choice_row(
-        Row::load(conditions, e),
+        Row::load(expression_rows, e),
         Row::load(rows, b),
         Row::load(rows, d),
     )
 }
 
-// The row of a comparison with these operands, from `rows`, which has those of lower comparisons. Without operands it is `full`, which has all
-// configurations, or empty: what a comparison gives by itself it gives at all of them.
-fn gathered_row(to: Operands, conditions: &[u64], rows: &[u64], full: Row, own: bool) -> Row
-    requires { ⌜ GatheredRead (now conditions) (now rows) to ⌝ }
-    ensures { λ r. ⌜ r .words ≡ gatheredStep (now (conditions .entry)) (now (rows .entry)) (full .words) own to ⌝ }
+// The row of comparison x, which has these operands, from `rows`, which has those of lower comparisons. Without operands it is `full`, which has all
+// configurations, or empty: what a comparison gives by itself it gives at all of them. What it gives by itself is looked at there alone.
+fn gathered_row(
+    to: Operands,
+    x: Comparison,
+    what: Gathered,
+    a: usize,
+    full: Row,
+    expression_rows: &[u64],
+    kinds: &[u16],
+    rows: &[u64],
+) -> Row
+    requires { ⌜ GatheredRead (now «expression_rows») (now rows) to ⌝ }
+    ensures { λ r.
+        ⌜ r .words
+        ≡ gatheredStep (now («expression_rows» .entry)) (now (rows .entry)) (full .words) (shows what a (ownOf (kindIn (now (kinds .entry))) what x))
+        to ⌝ }
 {
     match to {
-        Operands::Nothing => row_if(full, own),
+        Operands::Nothing => row_if(own_shows(what, x, a, kinds), full),
         Operands::One(b) => Row::load(rows, b),
-        Operands::Both(b, d) => joined_row(rows, b, d),
-        Operands::Choice(e, b, d) => chosen_row(conditions, rows, e, b, d),
+        Operands::Both(b, d) => joined_row(b, d, rows),
+        Operands::Choice(e, b, d) => chosen_row(e, b, d, expression_rows, rows),
     }
 }
 
 // Fills `rows` with the rows of all comparisons.
 pub fn fill_gathered_rows(
-    comparisons: &[u16],
-    kinds: &[u16],
-    conditions: &[u64],
-    full: Row,
     what: Gathered,
     a: usize,
+    full: Row,
+    expression_rows: &[u64],
+    comparisons: &[u16],
+    kinds: &[u16],
     rows: &mut [u64],
 )
-    requires { ⌜ GatheredReadable (now conditions) (now comparisons) (now kinds) (full .words) (now rows) ⌝ }
+    requires { ⌜ GatheredReadable (now «expression_rows») (now comparisons) (now kinds) (full .words) (now rows) ⌝ }
     ensures { λ _.
-        ⌜ ((T : Tables) → GatheredReads T (now (conditions .entry)) (now (comparisons .entry)) (now (kinds .entry)) (full .words)
+        ⌜ ((T : Tables) → GatheredReads T (now («expression_rows» .entry)) (now (comparisons .entry)) (now (kinds .entry)) (full .words)
         → now (rows .exit) ≡ written (concat (comparisonCount T) (gatheredRow T what a)) (now (rows .entry))) ⌝ }
 {
     let count = comparisons.len() / 5;
     let mut f = 0;
     while f < count {
-        let x = comparison_at(comparisons, f);
-        let own = own_shows(what, x, kinds, a);
+        let x = decode_comparison(comparisons, f);
         let to = comparison_operands(x);
-        let r = gathered_row(to, conditions, &*rows, full, own);
+        let r = gathered_row(to, x, what, a, full, expression_rows, kinds, &*rows);
         r.store(&mut *rows, f);
         f += 1;
     }
@@ -135,43 +161,43 @@ pub fn fill_gathered_rows(
 
 // Relation r, whose list starts at `start`: its list where it is present.
 fn relation_row(
-    relation_entries: &[u16],
-    relations: &[u16],
-    conditions: &[u64],
     r: usize,
     start: usize,
     a: usize,
+    expression_rows: &[u64],
+    relation_entries: &[u16],
+    relations: &[u16],
 ) -> Row
-    requires { ⌜ SomeRelation (now conditions) (now «relation_entries») (now relations) r start ⌝ }
+    requires { ⌜ SomeRelation (now «expression_rows») (now «relation_entries») (now relations) r start ⌝ }
     ensures { λ s.
-        ⌜ ((T : Tables) → RelationAt T (now (conditions .entry)) (now («relation_entries» .entry)) (now (relations .entry)) r start
+        ⌜ ((T : Tables) → RelationAt T (now («expression_rows» .entry)) (now («relation_entries» .entry)) (now (relations .entry)) r start
         → s .words ≡ relationRow T a r) ⌝ }
 {
     let count = relation_length(relations, r);
     let x = relation_expression(relations, r);
-    let listed = list_row(relation_entries, conditions, start, count, a);
-    let present = Row::load(conditions, x);
+    let listed = list_row(start, count, a, expression_rows, relation_entries);
+    let present = Row::load(expression_rows, x);
     listed.intersect(present)
 }
 
 // Fills `relation_rows` with the rows of all relations.
 pub fn fill_relation_rows(
+    a: usize,
+    expression_rows: &[u64],
     relation_entries: &[u16],
     relations: &[u16],
-    conditions: &[u64],
-    a: usize,
     relation_rows: &mut [u64],
 )
-    requires { ⌜ RelationRowReadable (now conditions) (now «relation_entries») (now relations) (now «relation_rows») ⌝ }
+    requires { ⌜ RelationRowReadable (now «expression_rows») (now «relation_entries») (now relations) (now «relation_rows») ⌝ }
     ensures { λ _.
-        ⌜ ((T : Tables) → RelationRowReads T (now (conditions .entry)) (now («relation_entries» .entry)) (now (relations .entry))
+        ⌜ ((T : Tables) → RelationRowReads T (now («expression_rows» .entry)) (now («relation_entries» .entry)) (now (relations .entry))
         → now («relation_rows» .exit) ≡ written (concat (relationCount T) (relationRow T a)) (now («relation_rows» .entry))) ⌝ }
 {
     let count = relations.len() / 2;
     let mut start = 0;
     let mut r = 0;
     while r < count {
-        let row = relation_row(relation_entries, relations, conditions, r, start, a);
+        let row = relation_row(r, start, a, expression_rows, relation_entries, relations);
         row.store(&mut *relation_rows, r);
         start += relation_length(relations, r);
         r += 1;
@@ -181,23 +207,23 @@ pub fn fill_relation_rows(
 // The row of a query form, from the rows of the relations, of the lower forms, and of the form's own list.
 pub fn set_row(
     x: Query,
-    conditions: &[u64],
-    relation_rows: &[u64],
-    sets: &[u64],
     listed: Row,
+    expression_rows: &[u64],
+    relation_rows: &[u64],
+    form_rows: &[u64],
 ) -> Row
-    requires { ⌜ SetRead (now conditions) (now «relation_rows») (now sets) x ⌝ }
-    ensures { λ r. ⌜ r .words ≡ setStep (now (conditions .entry)) (now («relation_rows» .entry)) (now (sets .entry)) (listed .words) x ⌝ }
+    requires { ⌜ SetRead (now «expression_rows») (now «relation_rows») (now «form_rows») x ⌝ }
+    ensures { λ r. ⌜ r .words ≡ setStep (now («expression_rows» .entry)) (now («relation_rows» .entry)) (now («form_rows» .entry)) (listed .words) x ⌝ }
 {
     match x {
         Query::Malformed => Row::empty(),
         Query::Empty => Row::empty(),
         Query::Relation(r) => Row::load(relation_rows, r),
-        Query::Select(_, b) => Row::load(sets, b),
-        Query::Project(_, b) => listed.intersect(Row::load(sets, b)),
-        Query::Choice(e, b, d) => chosen_row(conditions, sets, e, b, d),
-        Query::Product(b, d) => joined_row(sets, b, d),
-        Query::Union(b, _) => Row::load(sets, b),
-        Query::Intersection(b, _) => Row::load(sets, b),
+        Query::Select(_, b) => Row::load(form_rows, b),
+        Query::Project(_, b) => listed.intersect(Row::load(form_rows, b)),
+        Query::Choice(e, b, d) => chosen_row(e, b, d, expression_rows, form_rows),
+        Query::Product(b, d) => joined_row(b, d, form_rows),
+        Query::Union(b, _) => Row::load(form_rows, b),
+        Query::Intersection(b, _) => Row::load(form_rows, b),
     }
 }

@@ -23,7 +23,7 @@ use Rattle.forms.proofs.Chain.{stops, goes-on}
 use Rattle.judging.specs.Judging.{meaningCheck, ColumnsJudged}
 use Rattle.judging.proofs.JudgingLaws.{answer-parts}
 use Rattle.checking.specs.Promises.{Checks}
-use Rattle.checking.specs.Steps.{Meant}
+use Rattle.checking.specs.Meaning.{Meant}
 
 -- a list with as many words of another over it is that other
 pub paste-all : (d s : List ℕ) → length s ≡ length d → paste d 0 s (length s) ≡ s
@@ -72,7 +72,7 @@ module _ (T : Tables) where
 
 -- ---- 12 to 19 and 25, where judging leaves the column rows in `columns`
 
-module _ {T : Tables} {v : Verdict} {permits lentColumns columns : List ℕ} (J : ColumnsJudged T v permits lentColumns columns) (lent : List ℕ) where
+module _ {T : Tables} {v : Verdict} {lentColumns columns : List ℕ} (J : ColumnsJudged T v lentColumns columns) (lent : List ℕ) where
   pub meaning-refused : {r : Refusal} → v ≡ Verdict.Refused r → Meant T v lent lent
   meaning-refused f = record { answers = J .answers; shows = ap (λ (x : Verdict). after x (columnRows T) lent) (sym f) }
 

@@ -1,14 +1,15 @@
 // The entry point `check`.
 use forms::check_forms;
 use judging::COLUMN_WORDS;
-use judging::judge_columns;
+use judging::judge_tables_into_columns;
+use report::Head;
 use report::Verdict;
-use table_checks::refuse;
+use verdicts::refuse;
 ghost use mathlib.Core.Path.{_≡_};
 ghost use lib.ListN.{length};
-ghost use Rattle.report.specs.Tables.{tablesOf};
+ghost use Rattle.report.specs.Expressions.{tablesUnder};
 ghost use Rattle.checking.specs.Promises.{Checks};
-ghost use Rattle.checking.specs.Steps.{MeaningReads, Meant};
+ghost use Rattle.checking.specs.Meaning.{MeaningReads, Meant};
 
 // Copies the words of `from` to `to`, which is as long.
 fn copy_words(from: &[u64], to: &mut [u64])
@@ -25,9 +26,7 @@ fn copy_words(from: &[u64], to: &mut [u64])
 
 // Checks 12 to 19 and 25 of tables that have passed 1 to 10 and 24. Accepted: `rows`, of 1,024 words, holds the column rows. Refused: `rows` is as it was.
 fn check_meaning(
-    n: usize,
-    m: usize,
-    model: usize,
+    head: Head,
     expressions: &[u16],
     entries: &[u16],
     relations: &[u16],
@@ -36,16 +35,14 @@ fn check_meaning(
     kinds: &[u16],
     rows: &mut [u64],
 ) -> Verdict
-    requires { ⌜ MeaningReads (tablesOf n m model (now expressions) (now entries) (now relations) (now comparisons) (now queries) (now kinds)) (now rows) ⌝ }
+    requires { ⌜ MeaningReads (tablesUnder head (now expressions) (now entries) (now relations) (now comparisons) (now queries) (now kinds)) (now rows) ⌝ }
     ensures { λ v.
-        ⌜ Meant (tablesOf n m model (now (expressions .entry)) (now (entries .entry)) (now (relations .entry)) (now (comparisons .entry))
+        ⌜ Meant (tablesUnder head (now (expressions .entry)) (now (entries .entry)) (now (relations .entry)) (now (comparisons .entry))
         (now (queries .entry)) (now (kinds .entry))) v (now (rows .entry)) (now (rows .exit)) ⌝ }
 {
     let mut columns = [0; COLUMN_WORDS];
-    let judged = judge_columns(
-        n,
-        m,
-        model,
+    let judged = judge_tables_into_columns(
+        head,
         expressions,
         entries,
         relations,
@@ -64,9 +61,7 @@ fn check_meaning(
 
 // Checks the report of these tables. Accepted: `rows` holds its column rows. Refused: `rows` is as it was.
 pub fn check(
-    features: u64,
-    attributes: u64,
-    model: u64,
+    head: Head,
     expressions: &[u16],
     entries: &[u16],
     relations: &[u16],
@@ -76,17 +71,12 @@ pub fn check(
     rows: &mut [u64],
 ) -> Verdict
     ensures { λ r.
-        ⌜ Checks (tablesOf features attributes model (now (expressions .entry)) (now (entries .entry)) (now (relations .entry))
+        ⌜ Checks (tablesUnder head (now (expressions .entry)) (now (entries .entry)) (now (relations .entry))
         (now (comparisons .entry)) (now (queries .entry)) (now (kinds .entry)))
         (now (rows .entry)) r (now (rows .exit)) ⌝ }
 {
-    let n = features as usize;
-    let m = attributes as usize;
-    let model = model as usize;
     let form = check_forms(
-        n,
-        m,
-        model,
+        head,
         expressions,
         entries,
         relations,
@@ -101,9 +91,7 @@ pub fn check(
         return refuse(11, 0);
     }
     check_meaning(
-        n,
-        m,
-        model,
+        head,
         expressions,
         entries,
         relations,

@@ -1,13 +1,17 @@
 // One comparison by itself: the attributes that it names, and whether its sides have two kinds; and check 24. The kind table is read here alone.
-use decoders::comparison_at;
+use decoders::comparison_sides;
+use decoders::decode_comparison;
 use decoders::kind_of;
 use report::Comparison;
+use report::Limits;
+use report::Sides;
 use report::Verdict;
 use sets::AttributeSet;
-use table_checks::refuse;
+use verdicts::refuse;
 ghost use mathlib.Core.Path.{_≡_};
 ghost use Rattle.report.specs.Tables.{kindIn};
 ghost use Rattle.report.specs.Typing.{namesOf, kindsDiffer, leftOf};
+ghost use Rattle.report.specs.Formed.{SidesBelow};
 ghost use Rattle.report.specs.FormChecks.{isKind, constantKind, kindTableCheck, constantsCheck, kindsCheck};
 ghost use Rattle.comparisons.specs.Gathering.{namesAttribute, ownOf, shows, Narrow};
 
@@ -21,86 +25,63 @@ pub enum Gathered {
 fn is_kind(k: usize) -> bool
     ensures { λ r. ⌜ r ≡ isKind k ⌝ }
 {
-    k <= AttributeSet::MOST_KIND
+    k <= Limits::HIGHEST_KIND
 }
 
-// The sides of a comparison have two kinds.
-fn kinds_differ(x: Comparison, kinds: &[u16]) -> bool
-    ensures { λ r. ⌜ r ≡ kindsDiffer (kindIn (now (kinds .entry))) x ⌝ }
+// These sides have two kinds.
+fn kinds_differ(sides: Sides, kinds: &[u16]) -> bool
+    ensures { λ r. ⌜ r ≡ kindsDiffer (kindIn (now (kinds .entry))) sides ⌝ }
 {
-    match x {
-        Comparison::Malformed => false,
-        Comparison::Never => false,
-        Comparison::Always => false,
-        Comparison::Constant(_, a, _, k) => kind_of(kinds, a) != k,
-        Comparison::Attribute(_, a, b) => kind_of(kinds, a) != kind_of(kinds, b),
-        Comparison::Not(_) => false,
-        Comparison::And(_, _) => false,
-        Comparison::Or(_, _) => false,
-        Comparison::Choice(_, _, _) => false,
+    match sides {
+        Sides::Constant(a, k) => kind_of(kinds, a) != k,
+        Sides::Attributes(a, b) => kind_of(kinds, a) != kind_of(kinds, b),
+        Sides::Neither => false,
     }
 }
 
-// A comparison names attribute a.
-fn names(x: Comparison, a: usize) -> bool
-    ensures { λ r. ⌜ r ≡ namesAttribute x a ⌝ }
+// A comparison with these sides names attribute a.
+fn names(sides: Sides, a: usize) -> bool
+    ensures { λ r. ⌜ r ≡ namesAttribute sides a ⌝ }
 {
-    match x {
-        Comparison::Malformed => false,
-        Comparison::Never => false,
-        Comparison::Always => false,
-        Comparison::Constant(_, b, _, _) => a == b,
-        Comparison::Attribute(_, b, d) => (a == b) | (a == d),
-        Comparison::Not(_) => false,
-        Comparison::And(_, _) => false,
-        Comparison::Or(_, _) => false,
-        Comparison::Choice(_, _, _) => false,
+    match sides {
+        Sides::Constant(b, _) => a == b,
+        Sides::Attributes(b, d) => (a == b) | (a == d),
+        Sides::Neither => false,
     }
 }
 
 // What a row says of a comparison by itself: that it names attribute a, or that its sides have two kinds, whatever a is.
-pub fn own_shows(what: Gathered, x: Comparison, kinds: &[u16], a: usize) -> bool
+pub fn own_shows(what: Gathered, x: Comparison, a: usize, kinds: &[u16]) -> bool
     ensures { λ r. ⌜ r ≡ shows what a (ownOf (kindIn (now (kinds .entry))) what x) ⌝ }
 {
+    let sides = comparison_sides(x);
     match what {
-        Gathered::Names => names(x, a),
-        Gathered::Clashes => kinds_differ(x, kinds),
+        Gathered::Names => names(sides, a),
+        Gathered::Clashes => kinds_differ(sides, kinds),
     }
 }
 
-// The attributes that a comparison names.
-fn named_set(x: Comparison) -> AttributeSet
-    requires { ⌜ Narrow x ⌝ }
-    ensures { λ r. ⌜ r .bits ≡ namesOf x ⌝ }
+// The attributes that a comparison with these sides names.
+fn named_set(sides: Sides) -> AttributeSet
+    requires { ⌜ SidesBelow 64 sides ⌝ }
+    ensures { λ r. ⌜ r .bits ≡ namesOf sides ⌝ }
 {
-    match x {
-        Comparison::Malformed => AttributeSet::empty(),
-        Comparison::Never => AttributeSet::empty(),
-        Comparison::Always => AttributeSet::empty(),
-        Comparison::Constant(_, a, _, _) => AttributeSet::single(a),
-        Comparison::Attribute(_, a, b) => AttributeSet::single(a).with(b),
-        Comparison::Not(_) => AttributeSet::empty(),
-        Comparison::And(_, _) => AttributeSet::empty(),
-        Comparison::Or(_, _) => AttributeSet::empty(),
-        Comparison::Choice(_, _, _) => AttributeSet::empty(),
+    match sides {
+        Sides::Constant(a, _) => AttributeSet::single(a),
+        Sides::Attributes(a, b) => AttributeSet::single(a).with(b),
+        Sides::Neither => AttributeSet::empty(),
     }
 }
 
 // Its left attribute.
-fn left_set(x: Comparison) -> AttributeSet
-    requires { ⌜ Narrow x ⌝ }
-    ensures { λ r. ⌜ r .bits ≡ leftOf x ⌝ }
+fn left_set(sides: Sides) -> AttributeSet
+    requires { ⌜ SidesBelow 64 sides ⌝ }
+    ensures { λ r. ⌜ r .bits ≡ leftOf sides ⌝ }
 {
-    match x {
-        Comparison::Malformed => AttributeSet::empty(),
-        Comparison::Never => AttributeSet::empty(),
-        Comparison::Always => AttributeSet::empty(),
-        Comparison::Constant(_, a, _, _) => AttributeSet::single(a),
-        Comparison::Attribute(_, a, _) => AttributeSet::single(a),
-        Comparison::Not(_) => AttributeSet::empty(),
-        Comparison::And(_, _) => AttributeSet::empty(),
-        Comparison::Or(_, _) => AttributeSet::empty(),
-        Comparison::Choice(_, _, _) => AttributeSet::empty(),
+    match sides {
+        Sides::Constant(a, _) => AttributeSet::single(a),
+        Sides::Attributes(a, _) => AttributeSet::single(a),
+        Sides::Neither => AttributeSet::empty(),
     }
 }
 
@@ -109,31 +90,26 @@ pub fn own_set(what: Gathered, x: Comparison, kinds: &[u16]) -> AttributeSet
     requires { ⌜ Narrow x ⌝ }
     ensures { λ r. ⌜ r .bits ≡ ownOf (kindIn (now (kinds .entry))) what x ⌝ }
 {
+    let sides = comparison_sides(x);
     match what {
-        Gathered::Names => named_set(x),
+        Gathered::Names => named_set(sides),
         Gathered::Clashes => {
-            if kinds_differ(x, kinds) {
-                return left_set(x);
+            if kinds_differ(sides, kinds) {
+                return left_set(sides);
             }
             AttributeSet::empty()
         }
     }
 }
 
-// The kind that stands in a comparison; 0 where none does.
-fn constant_kind(x: Comparison) -> usize
-    ensures { λ r. ⌜ r ≡ constantKind x ⌝ }
+// The kind that stands in a comparison with these sides; 0 where none does.
+fn constant_kind(sides: Sides) -> usize
+    ensures { λ r. ⌜ r ≡ constantKind sides ⌝ }
 {
-    match x {
-        Comparison::Malformed => 0,
-        Comparison::Never => 0,
-        Comparison::Always => 0,
-        Comparison::Constant(_, _, _, k) => k,
-        Comparison::Attribute(_, _, _) => 0,
-        Comparison::Not(_) => 0,
-        Comparison::And(_, _) => 0,
-        Comparison::Or(_, _) => 0,
-        Comparison::Choice(_, _, _) => 0,
+    match sides {
+        Sides::Constant(_, k) => k,
+        Sides::Attributes(_, _) => 0,
+        Sides::Neither => 0,
     }
 }
 
@@ -163,7 +139,7 @@ fn check_constants(comparisons: &[u16]) -> Verdict
     let count = comparisons.len() / 5;
     let mut f = 0;
     while f < count {
-        let k = constant_kind(comparison_at(comparisons, f));
+        let k = constant_kind(comparison_sides(decode_comparison(comparisons, f)));
         if !is_kind(k) {
             return refuse(24, f);
         }
@@ -173,7 +149,7 @@ fn check_constants(comparisons: &[u16]) -> Verdict
 }
 
 // Check 24.
-pub fn check_kinds(m: usize, kinds: &[u16], comparisons: &[u16]) -> Verdict
+pub fn check_kinds(m: usize, comparisons: &[u16], kinds: &[u16]) -> Verdict
     ensures { λ r. ⌜ r ≡ kindsCheck m (now (kinds .entry)) (now (comparisons .entry)) ⌝ }
 {
     let v = check_kind_table(m, kinds);

@@ -13,8 +13,8 @@ use lib.ListN.{length, take, drop}
 use lib.Seq.{take-at}
 use Rattle.sets.specs.Rows.{rowBit, rowOf}
 use Rattle.sets.proofs.RowLaws.{rowBit-rowOf, within-out}
-use Rattle.report.specs.Tables.{Tables, tablesOf}
-use Rattle.report.specs.Expressions.{holds, permitted}
+use Rattle.report.specs.Tables.{Tables}
+use Rattle.report.specs.Expressions.{holds, permitted, tablesOf}
 use Rattle.report.specs.Configuring.{configured, written}
 use Rattle.report.specs.Verdicts.{refusal, refuseIf, orElse, firstOf}
 use Rattle.report.specs.Formed.{Formed}
@@ -28,8 +28,9 @@ use Rattle.forms.proofs.Chain.{stops}
 use Rattle.judging.specs.Judging.{reportCheck}
 use Rattle.judging.proofs.JudgingLaws.{call-refused, call-late, Rows}
 use Rattle.configuring.specs.declared.Configured.{Configured}
+use Rattle.configuring.specs.declared.LentWords.{LentWords}
 use Rattle.configuring.specs.Promises.{configuredAnswer, Rooms, Leaves, Configures, isConfiguredFault}
-use Rattle.configuring.specs.Steps.{lateVerdict, SourceReads, LateReads, ConfigureReads}
+use Rattle.configuring.specs.AfterTyping.{lateVerdict, SourceReads, LateReads, ConfigureReads}
 
 -- ---- 20
 
@@ -43,21 +44,22 @@ told-permitted T few {permits} e c = go (decLt c 1024)
     go (yes h) = rw (lt-ltb c 1024 h) (ap (λ (l : List ℕ). rowBit l c) e ∙ rowBit-rowOf 16 (permitted T) c h)
     go (no h) =
         let m : 2 ^ (T .features) ≤ 1024 = pow-mono few in
-        rw (le-ltb c 1024 (omega arith)) (sym (within-out (T .features) (λ d. holds (T .expressions) d (T .model)) c (omega arith)))
+        rw (le-ltb c 1024 (omega arith)) (sym (within-out (T .features) (λ d. T .truth d (T .model)) c (omega arith)))
 
 -- ---- 21
 
 module _ {T : Tables} {entries relations comparisons queries : List ℕ} (R : SourceReads T entries relations comparisons queries)
-    (entriesRoom relationsRoom comparisonsRoom queriesRoom : ℕ) where
+    (lent : LentWords) where
   -- the four tests, one after another
-  pub room-answers : {a b c d x y v : Verdict} → a ≡ refuseIf (ltb entriesRoom (length entries)) (refusal 21 1 0 0)
-      → b ≡ refuseIf (ltb relationsRoom (length relations)) (refusal 21 2 0 0) → c ≡ refuseIf (ltb comparisonsRoom (length comparisons)) (refusal 21 3 0 0)
-      → d ≡ refuseIf (ltb queriesRoom (length queries)) (refusal 21 4 0 0) → x ≡ orElse c d → y ≡ orElse b x → v ≡ orElse a y
-      → v ≡ firstOf (roomConditions entriesRoom relationsRoom comparisonsRoom queriesRoom T)
+  pub room-answers : {a b c d x y v : Verdict} → a ≡ refuseIf (ltb (lent .entries) (length entries)) (refusal 21 1 0 0)
+      → b ≡ refuseIf (ltb (lent .relations) (length relations)) (refusal 21 2 0 0)
+      → c ≡ refuseIf (ltb (lent .comparisons) (length comparisons)) (refusal 21 3 0 0)
+      → d ≡ refuseIf (ltb (lent .queries) (length queries)) (refusal 21 4 0 0) → x ≡ orElse c d → y ≡ orElse b x → v ≡ orElse a y
+      → v ≡ firstOf (roomConditions (lent .entries) (lent .relations) (lent .comparisons) (lent .queries) T)
   room-answers ea eb ec ed ex ey ev =
       let e = ev ∙ ap₂ orElse ea (ey ∙ ap₂ orElse eb (ex ∙ ap₂ orElse ec ed)) in
       (rw (R .entriesAre, R .relationsAre, R .comparisonsAre, R .queriesAre) at e)
-      ∙ sym (first-room T entriesRoom relationsRoom comparisonsRoom queriesRoom)
+      ∙ sym (first-room T (lent .entries) (lent .relations) (lent .comparisons) (lent .queries))
 
 -- where they accept there is room for each table
 pub room-accepted : (T : Tables) (newEntries newRelations newComparisons newQueries : List ℕ)
@@ -70,18 +72,18 @@ room-accepted T newEntries newRelations newComparisons newQueries e =
 -- ---- 20 and 21
 
 module _ {T : Tables} {permits entries relations comparisons queries : List ℕ} (R : LateReads T permits entries relations comparisons queries) (c : ℕ)
-    (entriesRoom relationsRoom comparisonsRoom queriesRoom : ℕ) where
+    (lent : LentWords) where
   abbrev room : Verdict
-  room = firstOf (roomConditions entriesRoom relationsRoom comparisonsRoom queriesRoom T)
+  room = firstOf (roomConditions (lent .entries) (lent .relations) (lent .comparisons) (lent .queries) T)
 
   abbrev late : Verdict
-  late = firstOf (permittedCondition c T ++ roomConditions entriesRoom relationsRoom comparisonsRoom queriesRoom T)
+  late = firstOf (permittedCondition c T ++ roomConditions (lent .entries) (lent .relations) (lent .comparisons) (lent .queries) T)
 
   abbrev permittedCheck : Verdict
   permittedCheck = refuseIf (not (permitted T c)) (refusal 20 0 0 c)
 
   late-parts : late ≡ orElse permittedCheck room
-  late-parts = first-own T c entriesRoom relationsRoom comparisonsRoom queriesRoom
+  late-parts = first-own T c (lent .entries) (lent .relations) (lent .comparisons) (lent .queries)
 
   module _ {told : Bool} (tells : told ≡ (ltb c 1024 && rowBit permits c)) where
     is-told : told ≡ permitted T c
@@ -139,8 +141,8 @@ written-late T c newEntries newRelations newComparisons newQueries e f L =
     rw (← e, f) (L (late-accepted T c newEntries newRelations newComparisons newQueries (sym e ∙ f) .0))
 
 -- what 20, 21 and the writing read of a report that has passed the checks before
-pub judged-reads : {T : Tables} {conditions reach columns : List ℕ} → Rows T conditions reach columns
-    → ConfigureReads T (T .model) conditions reach (T .entries) (T .relations) (T .comparisons) (T .queries)
+pub judged-reads : {T : Tables} {expressionRows reach columns : List ℕ} → Rows T expressionRows reach columns
+    → ConfigureReads T (T .model) expressionRows reach (T .entries) (T .relations) (T .comparisons) (T .queries)
 judged-reads R = record {
   formed = R .formed;
   number = refl;
@@ -174,21 +176,21 @@ read {new} lent count width e f whole =
     let all : length new / width * width ≡ length new = omega arith in
     ap (take (count * width)) e ∙ take-at new (drop (length new) lent) (count * width) (sym (ap (λ (k : ℕ). k * width) f ∙ all))
 
-read-tables : {U : Tables} → Formed U
+read-tables : {U : Tables} → U .truth ≡ holds (U .expressions) → Formed U
     → {newEntries newRelations newComparisons newQueries newEntries′ newRelations′ newComparisons′ newQueries′ : List ℕ} {a b c d : ℕ}
     → Leaves Verdict.Accepted U newEntries newRelations newComparisons newQueries
     (Configured.Written a b c d) newEntries′ newRelations′ newComparisons′ newQueries′
     → tablesOf (U .features) (U .attributes) (U .model) (U .expressions) (take (a * 2) newEntries′) (take (b * 2) newRelations′)
     (take (c * 5) newComparisons′) (take (d * 4) newQueries′) (U .kinds)
     ≡ U
-read-tables {U} F {newEntries} {newRelations} {newComparisons} {newQueries} {newEntries′} {newRelations′} {newComparisons′} {newQueries′} {a} {b} {c}
+read-tables {U} worked F {newEntries} {newRelations} {newComparisons} {newQueries} {newEntries′} {newRelations′} {newComparisons′} {newQueries′} {a} {b} {c}
     {d} L =
     let counted = L .answers in
     let e1 : take (a * 2) newEntries′ ≡ U .entries = read newEntries a 2 (L .entries) (cc) (F .sized1 .whole) in
     let e2 : take (b * 2) newRelations′ ≡ U .relations = read newRelations b 2 (L .relations) (cc) (F .sized2 .whole) in
     let e3 : take (c * 5) newComparisons′ ≡ U .comparisons = read newComparisons c 5 (L .comparisons) (cc) (F .sized3 .whole) in
     let e4 : take (d * 4) newQueries′ ≡ U .queries = read newQueries d 4 (L .queries) (cc) (F .sized4 .whole) in
-    rw (e1, e2, e3, e4)
+    rw (e1, e2, e3, e4, ← worked)
 
 -- so what the call answers and leaves gives the tables written
 pub read-back : (T : Tables) (k : ℕ) → Formed (configured T k)
@@ -198,4 +200,4 @@ pub read-back : (T : Tables) (k : ℕ) → Formed (configured T k)
     → tablesOf 0 (T .attributes) 0 (1 ∷ 0 ∷ 0 ∷ []) (take (a * 2) newEntries′) (take (b * 2) newRelations′) (take (c * 5) newComparisons′)
     (take (d * 4) newQueries′) (T .kinds) ≡ configured T k
 unfolding configured
-read-back T k = read-tables
+read-back T k = read-tables refl

@@ -19,8 +19,8 @@ use Rattle.report.proofs.FormedFacts.{counts}
 use Rattle.report.proofs.EntryParts.{split-in}
 use Rattle.report.proofs.TypingLaws.{permitted-within}
 use Rattle.report.proofs.WrittenQueries.{entries-room, relations-room, comparisons-room, queries-room}
-use Rattle.conditions.proofs.PermittedLaws.{model-row}
-use Rattle.conditions.proofs.PreparedLaws.{prepare}
+use Rattle.expression_rows.proofs.PermittedLaws.{model-row}
+use Rattle.expression_rows.proofs.PreparedLaws.{prepare}
 use Rattle.at_configuration.specs.AtConfiguration.{RelationReads, ComparisonReads, ComparisonNumberable}
 use Rattle.at_configuration.proofs.PreparedLaws.{at-reads, relation-reads, comparison-reads}
 use Rattle.kept_lists.specs.Keeping.{relationLists, projectLists, relationForms, KeptRelationWritable, ProjectReads}
@@ -28,7 +28,7 @@ use Rattle.kept_forms.specs.Numbering.{comparisonForms, queryForms, ComparisonF
 use Rattle.kept_forms.specs.Numbering.{QueryReads, QueryNumberable, QueryFormReads, QueryFormWritable}
 use Rattle.configuring.specs.declared.Configured.{Configured}
 use Rattle.configuring.specs.Promises.{Rooms, Leaves}
-use Rattle.configuring.specs.Steps.{LateReads, ConfigureReads, EntriesReads, EntriesWritable, KeptReads, KeptWritable}
+use Rattle.configuring.specs.AfterTyping.{LateReads, ConfigureReads, EntriesReads, EntriesWritable, KeptReads, KeptWritable}
 
 -- ---- the texts are the tables of `configured`
 
@@ -62,10 +62,10 @@ parts-length : (T : Tables) → length (T .entries) ≡ length (entriesOfRelatio
 parts-length T = ap length (sym (take-append-drop (relationsEnd T * 2) (T .entries))) ∙ length-append (entriesOfRelations T) (entriesOfProjects T)
 
 -- there is as much room for the tables of another reading
-pub same-rooms : {T U : Tables} {conditions reach relationEntries projectEntries relations comparisons queries : List ℕ} {c : ℕ}
+pub same-rooms : {T U : Tables} {expressionRows reach relationEntries projectEntries relations comparisons queries : List ℕ} {c : ℕ}
     {newEntries newRelations newComparisons newQueries : List ℕ}
-    → KeptReads U conditions reach relationEntries projectEntries relations comparisons queries c
-    → KeptReads T conditions reach relationEntries projectEntries relations comparisons queries c
+    → KeptReads U expressionRows reach relationEntries projectEntries relations comparisons queries c
+    → KeptReads T expressionRows reach relationEntries projectEntries relations comparisons queries c
     → Rooms U newEntries newRelations newComparisons newQueries
     → Rooms T newEntries newRelations newComparisons newQueries
 same-rooms {T} {U} S R H = record {
@@ -115,23 +115,23 @@ module _ {T : Tables} (F : Formed T) (c : ℕ) {newEntries newRelations newCompa
 
 -- ---- what the writers read
 
-module _ {T : Tables} {conditions reach relationEntries projectEntries relations comparisons queries : List ℕ} {c : ℕ}
-    (R : KeptReads T conditions reach relationEntries projectEntries relations comparisons queries c) where
-  pub lists-read : RelationReads T conditions relationEntries relations c
+module _ {T : Tables} {expressionRows reach relationEntries projectEntries relations comparisons queries : List ℕ} {c : ℕ}
+    (R : KeptReads T expressionRows reach relationEntries projectEntries relations comparisons queries c) where
+  pub lists-read : RelationReads T expressionRows relationEntries relations c
   lists-read = relation-reads (R .prepared) (R .inside)
 
-  project-reads : ProjectReads T conditions reach projectEntries queries c
+  project-reads : ProjectReads T expressionRows reach projectEntries queries c
   project-reads =
       let P = R .prepared in
       record { reads = at-reads P (R .inside); reaching = R .reaching; entriesAre = P .projectEntriesAre; queriesAre = P .queriesAre }
 
-  pub entries-reads : EntriesReads T conditions reach relationEntries projectEntries relations queries c
+  pub entries-reads : EntriesReads T expressionRows reach relationEntries projectEntries relations queries c
   entries-reads = record { lists = lists-read; projects = project-reads }
 
-  pub comparisons-read : ComparisonReads T conditions comparisons c
+  pub comparisons-read : ComparisonReads T expressionRows comparisons c
   comparisons-read = comparison-reads (R .prepared) (R .inside)
 
-  pub query-reads : QueryReads T conditions reach queries c
+  pub query-reads : QueryReads T expressionRows reach queries c
   query-reads = record { reads = at-reads (R .prepared) (R .inside); reaching = R .reaching; queriesAre = R .prepared .queriesAre }
 
   module _ {comparisonNumbers : List ℕ}
@@ -143,7 +143,7 @@ module _ {T : Tables} {conditions reach relationEntries projectEntries relations
     comparison-form-reads = record { formed = R .prepared .formed; comparisonsAre = R .prepared .comparisonsAre; numbered = compared }
 
     pub form-reads : {queryNumbers : List ℕ} → queryNumbers ≡ written (table (queryCount T) (newQuery T c)) (replicate 256 0)
-        → QueryFormReads T conditions reach projectEntries relations queries c comparisonNumbers queryNumbers
+        → QueryFormReads T expressionRows reach projectEntries relations queries c comparisonNumbers queryNumbers
     form-reads e = record {
       reads = query-reads;
       entriesAre = R .prepared .projectEntriesAre;
@@ -154,27 +154,27 @@ module _ {T : Tables} {conditions reach relationEntries projectEntries relations
 
 -- ---- and that there is room
 
-module _ {conditions reach relationEntries projectEntries relations comparisons queries : List ℕ} {c : ℕ}
+module _ {expressionRows reach relationEntries projectEntries relations comparisons queries : List ℕ} {c : ℕ}
     {newEntries newRelations newComparisons newQueries : List ℕ}
-    (W : KeptWritable conditions reach relationEntries projectEntries relations comparisons queries c newEntries newRelations newComparisons newQueries)
+    (W : KeptWritable expressionRows reach relationEntries projectEntries relations comparisons queries c newEntries newRelations newComparisons newQueries)
   where
     formed : Formed (W .tables)
     formed = W .reads .prepared .formed
 
-    pub entries-writable : EntriesWritable conditions reach relationEntries projectEntries relations queries c newEntries
+    pub entries-writable : EntriesWritable expressionRows reach relationEntries projectEntries relations queries c newEntries
     entries-writable = record { tables = W .tables; reads = entries-reads (W .reads); room = entries-fit formed c (W .rooms) }
 
-    pub relations-writable : KeptRelationWritable relationForms conditions relationEntries relations c newRelations 0
+    pub relations-writable : KeptRelationWritable relationForms expressionRows relationEntries relations c newRelations 0
     relations-writable = record { tables = W .tables; reads = lists-read (W .reads); room = relations-fit formed c (W .rooms) }
 
-    pub comparisons-numberable : {numbers : List ℕ} → 256 ≤ length numbers → ComparisonNumberable conditions comparisons c numbers
+    pub comparisons-numberable : {numbers : List ℕ} → 256 ≤ length numbers → ComparisonNumberable expressionRows comparisons c numbers
     comparisons-numberable h = record {
       tables = W .tables;
       reads = comparisons-read (W .reads);
       room = let m = counts formed .most3 in omega (arith, ap length (W .reads .prepared .comparisonsAre));
     }
 
-    pub queries-numberable : {numbers : List ℕ} → 256 ≤ length numbers → QueryNumberable conditions reach queries c numbers
+    pub queries-numberable : {numbers : List ℕ} → 256 ≤ length numbers → QueryNumberable expressionRows reach queries c numbers
     queries-numberable h = record {
       tables = W .tables;
       reads = query-reads (W .reads);
@@ -194,15 +194,15 @@ module _ {conditions reach relationEntries projectEntries relations comparisons 
 
         pub queries-writable : {queryNumbers : List ℕ}
             → queryNumbers ≡ written (table (queryCount (W .tables)) (newQuery (W .tables) c)) (replicate 256 0)
-            → QueryFormWritable conditions reach projectEntries relations queries c comparisonNumbers queryNumbers newQueries
+            → QueryFormWritable expressionRows reach projectEntries relations queries c comparisonNumbers queryNumbers newQueries
         queries-writable e =
             record { tables = W .tables; reads = form-reads (W .reads) first-numbers e; room = queries-fit formed c (W .rooms) }
 
 -- ---- from the tables
 
-module _ {T : Tables} {model : ℕ} {conditions reach entries relations comparisons queries : List ℕ}
-    (R : ConfigureReads T model conditions reach entries relations comparisons queries) where
-  pub late-reads : {permits : List ℕ} → permits ≡ rowIn 16 conditions model → LateReads T permits entries relations comparisons queries
+module _ {T : Tables} {model : ℕ} {expressionRows reach entries relations comparisons queries : List ℕ}
+    (R : ConfigureReads T model expressionRows reach entries relations comparisons queries) where
+  pub late-reads : {permits : List ℕ} → permits ≡ rowIn 16 expressionRows model → LateReads T permits entries relations comparisons queries
   late-reads load = record {
     few = R .formed .few;
     permitting = load ∙ model-row (R .formed) (R .filled) (R .number);
@@ -222,7 +222,7 @@ module _ {T : Tables} {model : ℕ} {conditions reach entries relations comparis
 
     -- at a permitted configuration
     pub kept-reads : {c : ℕ} → permitted T c ≡ true
-        → KeptReads T conditions reach (take (split * 2) entries) (take (length entries - split * 2) (drop (split * 2) entries)) relations comparisons
+        → KeptReads T expressionRows reach (take (split * 2) entries) (take (length entries - split * 2) (drop (split * 2) entries)) relations comparisons
         queries c
     kept-reads {c} p = record {
       prepared = prepare (R .formed) (R .filled) split-is (R .source .entriesAre) (R .source .relationsAre) (R .source .comparisonsAre)

@@ -3,7 +3,7 @@ use forms::relations_end;
 use judging::COLUMN_WORDS;
 use judging::EXPRESSION_WORDS;
 use judging::REACH_WORDS;
-use judging::typed;
+use judging::check_into_rows;
 use kept_forms::number_comparisons;
 use kept_forms::number_queries;
 use kept_forms::write_comparisons;
@@ -11,27 +11,29 @@ use kept_forms::write_queries;
 use kept_lists::write_project_lists;
 use kept_lists::write_relation_forms;
 use kept_lists::write_relation_lists;
+use report::Head;
+use report::Limits;
 use report::Refusal;
 use report::Verdict;
-use sets::AttributeSet;
 use sets::Row;
-use table_checks::or_else;
-use table_checks::refuse_if;
+use verdicts::or_else;
+use verdicts::refuse_if;
 ghost use mathlib.Core.Path.{_≡_};
 ghost use mathlib.Core.Bool.{_&&_};
 ghost use mathlib.Core.List.{_++_};
 ghost use lib.Dec.{ltb};
 ghost use Rattle.sets.specs.Rows.{rowBit};
 ghost use Rattle.sets.specs.Writing.{WrittenAt};
-ghost use Rattle.report.specs.Tables.{Tables, tablesOf};
+ghost use Rattle.report.specs.Tables.{Tables};
+ghost use Rattle.report.specs.Expressions.{tablesUnder};
 ghost use Rattle.report.specs.Configuring.{configured};
 ghost use Rattle.report.specs.Verdicts.{firstOf};
 ghost use Rattle.report.specs.Calls.{permittedCondition, roomConditions};
 ghost use Rattle.report.specs.declared.Verdict.{Verdict};
 ghost use Rattle.kept_lists.specs.Keeping.{relationLists, projectLists};
 ghost use Rattle.configuring.specs.Promises.{Leaves, Configures};
-ghost use Rattle.configuring.specs.Steps.{lateVerdict, SourceReads, LateReads, ConfigureReads, ConfigureReadable};
-ghost use Rattle.configuring.specs.Steps.{EntriesReads, EntriesWritable, KeptReads, KeptWritable};
+ghost use Rattle.configuring.specs.AfterTyping.{lateVerdict, SourceReads, LateReads, ConfigureReads, ConfigureReadable};
+ghost use Rattle.configuring.specs.AfterTyping.{EntriesReads, EntriesWritable, KeptReads, KeptWritable};
 
 // What configuring answers: how many forms tables 1 to 4 have, or the refusal.
 pub enum Configured {
@@ -50,25 +52,30 @@ fn is_permitted(permitted: Row, c: u64) -> bool
     }
 }
 
+// How many words each of the tables lent for writing has.
+struct LentWords {
+    entries: usize,
+    relations: usize,
+    comparisons: usize,
+    queries: usize,
+}
+
 // Check 21: each table lent for writing has as many words as its source.
 fn check_room(
+    lent: LentWords,
     entries: &[u16],
     relations: &[u16],
     comparisons: &[u16],
     queries: &[u16],
-    entries_room: usize,
-    relations_room: usize,
-    comparisons_room: usize,
-    queries_room: usize,
 ) -> Verdict
     ensures { λ v.
         ⌜ ((T : Tables) → SourceReads T (now (entries .entry)) (now (relations .entry)) (now (comparisons .entry)) (now (queries .entry))
-        → v ≡ firstOf (roomConditions «entries_room» «relations_room» «comparisons_room» «queries_room» T)) ⌝ }
+        → v ≡ firstOf (roomConditions (lent .entries) (lent .relations) (lent .comparisons) (lent .queries) T)) ⌝ }
 {
-    let a = refuse_if(entries_room < entries.len(), 21, 1);
-    let b = refuse_if(relations_room < relations.len(), 21, 2);
-    let c = refuse_if(comparisons_room < comparisons.len(), 21, 3);
-    let d = refuse_if(queries_room < queries.len(), 21, 4);
+    let a = refuse_if(lent.entries < entries.len(), 21, 1);
+    let b = refuse_if(lent.relations < relations.len(), 21, 2);
+    let c = refuse_if(lent.comparisons < comparisons.len(), 21, 3);
+    let d = refuse_if(lent.queries < queries.len(), 21, 4);
     or_else(a, or_else(b, or_else(c, d)))
 }
 
@@ -76,19 +83,16 @@ fn check_room(
 fn check_late(
     permitted: Row,
     c: u64,
+    lent: LentWords,
     entries: &[u16],
     relations: &[u16],
     comparisons: &[u16],
     queries: &[u16],
-    entries_room: usize,
-    relations_room: usize,
-    comparisons_room: usize,
-    queries_room: usize,
 ) -> Verdict
     ensures { λ v.
         ⌜ ((T : Tables)
         → LateReads T (permitted .words) (now (entries .entry)) (now (relations .entry)) (now (comparisons .entry)) (now (queries .entry))
-        → v ≡ firstOf (permittedCondition c T ++ roomConditions «entries_room» «relations_room» «comparisons_room» «queries_room» T)) ⌝ }
+        → v ≡ firstOf (permittedCondition c T ++ roomConditions (lent .entries) (lent .relations) (lent .comparisons) (lent .queries) T)) ⌝ }
 {
     if !is_permitted(permitted, c) {
         return Verdict::Refused(Refusal {
@@ -98,95 +102,94 @@ fn check_late(
             configuration: c,
         });
     }
-    check_room(
-        entries,
-        relations,
-        comparisons,
-        queries,
-        entries_room,
-        relations_room,
-        comparisons_room,
-        queries_room,
-    )
+    check_room(lent, entries, relations, comparisons, queries)
 }
 
 // Writes table 1 at c: the lists of the relations that are present, then those of the project forms that are reached.
 fn write_entries(
+    c: usize,
+    expression_rows: &[u64],
     relation_entries: &[u16],
     project_entries: &[u16],
     relations: &[u16],
     queries: &[u16],
-    conditions: &[u64],
     reach: &[u64],
-    c: usize,
     out: &mut [u16],
 ) -> usize
-    requires { ⌜ EntriesWritable (now conditions) (now reach) (now «relation_entries») (now «project_entries») (now relations) (now queries) c
+    requires { ⌜ EntriesWritable (now «expression_rows») (now reach) (now «relation_entries») (now «project_entries») (now relations) (now queries) c
         (now out) ⌝ }
     ensures { λ r.
         ⌜ ((T : Tables)
-        → EntriesReads T (now (conditions .entry)) (now (reach .entry)) (now («relation_entries» .entry)) (now («project_entries» .entry))
+        → EntriesReads T (now («expression_rows» .entry)) (now (reach .entry)) (now («relation_entries» .entry)) (now («project_entries» .entry))
         (now (relations .entry)) (now (queries .entry)) c
         → WrittenAt (relationLists T c ++ projectLists T c) (now (out .entry)) 0 (now (out .exit)) r) ⌝ }
 {
-    let lists = write_relation_lists(relation_entries, relations, conditions, c, &mut *out);
-    write_project_lists(project_entries, queries, conditions, reach, c, out, lists)
+    let lists = write_relation_lists(c, expression_rows, relation_entries, relations, &mut *out);
+    write_project_lists(
+        c,
+        expression_rows,
+        project_entries,
+        queries,
+        reach,
+        out,
+        lists,
+    )
 }
 
 // Writes what the report keeps at c, from the expression rows and the configurations that reach each query form.
 fn write_kept(
+    c: usize,
+    expression_rows: &[u64],
     relation_entries: &[u16],
     project_entries: &[u16],
     relations: &[u16],
     comparisons: &[u16],
     queries: &[u16],
-    conditions: &[u64],
     reach: &[u64],
-    c: usize,
     new_entries: &mut [u16],
     new_relations: &mut [u16],
     new_comparisons: &mut [u16],
     new_queries: &mut [u16],
 ) -> Configured
-    requires { ⌜ KeptWritable (now conditions) (now reach) (now «relation_entries») (now «project_entries») (now relations) (now comparisons)
+    requires { ⌜ KeptWritable (now «expression_rows») (now reach) (now «relation_entries») (now «project_entries») (now relations) (now comparisons)
         (now queries) c (now «new_entries») (now «new_relations») (now «new_comparisons») (now «new_queries») ⌝ }
     ensures { λ r.
         ⌜ ((T : Tables)
-        → KeptReads T (now (conditions .entry)) (now (reach .entry)) (now («relation_entries» .entry)) (now («project_entries» .entry))
+        → KeptReads T (now («expression_rows» .entry)) (now (reach .entry)) (now («relation_entries» .entry)) (now («project_entries» .entry))
         (now (relations .entry)) (now (comparisons .entry)) (now (queries .entry)) c
         → Leaves Verdict.Accepted (configured T c) (now («new_entries» .entry)) (now («new_relations» .entry)) (now («new_comparisons» .entry))
         (now («new_queries» .entry)) r
         (now («new_entries» .exit)) (now («new_relations» .exit)) (now («new_comparisons» .exit)) (now («new_queries» .exit))) ⌝ }
 {
     let entry_words = write_entries(
+        c,
+        expression_rows,
         relation_entries,
         project_entries,
         relations,
         queries,
-        conditions,
         reach,
-        c,
         new_entries,
     );
     let relation_words = write_relation_forms(
+        c,
+        expression_rows,
         relation_entries,
         relations,
-        conditions,
-        c,
         new_relations,
     );
-    let mut comparison_numbers = [0; AttributeSet::MOST_COMPARISONS];
-    number_comparisons(comparisons, conditions, c, &mut comparison_numbers);
+    let mut comparison_numbers = [0; Limits::MOST_COMPARISONS];
+    number_comparisons(c, expression_rows, comparisons, &mut comparison_numbers);
     let comparison_words = write_comparisons(comparisons, &comparison_numbers, new_comparisons);
-    let mut query_numbers = [0; AttributeSet::MOST_QUERIES];
-    number_queries(queries, conditions, reach, c, &mut query_numbers);
+    let mut query_numbers = [0; Limits::MOST_QUERIES];
+    number_queries(c, expression_rows, queries, reach, &mut query_numbers);
     let query_words = write_queries(
+        c,
+        expression_rows,
         project_entries,
         relations,
         queries,
-        conditions,
         reach,
-        c,
         &comparison_numbers,
         &query_numbers,
         new_queries,
@@ -202,53 +205,49 @@ fn write_kept(
 // 20, 21 and the tables at c, of a report that has passed the checks before, from its expression rows and its reach rows.
 fn configure_judged(
     model: usize,
-    conditions: &[u64],
-    reach: &[u64],
+    c: u64,
+    expression_rows: &[u64],
     entries: &[u16],
     relations: &[u16],
     comparisons: &[u16],
     queries: &[u16],
-    c: u64,
+    reach: &[u64],
     new_entries: &mut [u16],
     new_relations: &mut [u16],
     new_comparisons: &mut [u16],
     new_queries: &mut [u16],
 ) -> Configured
-    requires { ⌜ ConfigureReadable model (now conditions) (now reach) (now entries) (now relations) (now comparisons) (now queries) ⌝ }
+    requires { ⌜ ConfigureReadable model (now «expression_rows») (now reach) (now entries) (now relations) (now comparisons) (now queries) ⌝ }
     ensures { λ r.
         ⌜ ((T : Tables)
-        → ConfigureReads T model (now (conditions .entry)) (now (reach .entry)) (now (entries .entry)) (now (relations .entry))
+        → ConfigureReads T model (now («expression_rows» .entry)) (now (reach .entry)) (now (entries .entry)) (now (relations .entry))
         (now (comparisons .entry)) (now (queries .entry))
         → Leaves (lateVerdict T c (now («new_entries» .entry)) (now («new_relations» .entry)) (now («new_comparisons» .entry))
         (now («new_queries» .entry)))
         (configured T c) (now («new_entries» .entry)) (now («new_relations» .entry)) (now («new_comparisons» .entry)) (now («new_queries» .entry)) r
         (now («new_entries» .exit)) (now («new_relations» .exit)) (now («new_comparisons» .exit)) (now («new_queries» .exit))) ⌝ }
 {
-    let late = check_late(
-        Row::load(conditions, model),
-        c,
-        entries,
-        relations,
-        comparisons,
-        queries,
-        new_entries.len(),
-        new_relations.len(),
-        new_comparisons.len(),
-        new_queries.len(),
-    );
+    let lent = LentWords {
+        entries: new_entries.len(),
+        relations: new_relations.len(),
+        comparisons: new_comparisons.len(),
+        queries: new_queries.len(),
+    };
+    let permitted = Row::load(expression_rows, model);
+    let late = check_late(permitted, c, lent, entries, relations, comparisons, queries);
     if let Verdict::Refused(r) = late {
         return Configured::Refused(r);
     }
     let split = relations_end(relations) * 2;
     write_kept(
+        c as usize,
+        expression_rows,
         &entries[..split],
         &entries[split..],
         relations,
         comparisons,
         queries,
-        conditions,
         reach,
-        c as usize,
         new_entries,
         new_relations,
         new_comparisons,
@@ -258,16 +257,14 @@ fn configure_judged(
 
 // Writes the tables that the report of these tables becomes at configuration c into the tables lent for it. Refused: they are as they were.
 pub fn configure(
-    features: u64,
-    attributes: u64,
-    model: u64,
+    head: Head,
+    c: u64,
     expressions: &[u16],
     entries: &[u16],
     relations: &[u16],
     comparisons: &[u16],
     queries: &[u16],
     kinds: &[u16],
-    c: u64,
     new_entries: &mut [u16],
     new_relations: &mut [u16],
     new_comparisons: &mut [u16],
@@ -275,26 +272,23 @@ pub fn configure(
 ) -> Configured
     ensures { λ r.
         ⌜ Configures
-        (tablesOf features attributes model (now (expressions .entry)) (now (entries .entry)) (now (relations .entry)) (now (comparisons .entry))
+        (tablesUnder head (now (expressions .entry)) (now (entries .entry)) (now (relations .entry)) (now (comparisons .entry))
         (now (queries .entry)) (now (kinds .entry))) c
         (now («new_entries» .entry)) (now («new_relations» .entry)) (now («new_comparisons» .entry)) (now («new_queries» .entry)) r
         (now («new_entries» .exit)) (now («new_relations» .exit)) (now («new_comparisons» .exit)) (now («new_queries» .exit)) ⌝ }
 {
-    let model = model as usize;
-    let mut conditions = [0; EXPRESSION_WORDS];
+    let mut expression_rows = [0; EXPRESSION_WORDS];
     let mut reach = [0; REACH_WORDS];
     let mut columns = [0; COLUMN_WORDS];
-    let checked = typed(
-        features as usize,
-        attributes as usize,
-        model,
+    let checked = check_into_rows(
+        head,
         expressions,
         entries,
         relations,
         comparisons,
         queries,
         kinds,
-        &mut conditions,
+        &mut expression_rows,
         &mut reach,
         &mut columns,
     );
@@ -302,14 +296,14 @@ pub fn configure(
         return Configured::Refused(r);
     }
     configure_judged(
-        model,
-        &conditions,
-        &reach,
+        head.model,
+        c,
+        &expression_rows,
         entries,
         relations,
         comparisons,
         queries,
-        c,
+        &reach,
         new_entries,
         new_relations,
         new_comparisons,

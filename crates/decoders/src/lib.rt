@@ -3,13 +3,14 @@ use report::Comparison;
 use report::Expression;
 use report::Operands;
 use report::Query;
+use report::Sides;
 ghost use mathlib.Core.Path.{_≡_};
 ghost use mathlib.Core.Bool.{cond};
 ghost use Prim.Native.Nat.{_+_, _*_, _/_, _<_};
 ghost use lib.ListN.{length, getD};
 ghost use Rattle.report.specs.Tables.{kindIn, entryAttribute, entryExpression, relationExpression, relationLength, expressionOf, expression};
 ghost use Rattle.report.specs.Tables.{comparisonOf, comparison, queryOf, query, projectLength};
-ghost use Rattle.report.specs.Operands.{comparisonOperands, queryOperands};
+ghost use Rattle.report.specs.Operands.{comparisonOperands, queryOperands, comparisonSides};
 ghost use Rattle.report.specs.declared.Expression.{Expression};
 ghost use Rattle.report.specs.declared.Comparison.{Comparison};
 ghost use Rattle.report.specs.declared.Query.{Query};
@@ -22,7 +23,7 @@ fn wide(word: u16) -> usize
 }
 
 // Word i of a table.
-fn word_at(t: &[u16], i: usize) -> usize
+fn word_in(t: &[u16], i: usize) -> usize
     requires { ⌜ i < length (now t) ⌝ }
     ensures { λ r. ⌜ IsWord (getD (now (t .entry)) i 0) r ⌝ }
 {
@@ -34,7 +35,7 @@ pub fn entry_attribute(entries: &[u16], k: usize) -> usize
     requires { ⌜ k < length (now entries) / 2 ⌝ }
     ensures { λ r. ⌜ IsWord (entryAttribute (now (entries .entry)) k) r ⌝ }
 {
-    word_at(entries, k * 2)
+    word_in(entries, k * 2)
 }
 
 // The expression of entry k.
@@ -42,7 +43,7 @@ pub fn entry_expression(entries: &[u16], k: usize) -> usize
     requires { ⌜ k < length (now entries) / 2 ⌝ }
     ensures { λ r. ⌜ IsWord (entryExpression (now (entries .entry)) k) r ⌝ }
 {
-    word_at(entries, k * 2 + 1)
+    word_in(entries, k * 2 + 1)
 }
 
 // The expression of relation k.
@@ -50,7 +51,7 @@ pub fn relation_expression(relations: &[u16], k: usize) -> usize
     requires { ⌜ k < length (now relations) / 2 ⌝ }
     ensures { λ r. ⌜ IsWord (relationExpression (now (relations .entry)) k) r ⌝ }
 {
-    word_at(relations, k * 2)
+    word_in(relations, k * 2)
 }
 
 // How many entries relation k has.
@@ -58,7 +59,7 @@ pub fn relation_length(relations: &[u16], k: usize) -> usize
     requires { ⌜ k < length (now relations) / 2 ⌝ }
     ensures { λ r. ⌜ IsWord (relationLength (now (relations .entry)) k) r ⌝ }
 {
-    word_at(relations, k * 2 + 1)
+    word_in(relations, k * 2 + 1)
 }
 
 // The kind of attribute a; 0 past the end of the kind table.
@@ -66,7 +67,7 @@ pub fn kind_of(kinds: &[u16], a: usize) -> usize
     ensures { λ r. ⌜ r ≡ kindIn (now (kinds .entry)) a ⌝ }
 {
     if a < kinds.len() {
-        return word_at(kinds, a);
+        return word_in(kinds, a);
     }
     0
 }
@@ -94,15 +95,15 @@ fn expression_of(kind: usize, a: usize, b: usize) -> Expression
 }
 
 // Form k of table 0.
-pub fn expression_at(expressions: &[u16], k: usize) -> Expression
+pub fn decode_expression(expressions: &[u16], k: usize) -> Expression
     requires { ⌜ k < length (now expressions) / 3 ⌝ }
     ensures { λ r. ⌜ r ≡ expression (now (expressions .entry)) k ⌝ }
 {
     let at = k * 3;
     expression_of(
-        word_at(expressions, at),
-        word_at(expressions, at + 1),
-        word_at(expressions, at + 2),
+        word_in(expressions, at),
+        word_in(expressions, at + 1),
+        word_in(expressions, at + 2),
     )
 }
 
@@ -133,17 +134,17 @@ fn comparison_of(kind: usize, o: usize, a: usize, b: usize, c: usize) -> Compari
 }
 
 // Form k of table 3.
-pub fn comparison_at(comparisons: &[u16], k: usize) -> Comparison
+pub fn decode_comparison(comparisons: &[u16], k: usize) -> Comparison
     requires { ⌜ k < length (now comparisons) / 5 ⌝ }
     ensures { λ r. ⌜ r ≡ comparison (now (comparisons .entry)) k ⌝ }
 {
     let at = k * 5;
     comparison_of(
-        word_at(comparisons, at),
-        word_at(comparisons, at + 1),
-        word_at(comparisons, at + 2),
-        word_at(comparisons, at + 3),
-        word_at(comparisons, at + 4),
+        word_in(comparisons, at),
+        word_in(comparisons, at + 1),
+        word_in(comparisons, at + 2),
+        word_in(comparisons, at + 3),
+        word_in(comparisons, at + 4),
     )
 }
 
@@ -171,16 +172,16 @@ fn query_of(kind: usize, a: usize, b: usize, c: usize) -> Query
 }
 
 // Form k of table 4.
-pub fn query_at(queries: &[u16], k: usize) -> Query
+pub fn decode_query(queries: &[u16], k: usize) -> Query
     requires { ⌜ k < length (now queries) / 4 ⌝ }
     ensures { λ r. ⌜ r ≡ query (now (queries .entry)) k ⌝ }
 {
     let at = k * 4;
     query_of(
-        word_at(queries, at),
-        word_at(queries, at + 1),
-        word_at(queries, at + 2),
-        word_at(queries, at + 3),
+        word_in(queries, at),
+        word_in(queries, at + 1),
+        word_in(queries, at + 2),
+        word_in(queries, at + 3),
     )
 }
 
@@ -227,4 +228,17 @@ pub fn query_operands(x: Query) -> Operands
         Query::Union(a, b) => Operands::Both(a, b),
         Query::Intersection(a, b) => Operands::Both(a, b),
     }
+}
+
+// What a comparison compares by itself.
+pub fn comparison_sides(x: Comparison) -> Sides
+    ensures { λ r. ⌜ r ≡ comparisonSides x ⌝ }
+{
+    if let Comparison::Constant(_, a, _, k) = x {
+        return Sides::Constant(a, k);
+    }
+    if let Comparison::Attribute(_, a, b) = x {
+        return Sides::Attributes(a, b);
+    }
+    Sides::Neither
 }

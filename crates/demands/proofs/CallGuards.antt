@@ -8,8 +8,8 @@ use native.Mathlib.Omega.{arith}
 use lib.ListN.{replicate, getD}
 use lib.Dec.{lit≤}
 use Rattle.sets.proofs.BitLaws.{bit-none}
-use Rattle.report.specs.Tables.{Tables, tablesOf, query, relationLength, relationStart, projectLength, projectStart}
-use Rattle.report.specs.Expressions.{permitted}
+use Rattle.report.specs.Tables.{Tables, query, relationLength, relationStart, projectLength, projectStart}
+use Rattle.report.specs.Expressions.{permitted, tablesOf}
 use Rattle.report.specs.ColumnRows.{columnRows}
 use Rattle.report.specs.ConfiguredReport.{plainQueryAt, keptAttributes}
 use Rattle.report.specs.Verdicts.{refusal, after}
@@ -168,20 +168,20 @@ unfolding computed lowestWanted
 quay-finds = refl
 
 pub quay-found : OneOn 0 3 1
-quay-found = model-found (quay 3 0 3) 0 3 quay-kind 1 (FindAnswer.At 1) quay-finds refl
+quay-found = model-found (quay 3 0 3) refl 0 3 quay-kind 1 (FindAnswer.At 1) quay-finds refl
 
 pub quay-tidal : quay-found .feature ≡ 0
 quay-tidal = sym (quay-found .alone 0 (lit≤ tt) (lit≤ tt) refl)
 
 pub quay-two : permitted (quay 3 0 3) 3 ≡ true → ⊥
 quay-two p =
-    let o = model-permits (quay 3 0 3) 0 3 quay-kind 3 .0 p .1 in
+    let o = model-permits (quay 3 0 3) refl 0 3 quay-kind 3 .0 p .1 in
     let a = o .alone 0 (lit≤ tt) (lit≤ tt) refl in
     let b = o .alone 1 (lit≤ tt) (lit≤ tt) refl in
     omega arith
 
 pub quay-none : permitted (quay 3 0 3) 0 ≡ true → ⊥
-quay-none p = let o = model-permits (quay 3 0 3) 0 3 quay-kind 0 .0 p .1 in false≢true (sym (bit-none (o .feature)) ∙ o .on)
+quay-none p = let o = model-permits (quay 3 0 3) refl 0 3 quay-kind 0 .0 p .1 in false≢true (sym (bit-none (o .feature)) ∙ o .on)
 
 far-kind : IsKind6 (quay 3 65535 2) 0 65535 2
 far-kind = record { kind = refl; firstIs = refl; countIs = refl }

@@ -87,7 +87,7 @@ module _ (T : Tables) (c : ℕ) (newEntries newRelations newComparisons newQueri
         → FoundWritten T c rows′ newEntries newRelations newComparisons newQueries r newEntries′ newRelations′ newComparisons′ newQueries′
     found-written rows rows′ k chosen room = record {
       leaves = leaves;
-      readBack = λ a b d e f. read-back T c (formed (configured T c) (there .writes .accepted)) (rw f at leaves);
+      readBack = λ a b d e f. read-back T c (there .written .formed) (rw f at leaves);
       accepted = there;
       shows = shows;
     }
@@ -107,7 +107,7 @@ module _ (T : Tables) (c : ℕ) (newEntries newRelations newComparisons newQueri
         shows lent lent′ v full w =
             let e : v ≡ Verdict.Accepted = w .0 ∙ ap (λ (n : ℕ). answer (configured T c) (checking n)) full ∙ there .checked in (
               e,
-              ap (λ (l : List ℕ). shown l 0) (left-rows (configured T c) lent lent′ (rw e at w)) ∙ there .shows
+              ap (λ (l : List ℕ). shown l 0) (left-rows (configured T c) lent lent′ (rw e at w)) ∙ there .written .shows
                   ∙ ap (λ (l : List ℕ). shown l c) (sym (left-rows T rows rows′ k)),
             )
 
@@ -163,16 +163,16 @@ module _ (T : Tables) (c : ℕ) (newEntries newRelations newComparisons newQueri
 -- permitted configuration is refused so."
 
 -- of any call that gets as far as typing, where the answer's being a typing fault is told by `fault`
-module _ (T : Tables) (sound : Sound T) {call : Call} (own : OwnNumbers call) (gets : GetsAsFarAsTyping T call) {fault : Bool}
+module _ (T : Tables) {call : Call} (own : OwnNumbers call) (gets : GetsAsFarAsTyping T call) {fault : Bool}
     (same : fault ≡ isTypingFault (answer T call)) where
   pub call-refuses : (fault ≡ true) ↔ Broken T
-  call-refuses = let b = refused-broken T sound own gets in (λ e. b .0 (sym same ∙ e), λ e. same ∙ b .1 e)
+  call-refuses = let b = refused-broken T own gets in (λ e. b .0 (sym same ∙ e), λ e. same ∙ b .1 e)
 
   pub call-names : fault ≡ true → Named T call
-  call-names e = refused-named T sound own gets (sym same ∙ e)
+  call-names e = refused-named T own gets (sym same ∙ e)
 
   pub call-never : ((c : ℕ) → permitted T c ≡ true → passes (kindOf T) (configuredSchema T c) (configuredReport T c) ≡ true) → fault ≡ false
-  call-never h = same ∙ never-refused T sound own gets h
+  call-never h = same ∙ never-refused T own gets h
 
 module _ (T : Tables) (sound : Sound T) where
   -- on such tables these calls are checking with 1,024 words of rows, and configuring whatever configuration and room it is given
@@ -195,13 +195,13 @@ module _ (T : Tables) (sound : Sound T) where
     same = ap isTypingFault (checks .0)
 
     pub check-refuses : (isTypingFault r ≡ true) ↔ Broken T
-    check-refuses = call-refuses T sound (checking-own (length rows)) gets same
+    check-refuses = call-refuses T (checking-own (length rows)) gets same
 
     pub check-names : isTypingFault r ≡ true → (n : Named T call) × (r ≡ Verdict.Refused (n .refuses))
-    check-names e = let n = call-names T sound (checking-own (length rows)) gets same e in (n, checks .0 ∙ n .answers)
+    check-names e = let n = call-names T (checking-own (length rows)) gets same e in (n, checks .0 ∙ n .answers)
 
     pub check-never : ((c : ℕ) → permitted T c ≡ true → passes (kindOf T) (configuredSchema T c) (configuredReport T c) ≡ true) → isTypingFault r ≡ false
-    check-never = call-never T sound (checking-own (length rows)) gets same
+    check-never = call-never T (checking-own (length rows)) gets same
 
   -- configuring
   module _ (c : ℕ) (newEntries newRelations newComparisons newQueries : List ℕ) (r : Configured)
@@ -217,12 +217,12 @@ module _ (T : Tables) (sound : Sound T) where
     reaches = which-configure c (length newEntries) (length newRelations) (length newComparisons) (length newQueries)
 
     pub configure-refuses : (isConfiguredFault r ≡ true) ↔ Broken T
-    configure-refuses = call-refuses T sound own reaches (configured-fault configures)
+    configure-refuses = call-refuses T own reaches (configured-fault configures)
 
     pub configure-names : isConfiguredFault r ≡ true → (n : Named T called) × (r ≡ Configured.Refused (n .refuses))
     configure-names e =
-        let n = call-names T sound own reaches (configured-fault configures) e in (n, configured-refused configures (n .answers))
+        let n = call-names T own reaches (configured-fault configures) e in (n, configured-refused configures (n .answers))
 
     pub configure-never : ((d : ℕ) → permitted T d ≡ true → passes (kindOf T) (configuredSchema T d) (configuredReport T d) ≡ true)
         → isConfiguredFault r ≡ false
-    configure-never = call-never T sound own reaches (configured-fault configures)
+    configure-never = call-never T own reaches (configured-fault configures)

@@ -25,6 +25,7 @@ use Rattle.report.specs.declared.Expression.{Expression}
 use Rattle.report.specs.declared.Verdict.{Verdict}
 use Rattle.report.proofs.ValueLaws.{value-step}
 use Rattle.report.proofs.VerdictLaws.{both-accepted, then-next, then-refused}
+use Rattle.report.proofs.CallLaws.{form-refused}
 use Rattle.report.proofs.FormFacts.{expression-lower}
 use Rattle.report.proofs.FitLaws.{expression-fits}
 use Rattle.report.proofs.TypingLaws.{row-shows}
@@ -118,9 +119,14 @@ module _ {T : Tables} {e first count : ℕ} (K : IsKind6 T e first count) where
       (λ f g h. ap (truthOf c f) kind-6 ∙ sym (ap (truthOf c g) kind-6))
       ∙ ap (truthOf c (holds (T .expressions) c)) kind-6
 
-  -- its row (`expressionRow` in conditions/specs/Conditions), of any number of words and for any number of features
-  pub kind-6-row : (w n : ℕ) → rowOf w (within n (λ c. holds (T .expressions) c e)) ≡ rowOf w (within n (exactlyOneOn first count))
-  kind-6-row w n = rowOf-same w _ _ (λ c h. ap (λ (t : Bool). within n (λ d. t) c) (kind-6-holds c))
+  -- where the tables' truth is that of table 0, so is its truth; and its row (`expressionRow` in expression_rows/specs/ExpressionRows), of any number of
+  -- words and for any number of features
+  module _ (worked : T .truth ≡ holds (T .expressions)) where
+    kind-6-truth : (c : ℕ) → T .truth c e ≡ exactlyOneOn first count c
+    kind-6-truth c = ap (λ (t : ℕ → ℕ → Bool). t c e) worked ∙ kind-6-holds c
+
+    pub kind-6-row : (w n : ℕ) → rowOf w (within n (λ c. T .truth c e)) ≡ rowOf w (within n (exactlyOneOn first count))
+    kind-6-row w n = rowOf-same w _ _ (λ c h. ap (λ (t : Bool). within n (λ d. t) c) (kind-6-truth c))
 
   -- it fits where its range does
   pub kind-6-fits : expressionOk T e ≡ rangeFits (T .features) first count
@@ -139,10 +145,10 @@ module _ (T : Tables) (call : Call) (e : ℕ) (inside : e < expressionCount T)
       (record { below = inside; holds = ap not t; before = λ f l. ap not (lower f l) }))
 
   refused-3 : expressionOk T e ≡ false → answer T call ≡ Verdict.Refused (refusal 3 e 0 0)
-  unfolding answer formCheck tablesCheck
+  unfolding formCheck tablesCheck
   refused-3 t =
       let before = both-accepted (headCheck (T .features) (T .attributes)) (lengthsCheck T) passed in
-      then-refused _ (then-refused _ (then-refused _ (then-next (before .0) ∙ then-next (before .1) ∙ then-refused _ (check-3 t))))
+      form-refused T call (then-refused _ (then-next (before .0) ∙ then-next (before .1) ∙ then-refused _ (check-3 t)))
 
   pub range-refused : (first count : ℕ) → IsKind6 T e first count → (count < 1) ⊎ (10 < count) ⊎ (T .features < first + count)
       → answer T call ≡ Verdict.Refused (refusal 3 e 0 0)
@@ -155,15 +161,15 @@ module _ (T : Tables) (call : Call) (e : ℕ) (inside : e < expressionCount T)
 
 -- ---- a feature model of this kind: "a quay is tidal, locked or floating, never two"
 
-module _ (T : Tables) (first count : ℕ) (K : IsKind6 T (T .model) first count) where
+module _ (T : Tables) (worked : T .truth ≡ holds (T .expressions)) (first count : ℕ) (K : IsKind6 T (T .model) first count) where
   -- permitted are the configurations where exactly one is on
   pub model-permits : (c : ℕ) → (permitted T c ≡ true) ↔ ((c < configurations T) × OneOn first count c)
   unfolding permitted
   model-permits c = (
     λ p.
-        let q = and-eq-true-iff (ltb c (configurations T)) (holds (T .expressions) c (T .model)) .0 p in
-        (ltb-true c (configurations T) (q .0), exactly-one first count c .0 (sym (kind-6-holds K c) ∙ q .1)),
-    λ o. ap₂ _&&_ (lt-ltb c (configurations T) (o .0)) (kind-6-holds K c ∙ exactly-one first count c .1 (o .1)),
+        let q = and-eq-true-iff (ltb c (configurations T)) (T .truth c (T .model)) .0 p in
+        (ltb-true c (configurations T) (q .0), exactly-one first count c .0 (sym (kind-6-truth K worked c) ∙ q .1)),
+    λ o. ap₂ _&&_ (lt-ltb c (configurations T) (o .0)) (kind-6-truth K worked c ∙ exactly-one first count c .1 (o .1)),
   )
 
   -- so after a check that accepted, a row has those alone

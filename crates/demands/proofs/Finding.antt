@@ -19,17 +19,18 @@ use Rattle.report.specs.PlainAlgebra.{passes}
 use Rattle.report.specs.ConfiguredReport.{configuredReport, configuredSchema}
 use Rattle.report.specs.Verdicts.{refusal, refuseIf, _gives_, Foremost}
 use Rattle.report.specs.Checks.{isEarly, isTypingFault}
-use Rattle.report.specs.Calls.{conditions, answer, Sound, GetsAsFarAsTyping, OwnNumbers}
+use Rattle.report.specs.Calls.{whole, conditions, answer, Sound, GetsAsFarAsTyping, OwnNumbers}
 use Rattle.report.specs.TypingFaults.{Broken, Named}
 use Rattle.report.specs.declared.Refusal.{Refusal}
 use Rattle.report.specs.declared.Verdict.{Verdict}
 use Rattle.report.proofs.VerdictLaws.{accepted-not-refused, then-next}
-use Rattle.report.proofs.FirstFault.{first-none, first-one, refused-foremost}
+use Rattle.report.proofs.FirstFault.{first-none, first-one}
+use Rattle.report.proofs.CallLaws.{given-answer, own-gets, refused-foremost}
 use Rattle.report.proofs.RulesMembers.{subset-members}
 use Rattle.report.proofs.ReachLaws.{reached-report}
 use Rattle.report.proofs.RulesLaws.{rules-sets}
 use Rattle.report.proofs.TypingLaws.{permitted-within}
-use Rattle.report.proofs.Refusing.{gets-own, gets-answer, own-early}
+use Rattle.report.proofs.Refusing.{own-early}
 use Rattle.report.proofs.WrittenAccepted.{called-sound, called-typed, called-formed, called-passes, called-columns}
 use Rattle.checking.specs.Promises.{Checks}
 use Rattle.finding.specs.declared.FindAnswer.{FindAnswer}
@@ -178,7 +179,7 @@ module _ (T : Tables) (wanted : ℕ) (r : FindAnswer) (finds : Finds T wanted r)
     -- "22 the set has a bit at or above m, checked after 19": it is refused for that alone
     find-late : verdict ≡ refuseIf (hasFrom wanted (T .attributes)) (refusal 22 0 0 0)
     find-late =
-        gets-answer T (finding wanted) (gets-own T (finding wanted) (called-sound T _ (sym (checks .0))) .1 first-none)
+        given-answer (whole T) (finding wanted) (own-gets (whole T) (finding wanted) (called-sound T _ (sym (checks .0))) .1 first-none)
         ∙ then-next (called-typed T _ (sym (checks .0))) ∙ first-one _ _
 
     pub find-refused : wanted < 2 ^ 64 → (x : Refusal)
@@ -207,7 +208,7 @@ find-early T wanted = own-early T (finding-own wanted) first-none
 module _ (T : Tables) (sound : Sound T) (wanted : ℕ) where
   -- on sound tables it gets as far as typing, whatever is wanted
   pub which-find : GetsAsFarAsTyping T (finding wanted)
-  which-find = gets-own T (finding wanted) sound .1 first-none
+  which-find = own-gets (whole T) (finding wanted) sound .1 first-none
 
   module _ (r : FindAnswer) (finds : Finds T wanted r) where
     find-fault : isFindFault r ≡ isTypingFault (answer T (finding wanted))
@@ -219,12 +220,12 @@ module _ (T : Tables) (sound : Sound T) (wanted : ℕ) where
         go (Verdict.Refused x) f = refl
 
     pub find-refuses : (isFindFault r ≡ true) ↔ Broken T
-    find-refuses = call-refuses T sound (finding-own wanted) which-find find-fault
+    find-refuses = call-refuses T (finding-own wanted) which-find find-fault
 
     pub find-names : isFindFault r ≡ true → (n : Named T (finding wanted)) × (r ≡ FindAnswer.Refused (n .refuses))
     find-names e =
-        let n = call-names T sound (finding-own wanted) which-find find-fault e in
+        let n = call-names T (finding-own wanted) which-find find-fault e in
         (n, told-by T wanted r finds (n .answers))
 
     pub find-never : ((c : ℕ) → permitted T c ≡ true → passes (kindOf T) (configuredSchema T c) (configuredReport T c) ≡ true) → isFindFault r ≡ false
-    find-never = call-never T sound (finding-own wanted) which-find find-fault
+    find-never = call-never T (finding-own wanted) which-find find-fault

@@ -12,25 +12,25 @@ use lib.ListN.{length, take}
 use Rattle.sets.specs.Search.{seek}
 use Rattle.sets.specs.Bits.{bit}
 use Rattle.sets.proofs.SearchLaws.{seek-nothing, some-at}
-use Rattle.report.specs.Tables.{Tables, tablesOf, relationExpression, relationLength, query, report, relationStart, projectStart}
+use Rattle.report.specs.Tables.{Tables, relationExpression, relationLength, query, report, relationStart, projectStart}
 use Rattle.report.specs.Tables.{expressionCount, entryCount, relationCount}
-use Rattle.report.specs.Expressions.{configurations, permitted}
+use Rattle.report.specs.Expressions.{configurations, permitted, tablesOf}
 use Rattle.report.specs.Typing.{at, reached, entryHolds, present, setOf}
 use Rattle.report.specs.ColumnRows.{columnRows, shown}
 use Rattle.report.specs.Rules.{Rules}
 use Rattle.report.specs.Configuring.{configured}
-use Rattle.report.specs.Verdicts.{refusal, refuseIf, after, firstOf}
-use Rattle.report.specs.FormChecks.{relationOk, queryOk, formCheck}
+use Rattle.report.specs.Verdicts.{refusal, refuseIf, after}
+use Rattle.report.specs.FormChecks.{relationOk, queryOk}
 use Rattle.report.specs.Formed.{Free}
-use Rattle.report.specs.Checks.{absentEverywhere, apartEverywhere, relationCheck, modelCheck, schemaCheck}
-use Rattle.report.specs.Calls.{Call, beforeTyping, answer, checking, configuring}
+use Rattle.report.specs.Checks.{absentEverywhere, apartEverywhere, relationCheck}
+use Rattle.report.specs.Calls.{Call, answer, checking, configuring}
 use Rattle.report.specs.Repeats.{NoRepeats, answerBefore, configuredBefore}
 use Rattle.report.specs.declared.Verdict.{Verdict}
 use Rattle.report.specs.declared.Query.{Query}
 use Rattle.report.proofs.VerdictLaws.{both-accepted, at-accepted, first-accepted}
 use Rattle.report.proofs.FormFacts.{list-inside, query-lower}
 use Rattle.report.proofs.FitLaws.{list-fits, query-fits}
-use Rattle.report.proofs.Formed.{formed-accepted}
+use Rattle.report.proofs.CallLaws.{sound-checks}
 use Rattle.report.proofs.ReachLaws.{reached-report}
 use Rattle.report.proofs.RulesLaws.{accepted-sets, accepted-shown}
 use Rattle.report.proofs.RulesMembers.{Entry, joined-members}
@@ -86,11 +86,8 @@ module _ (T : Tables) (rows rows′ : List ℕ) (checks : Checks T rows Verdict.
 
   pub entry-somewhere : (r i : ℕ) → r < relationCount T → i < relationLength (T .relations) r
       → (c : ℕ) × (permitted T c ≡ true) × (present T c r ≡ true) × (entryHolds T c (relationStart (T .relations) r + i) ≡ true)
-  unfolding answer
   entry-somewhere r i h l =
-      let call = checking (length rows) in
-      let own = both-accepted (formCheck T) _ (both-accepted (beforeTyping T call) _ accepts .0) .1 in
-      let schema = both-accepted (modelCheck T) (schemaCheck T) (both-accepted (firstOf (call .beforeModel T)) _ own .1) .1 in
+      let schema = sound-checks T .0 (called-sound T (checking (length rows)) accepts) .2 in
       let each = first-accepted (relationCheck T) (relationCount T) 0 schema r (omega arith) (omega arith) in
       let n = relationLength (T .relations) r in
       let start = relationStart (T .relations) r in
@@ -129,7 +126,7 @@ module _ (T : Tables) (c : ℕ) (newEntries newRelations newComparisons newQueri
       (take (a * 2) newEntries′) (take (b * 2) newRelations′) (take (d * 5) newComparisons′) (take (e * 4) newQueries′) (T .kinds))
   configure-once a b d e written =
       let w = written-alone T c _ _ _ _ r _ _ _ _ configures a b d e written in
-      rw (w .readBack a b d e written) (w .accepted .writes .once)
+      rw (w .readBack a b d e written) (w .accepted .written .writes .once)
 
   -- ---- Where no list has an attribute twice, every answer and word is what it was
 
@@ -144,7 +141,7 @@ module _ (T : Tables) (c : ℕ) (newEntries newRelations newComparisons newQueri
       go : (v : Verdict) → answer T call ≡ v
           → Leaves v (configured T c) newEntries newRelations newComparisons newQueries r newEntries′ newRelations′ newComparisons′ newQueries′
           → Leaves v (configuredBefore T c) newEntries newRelations newComparisons newQueries r newEntries′ newRelations′ newComparisons′ newQueries′
-      go Verdict.Accepted e l = rw (← written-before (formed-accepted T (called-formed T call e)) once c) l
+      go Verdict.Accepted e l = rw (← written-before (called-formed T call e) once c) l
       go (Verdict.Refused x) e l =
           record { answers = l .answers; entries = l .entries; relations = l .relations; comparisons = l .comparisons; queries = l .queries }
 

@@ -26,17 +26,18 @@ use Rattle.report.specs.ConfiguredReport.{configuredReport, configuredSchema}
 use Rattle.report.specs.Configuring.{written}
 use Rattle.report.specs.Verdicts.{refusal, refuseIf, after, _gives_, Foremost}
 use Rattle.report.specs.Checks.{isEarly, isTypingFault}
-use Rattle.report.specs.Calls.{Call, conditions, answer, Sound, GetsAsFarAsTyping, OwnNumbers}
+use Rattle.report.specs.Calls.{Call, whole, conditions, answer, Sound, GetsAsFarAsTyping, OwnNumbers}
 use Rattle.report.specs.Formed.{Formed}
 use Rattle.report.specs.TypingFaults.{Broken, Named}
 use Rattle.report.specs.declared.Refusal.{Refusal}
 use Rattle.report.specs.declared.Verdict.{Verdict}
 use Rattle.report.proofs.VerdictLaws.{accepted-not-refused, if-accepted, then-next}
-use Rattle.report.proofs.FirstFault.{first-none, first-one, refused-foremost}
+use Rattle.report.proofs.FirstFault.{first-none, first-one}
+use Rattle.report.proofs.CallLaws.{given-answer, own-gets, refused-foremost}
 use Rattle.report.proofs.ReachLaws.{reached-report}
 use Rattle.report.proofs.RulesLaws.{rules-sets}
 use Rattle.report.proofs.TypingLaws.{permitted-within, permitted-1024}
-use Rattle.report.proofs.Refusing.{gets-own, gets-answer, own-early}
+use Rattle.report.proofs.Refusing.{own-early}
 use Rattle.report.proofs.WrittenAccepted.{called-sound, called-typed, called-own, called-formed, called-passes, called-columns}
 use Rattle.checking.specs.Promises.{Checks}
 use Rattle.wall_page.specs.declared.PageAnswer.{PageAnswer}
@@ -192,7 +193,7 @@ module _ (T : Tables) (lent : List ℕ) (r : PageAnswer) (bytes : List ℕ) (wri
     -- "23 the lent page is shorter than 73 × the number of lines, checked after 19": it is refused for that alone, and else written
     page-late : answer T call ≡ refuseIf (ltb (length lent) (73 * lineCount T)) (refusal 23 0 0 0)
     page-late =
-        gets-answer T call (gets-own T call (called-sound T _ (sym (checks .0))) .1 first-none)
+        given-answer (whole T) call (own-gets (whole T) call (called-sound T _ (sym (checks .0))) .1 first-none)
         ∙ then-next (called-typed T _ (sym (checks .0))) ∙ first-one _ _
 
     pub page-refused : (x : Refusal) → (r ≡ PageAnswer.Refused x) ↔ ((x ≡ refusal 23 0 0 0) × (length lent < 73 * lineCount T))
@@ -225,7 +226,7 @@ page-early T room = own-early T (page-own room) first-none
 module _ (T : Tables) (sound : Sound T) (lent : List ℕ) where
   -- on sound tables it gets as far as typing, whatever is lent
   pub which-page : GetsAsFarAsTyping T (writingPage (length lent))
-  which-page = gets-own T (writingPage (length lent)) sound .1 first-none
+  which-page = own-gets (whole T) (writingPage (length lent)) sound .1 first-none
 
   module _ (r : PageAnswer) (bytes : List ℕ) (writes : PageWritten T lent r bytes) where
     page-fault : isPageFault r ≡ isTypingFault (answer T (writingPage (length lent)))
@@ -236,11 +237,11 @@ module _ (T : Tables) (sound : Sound T) (lent : List ℕ) where
         go (Verdict.Refused x) = refl
 
     pub page-refuses : (isPageFault r ≡ true) ↔ Broken T
-    page-refuses = call-refuses T sound (page-own (length lent)) which-page page-fault
+    page-refuses = call-refuses T (page-own (length lent)) which-page page-fault
 
     pub page-names : isPageFault r ≡ true → (n : Named T (writingPage (length lent))) × (r ≡ PageAnswer.Refused (n .refuses))
     page-names e =
-        let n = call-names T sound (page-own (length lent)) which-page page-fault e in (n, told-by T lent r bytes writes (n .answers))
+        let n = call-names T (page-own (length lent)) which-page page-fault e in (n, told-by T lent r bytes writes (n .answers))
 
     pub page-never : ((c : ℕ) → permitted T c ≡ true → passes (kindOf T) (configuredSchema T c) (configuredReport T c) ≡ true) → isPageFault r ≡ false
-    page-never = call-never T sound (page-own (length lent)) which-page page-fault
+    page-never = call-never T (page-own (length lent)) which-page page-fault

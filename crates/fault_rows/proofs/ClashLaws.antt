@@ -21,7 +21,7 @@ use Rattle.report.specs.declared.Query.{Query}
 use Rattle.report.proofs.FormedFacts.{query-at}
 use Rattle.report.proofs.TypingLaws.{permitted-within, permitted-1024, fails-permitted}
 use Rattle.comparisons.specs.declared.Gathered.{Gathered}
-use Rattle.conditions.specs.Conditions.{reachRow}
+use Rattle.expression_rows.specs.ExpressionRows.{reachRow}
 use Rattle.attribute_rows.specs.AttributeRows.{gatheredRow}
 use Rattle.attribute_rows.proofs.FillLaws.{RowsFilling, filling-more, filling-rest, filling-all}
 use Rattle.fault_rows.specs.FaultRows.{failsRow, failsAt, failingRow, ClashReads, ClashReadable}
@@ -92,35 +92,35 @@ failing-wide T x q = rowOf-row 16 (failsAt T q) .size
 
 -- of the forms below q the rows are of the first phase that fails, over `lent`, which has those of the first phase
 abbrev pub ClashesAdding : List ℕ → List ℕ → List ℕ → List ℕ → List ℕ → ℕ → Type 0
-ClashesAdding queries reach clashes lent faults q =
-    RowsFilling (λ T. ClashReads T queries reach clashes lent) (λ T x k. failingRow T k) 0 (length queries / 4) lent faults q
+ClashesAdding queries reach clashRows lent faultRows q =
+    RowsFilling (λ T. ClashReads T queries reach clashRows lent) (λ T x k. failingRow T k) 0 (length queries / 4) lent faultRows q
 
-module _ {queries reach clashes lent faults : List ℕ} {q : ℕ} (S : ClashesAdding queries reach clashes lent faults q) where
+module _ {queries reach clashRows lent faultRows : List ℕ} {q : ℕ} (S : ClashesAdding queries reach clashRows lent faultRows q) where
   module _ (h : q < length queries / 4) where
-    in-table : {T : Tables} → ClashReads T queries reach clashes lent → q < queryCount T
+    in-table : {T : Tables} → ClashReads T queries reach clashRows lent → q < queryCount T
     in-table R = rw (R .queriesAre) at h
 
     -- form q has its rows
-    module _ (A : ClashReadable queries reach clashes lent) where
+    module _ (A : ClashReadable queries reach clashRows lent) where
       pub adding-reach : q * 16 + 16 ≤ length reach
       adding-reach = let m = A .reads .reaching .room in let i = in-table (A .reads) in omega arith
 
-      pub adding-faults : q * 16 + 16 ≤ length faults
+      pub adding-faults : q * 16 + 16 ≤ length faultRows
       adding-faults = let m = A .reads .failing .room in let s = S .size in let i = in-table (A .reads) in omega arith
 
     -- the code finds it to be x
     module _ {x : Query} (e : x ≡ query queries q) where
-      form : {T : Tables} → ClashReads T queries reach clashes lent → x ≡ query (T .queries) q
+      form : {T : Tables} → ClashReads T queries reach clashRows lent → x ≡ query (T .queries) q
       form R = e ∙ ap (λ (t : List ℕ). query t q) (R .queriesAre)
 
-      pub adding-clash : ClashReadable queries reach clashes lent → ClashRead clashes x
+      pub adding-clash : ClashReadable queries reach clashRows lent → ClashRead clashRows x
       adding-clash A =
           let R = A .reads in
           record { tables = A .tables; form = q; lower = rw (form R) (query-at (R .formed) q (in-table R)); compared = R .clashing .room }
 
-      pub adding-more : {among first second row after : List ℕ} → among ≡ rowIn 16 reach q → second ≡ clashStep clashes among x
-          → first ≡ rowIn 16 faults q → row ≡ firstFound first second → length after ≡ length faults → after ≡ withRow 16 faults q row
-          → ClashesAdding queries reach clashes lent after (q + 1)
+      pub adding-more : {among first second row after : List ℕ} → among ≡ rowIn 16 reach q → second ≡ clashStep clashRows among x
+          → first ≡ rowIn 16 faultRows q → row ≡ firstFound first second → length after ≡ length faultRows → after ≡ withRow 16 faultRows q row
+          → ClashesAdding queries reach clashRows lent after (q + 1)
       adding-more load clash before found =
           filling-more failing-wide S h
           (λ T R B.
@@ -129,11 +129,11 @@ module _ {queries reach clashes lent faults : List ℕ} {q : ℕ} (S : ClashesAd
           (clash-is (R .formed) (R .clashing) q (in-table R) (form R) (load ∙ R .reaching .each q (in-table R)) clash)
           ∙ first-fails (R .formed) q)
 
-  pub adding-all : length queries / 4 ≤ q → (T : Tables) → ClashReads T queries reach clashes lent
-      → faults ≡ written (concat (queryCount T) (failingRow T)) lent
+  pub adding-all : length queries / 4 ≤ q → (T : Tables) → ClashReads T queries reach clashRows lent
+      → faultRows ≡ written (concat (queryCount T) (failingRow T)) lent
   adding-all h T R = filling-all failing-wide S h T R (ap (λ (t : List ℕ). length t / 4) (R .queriesAre))
 
 -- for the caller: the rows that were filled
-pub failing-rows : (T : Tables) (lent : List ℕ) {faults : List ℕ} → faults ≡ written (concat (queryCount T) (failingRow T)) lent
-    → RowsAre 16 (queryCount T) (failingRow T) faults
+pub failing-rows : (T : Tables) (lent : List ℕ) {faultRows : List ℕ} → faultRows ≡ written (concat (queryCount T) (failingRow T)) lent
+    → RowsAre 16 (queryCount T) (failingRow T) faultRows
 failing-rows T lent = rows-are 16 (queryCount T) (failingRow T) (λ q l. failing-wide T 0 q) _

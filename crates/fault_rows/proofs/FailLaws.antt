@@ -15,17 +15,19 @@ use Rattle.sets.proofs.ListLaws.{table-same, concat-length}
 use Rattle.sets.proofs.BitLaws.{bitsOf-none}
 use Rattle.sets.proofs.RowLaws.{rowOf-same, rowOf-row, intersect-rowOf, rows-are, rows-all}
 use Rattle.report.specs.Tables.{Tables, relationCount, comparisonCount, queryCount, report}
-use Rattle.report.specs.Expressions.{holds, permitted}
+use Rattle.report.specs.Expressions.{permitted}
 use Rattle.report.specs.Typing.{setOf, reached, faults}
 use Rattle.report.specs.ColumnRows.{hasColumn}
 use Rattle.report.specs.Configuring.{written}
 use Rattle.report.specs.Formed.{Formed}
 use Rattle.report.proofs.FormedFacts.{counts, report-in}
 use Rattle.comparisons.specs.declared.Gathered.{Gathered}
+use Rattle.expression_rows.specs.declared.Scope.{Scope}
+use Rattle.expression_rows.specs.TypingReads.{Items, TypingReads}
 use Rattle.attribute_rows.specs.AttributeRows.{relationRow, gatheredRow, RelationRowReads, RelationRowReadable, GatheredReads, GatheredReadable}
 use Rattle.attribute_rows.proofs.AttributeLaws.{relations-are, gathered-are}
 use Rattle.attribute_rows.proofs.FillLaws.{RowsFilling, filling-none, filling-more, filling-all}
-use Rattle.fault_rows.specs.FaultRows.{faultyRow, failsRow, columnRow, FailReads, FailReadable, FailsFilled, Items}
+use Rattle.fault_rows.specs.FaultRows.{faultyRow, failsRow, columnRow, FailReadable, FailsFilled}
 use Rattle.fault_rows.specs.FaultRules.{FormRowsReads, FormRowsReadable, FormsFilled, storedColumn, ColumnRead}
 use Rattle.fault_rows.proofs.TypeLaws.{faulty-wide}
 use Rattle.fault_rows.proofs.FaultLaws.{faulty-fails}
@@ -33,10 +35,10 @@ use Rattle.fault_rows.proofs.FaultLaws.{faulty-fails}
 -- ---- what the rows of one attribute are worked out from, and room for them
 
 -- the local arrays
-pub record Arrays (named relationRows sets : List ℕ) : Type 0 where
-  pub compared : length named ≡ 4096
+pub record Arrays (namedRows relationRows formRows : List ℕ) : Type 0 where
+  pub compared : length namedRows ≡ 4096
   pub related : length relationRows ≡ 512
-  pub shaped : length sets ≡ 4096
+  pub shaped : length formRows ≡ 4096
 
 pub arrays-clear : Arrays (replicate 4096 0) (replicate 512 0) (replicate 4096 0)
 arrays-clear = record {
@@ -45,44 +47,47 @@ arrays-clear = record {
   shaped = length-replicate {A = ℕ} 4096 0;
 }
 
-pub arrays-kept : {named relationRows sets after later last : List ℕ} → Arrays named relationRows sets → length after ≡ length named
-    → length later ≡ length relationRows → length last ≡ length sets → Arrays after later last
+pub arrays-kept : {namedRows relationRows formRows after later last : List ℕ} → Arrays namedRows relationRows formRows → length after ≡ length namedRows
+    → length later ≡ length relationRows → length last ≡ length formRows → Arrays after later last
 arrays-kept S p q r = record { compared = p ∙ S .compared; related = q ∙ S .related; shaped = r ∙ S .shaped }
 
-module _ {T : Tables} {conditions full permits reach relationEntries projectEntries relations comparisons queries kinds : List ℕ}
-    (R : FailReads T conditions full permits reach relationEntries projectEntries relations comparisons queries kinds) where
-  reads-named : GatheredReads T conditions comparisons kinds full
+module _ {T : Tables} {scope : Scope} {expressionRows relationEntries projectEntries relations comparisons queries kinds reach : List ℕ}
+    (R : TypingReads T scope expressionRows relationEntries projectEntries relations comparisons queries kinds reach) where
+  reads-named : GatheredReads T expressionRows comparisons kinds (scope .full .words)
   reads-named =
-      let P = R .prepared in
-      record { formed = P .formed; filled = P .filled; comparisonsAre = P .comparisonsAre; kindsAre = R .kindsAre; whole = R .whole }
+      let P = R .report .prepared in
+      record { formed = P .formed; filled = P .filled; comparisonsAre = P .comparisonsAre; kindsAre = R .report .kindsAre; whole = R .scoped .whole }
 
-  reads-relations : RelationRowReads T conditions relationEntries relations
+  reads-relations : RelationRowReads T expressionRows relationEntries relations
   reads-relations =
-      let P = R .prepared in
+      let P = R .report .prepared in
       record { formed = P .formed; filled = P .filled; entriesAre = P .relationEntriesAre; relationsAre = P .relationsAre }
 
-  module _ {named relationRows sets : List ℕ} (S : Arrays named relationRows sets) where
-    pub arrays-named : GatheredReadable conditions comparisons kinds full named
+  module _ {namedRows relationRows formRows : List ℕ} (S : Arrays namedRows relationRows formRows) where
+    pub arrays-named : GatheredReadable expressionRows comparisons kinds (scope .full .words) namedRows
     arrays-named = record {
       tables = T;
       reads = reads-named;
       room =
-          let n = counts (R .prepared .formed) in let e = ap (λ (t : List ℕ). length t / 5) (R .prepared .comparisonsAre) in let s = S .compared in
+          let n = counts (R .report .prepared .formed) in let e = ap (λ (t : List ℕ). length t / 5) (R .report .prepared .comparisonsAre) in
+          let s = S .compared in
           omega arith;
     }
 
-    pub arrays-relations : RelationRowReadable conditions relationEntries relations relationRows
+    pub arrays-relations : RelationRowReadable expressionRows relationEntries relations relationRows
     arrays-relations = record {
       tables = T;
       reads = reads-relations;
       room =
-          let n = counts (R .prepared .formed) in let e = ap (λ (t : List ℕ). length t / 2) (R .prepared .relationsAre) in let s = S .related in
+          let n = counts (R .report .prepared .formed) in let e = ap (λ (t : List ℕ). length t / 2) (R .report .prepared .relationsAre) in
+          let s = S .related in
           omega arith;
     }
 
-    arrays-sets : length queries / 4 * 16 ≤ length sets
+    arrays-sets : length queries / 4 * 16 ≤ length formRows
     arrays-sets =
-        let n = counts (R .prepared .formed) in let e = ap (λ (t : List ℕ). length t / 4) (R .prepared .queriesAre) in let s = S .shaped in
+        let n = counts (R .report .prepared .formed) in let e = ap (λ (t : List ℕ). length t / 4) (R .report .prepared .queriesAre) in
+        let s = S .shaped in
         omega arith
 
 -- ---- one column
@@ -93,7 +98,7 @@ unfolding permitted
 column-row T a =
     intersect-rowOf 16 (within (T .features) (λ c. bit (setOf T c (report T)) a)) (permitted T)
     ∙ rowOf-same 16 (λ c. within (T .features) (λ d. bit (setOf T d (report T)) a) c && permitted T c) (hasColumn T a)
-    (λ c h. go (ltb c (2 ^ (T .features))) (bit (setOf T c (report T)) a) (holds (T .expressions) c (T .model)))
+    (λ c h. go (ltb c (2 ^ (T .features))) (bit (setOf T c (report T)) a) (T .truth c (T .model)))
   where
     go : (l b m : Bool) → ((l && b) && (l && m)) ≡ ((l && m) && b)
     go true true true = refl
@@ -124,26 +129,27 @@ module _ (T : Tables) (items : ℕ) where
   faulty-length : length (concat (queryCount T) (faultyRow T items)) ≡ queryCount T * 16
   faulty-length = concat-length (faultyRow T items) 16 (queryCount T) (λ q l. faulty-wide T items q)
 
-  faulty-rows : (lent : List ℕ) {faults : List ℕ} → faults ≡ written (concat (queryCount T) (faultyRow T items)) lent
-      → RowsAre 16 (queryCount T) (faultyRow T items) faults
+  faulty-rows : (lent : List ℕ) {faultRows : List ℕ} → faultRows ≡ written (concat (queryCount T) (faultyRow T items)) lent
+      → RowsAre 16 (queryCount T) (faultyRow T items) faultRows
   faulty-rows lent = rows-are 16 (queryCount T) (faultyRow T items) (λ q l. faulty-wide T items q) _
 
 column-wide : (T : Tables) (x a : ℕ) → length (columnRow T a) ≡ 16
 column-wide T x a = rowOf-row 16 (hasColumn T a) .size
 
 -- the items below a have been looked at
-pub record Failing (conditions full permits reach relationEntries projectEntries relations comparisons queries kinds : List ℕ) (items : ℕ)
-    (lent before faults columns : List ℕ) (a : ℕ) : Type 0 where
-  pub size : length faults ≡ length lent
-  pub faulty : (T : Tables) → FailReads T conditions full permits reach relationEntries projectEntries relations comparisons queries kinds
-      → faults ≡ written (concat (queryCount T) (faultyRow T a)) lent
-  pub shown : RowsFilling (λ T. FailReads T conditions full permits reach relationEntries projectEntries relations comparisons queries kinds)
-      (λ T x k. columnRow T k) 0 items before columns a
+pub record Failing (scope : Scope)
+    (expressionRows relationEntries projectEntries relations comparisons queries kinds reach lent before faultRows columns : List ℕ)
+    (a : ℕ) : Type 0 where
+  pub size : length faultRows ≡ length lent
+  pub faulty : (T : Tables) → TypingReads T scope expressionRows relationEntries projectEntries relations comparisons queries kinds reach
+      → faultRows ≡ written (concat (queryCount T) (faultyRow T a)) lent
+  pub shown : RowsFilling (λ T. TypingReads T scope expressionRows relationEntries projectEntries relations comparisons queries kinds reach)
+      (λ T x k. columnRow T k) 0 (scope .items) before columns a
 
-module _ {conditions full permits reach relationEntries projectEntries relations comparisons queries kinds : List ℕ} {items : ℕ}
+module _ {scope : Scope} {expressionRows relationEntries projectEntries relations comparisons queries kinds reach : List ℕ}
     {lent before : List ℕ}
-    (A : FailReadable conditions full permits reach relationEntries projectEntries relations comparisons queries kinds items lent before) where
-  pub failing-none : Failing conditions full permits reach relationEntries projectEntries relations comparisons queries kinds items lent before lent
+    (A : FailReadable scope expressionRows relationEntries projectEntries relations comparisons queries kinds reach lent before) where
+  pub failing-none : Failing scope expressionRows relationEntries projectEntries relations comparisons queries kinds reach lent before lent
       before 0
   failing-none = record {
     size = refl;
@@ -152,46 +158,46 @@ module _ {conditions full permits reach relationEntries projectEntries relations
         (rw (A .clear)
         (none-faulty T (A .words)
         (let m = A .room in
-        let e = ap (λ (t : List ℕ). length t / 4) (sym (R .prepared .queriesAre) ∙ A .reads .prepared .queriesAre) in
+        let e = ap (λ (t : List ℕ). length t / 4) (sym (R .report .prepared .queriesAre) ∙ A .reads .report .prepared .queriesAre) in
         omega arith)))
         ∙ ap (λ (k : ℕ). concat (queryCount T) (faultyRow T 0) ++ drop k lent) (sym (faulty-length T 0));
     shown = filling-none;
   }
 
-  module _ {faults columns : List ℕ} {a : ℕ}
-      (S : Failing conditions full permits reach relationEntries projectEntries relations comparisons queries kinds items lent before faults
+  module _ {faultRows columns : List ℕ} {a : ℕ}
+      (S : Failing scope expressionRows relationEntries projectEntries relations comparisons queries kinds reach lent before faultRows
       columns a) where
     -- the rows of attribute a: of the comparisons and the relations
-    module _ {oldNamed named oldRelated relationRows oldSets : List ℕ} (arrays : Arrays oldNamed oldRelated oldSets)
-        (names : (T : Tables) → GatheredReads T conditions comparisons kinds full
-        → named ≡ written (concat (comparisonCount T) (gatheredRow T Gathered.Names a)) oldNamed)
-        (relates : (T : Tables) → RelationRowReads T conditions relationEntries relations
+    module _ {oldNamedRows namedRows oldRelated relationRows oldFormRows : List ℕ} (arrays : Arrays oldNamedRows oldRelated oldFormRows)
+        (names : (T : Tables) → GatheredReads T expressionRows comparisons kinds (scope .full .words)
+        → namedRows ≡ written (concat (comparisonCount T) (gatheredRow T Gathered.Names a)) oldNamedRows)
+        (relates : (T : Tables) → RelationRowReads T expressionRows relationEntries relations
         → relationRows ≡ written (concat (relationCount T) (relationRow T a)) oldRelated) where
-      failing-reads : {T : Tables} → FailReads T conditions full permits reach relationEntries projectEntries relations comparisons queries kinds
-          → FormRowsReads T conditions projectEntries relations queries reach named relationRows a faults
+      failing-reads : {T : Tables} → TypingReads T scope expressionRows relationEntries projectEntries relations comparisons queries kinds reach
+          → FormRowsReads T expressionRows projectEntries relations queries reach namedRows relationRows a faultRows
       failing-reads {T} R = record {
-        formed = R .prepared .formed;
-        filled = R .prepared .filled;
-        entriesAre = R .prepared .projectEntriesAre;
-        relationsAre = R .prepared .relationsAre;
-        queriesAre = R .prepared .queriesAre;
-        reaching = R .reaching;
-        compared = gathered-are T a oldNamed Gathered.Names (names T (reads-named R));
+        formed = R .report .prepared .formed;
+        filled = R .report .prepared .filled;
+        entriesAre = R .report .prepared .projectEntriesAre;
+        relationsAre = R .report .prepared .relationsAre;
+        queriesAre = R .report .prepared .queriesAre;
+        reaching = R .report .reaching;
+        compared = gathered-are T a oldNamedRows Gathered.Names (names T (reads-named R));
         related = relations-are T a oldRelated (relates T (reads-relations R));
         faulty = faulty-rows T a lent (S .faulty T R);
       }
 
-      pub failing-forms : FormRowsReadable conditions projectEntries relations queries reach named relationRows a oldSets faults
+      pub failing-forms : FormRowsReadable expressionRows projectEntries relations queries reach namedRows relationRows a oldFormRows faultRows
       failing-forms = record { tables = A .tables; reads = failing-reads (A .reads); room = arrays-sets (A .reads) arrays }
 
       -- and of the forms
-      module _ {sets after : List ℕ}
-          (forms : (T : Tables) → FormRowsReads T conditions projectEntries relations queries reach named relationRows a faults
-          → FormsFilled T a sets faults after)
-          (h : a < items) where
-        pub failing-column : ColumnRead queries sets a columns
+      module _ {formRows after : List ℕ}
+          (forms : (T : Tables) → FormRowsReads T expressionRows projectEntries relations queries reach namedRows relationRows a faultRows
+          → FormsFilled T a formRows faultRows after)
+          (h : a < scope .items) where
+        pub failing-column : ColumnRead queries formRows a columns
         failing-column =
-            let P = A .reads .prepared in
+            let P = A .reads .report .prepared in
             let e = ap (λ (t : List ℕ). length t / 4) (P .queriesAre) in
             record {
               some = let n = counts (P .formed) .someQuery in omega arith;
@@ -199,18 +205,18 @@ module _ {conditions full permits reach relationEntries projectEntries relations
               room = let m = A .column in let s = S .shown .size in omega arith;
             }
 
-        failing-row : {T : Tables} → FailReads T conditions full permits reach relationEntries projectEntries relations comparisons queries kinds
-            → storedColumn permits queries sets ≡ columnRow T a
+        failing-row : {T : Tables} → TypingReads T scope expressionRows relationEntries projectEntries relations comparisons queries kinds reach
+            → storedColumn (scope .permitted .words) queries formRows ≡ columnRow T a
         failing-row {T} R =
             ap₂ (rowIntersect 16)
-            (ap (λ (t : List ℕ). rowIn 16 sets (length t / 4 - 1)) (R .prepared .queriesAre)
-            ∙ forms T (failing-reads R) .shaped .each (report T) (report-in (R .prepared .formed)))
-            (R .permitting)
+            (ap (λ (t : List ℕ). rowIn 16 formRows (length t / 4 - 1)) (R .report .prepared .queriesAre)
+            ∙ forms T (failing-reads R) .shaped .each (report T) (report-in (R .report .prepared .formed)))
+            (R .scoped .permitting)
             ∙ column-row T a
 
-        pub failing-more : {shown : List ℕ} → length after ≡ length faults → length shown ≡ length columns
-            → shown ≡ withRow 16 columns a (storedColumn permits queries sets)
-            → Failing conditions full permits reach relationEntries projectEntries relations comparisons queries kinds items lent before after
+        pub failing-more : {shown : List ℕ} → length after ≡ length faultRows → length shown ≡ length columns
+            → shown ≡ withRow 16 columns a (storedColumn (scope .permitted .words) queries formRows)
+            → Failing scope expressionRows relationEntries projectEntries relations comparisons queries kinds reach lent before after
             shown (a + 1)
         failing-more same wide stored = record {
           size = same ∙ S .size;
@@ -222,16 +228,16 @@ module _ {conditions full permits reach relationEntries projectEntries relations
           shown = filling-more column-wide (S .shown) h (λ T R B. failing-row R) wide stored;
         }
 
-    pub failing-all : items ≤ a → (T : Tables)
-        → FailReads T conditions full permits reach relationEntries projectEntries relations comparisons queries kinds
-        → FailsFilled T items lent faults before columns
+    pub failing-all : scope .items ≤ a → (T : Tables)
+        → TypingReads T scope expressionRows relationEntries projectEntries relations comparisons queries kinds reach
+        → FailsFilled T (scope .items) lent faultRows before columns
     failing-all h T R =
-        let e : a ≡ items = (let m = S .shown .most in omega arith) in
+        let e : a ≡ scope .items = (let m = S .shown .most in omega arith) in
         record { rows = rw e at (S .faulty T R); shown = filling-all column-wide (S .shown) h T R refl }
 
 -- for the caller: the rows that were filled are of the configurations at which each form fails
-pub fails-rows : {T : Tables} → Formed T → {items : ℕ} → Items T items → {lent faults before columns : List ℕ}
-    → FailsFilled T items lent faults before columns → RowsAre 16 (queryCount T) (failsRow T 0) faults
+pub fails-rows : {T : Tables} → Formed T → {items : ℕ} → Items T items → {lent faultRows before columns : List ℕ}
+    → FailsFilled T items lent faultRows before columns → RowsAre 16 (queryCount T) (failsRow T 0) faultRows
 fails-rows {T} F {items} I {lent} L =
     let f = faulty-rows T items lent (L .rows) in
     record { room = f .room; each = λ q h. f .each q h ∙ faulty-fails F I q h }

@@ -29,7 +29,8 @@ use Rattle.report.specs.Formed.{Formed, QueryLower}
 use Rattle.report.specs.declared.Query.{Query}
 use Rattle.report.proofs.FormedFacts.{query-at, report-in}
 use Rattle.report.proofs.SetLaws.{joined-narrow, names-narrow, set-narrow}
-use Rattle.fault_rows.specs.FaultRows.{faultyRow, failsRow, columnRow, Items}
+use Rattle.expression_rows.specs.TypingReads.{Items}
+use Rattle.fault_rows.specs.FaultRows.{faultyRow, failsRow, columnRow}
 
 -- ---- items at fault are below `items`
 

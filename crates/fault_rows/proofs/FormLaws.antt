@@ -12,13 +12,13 @@ use Rattle.sets.specs.Rows.{rowOf, rowIn, rowJoin, rowIntersect, rowMinus, with
 use Rattle.sets.proofs.BitLaws.{bit-none, bit-pow, bit-difference, bit-xor}
 use Rattle.sets.proofs.RowLaws.{rowOf-same, intersect-rowOf, minus-rowOf, join-within, minus-within}
 use Rattle.report.specs.Tables.{Tables, query, queryCount, report, relationCount, relationExpression, comparisonCount, projectLength, projectStart}
-use Rattle.report.specs.Expressions.{holds, permitted}
+use Rattle.report.specs.Expressions.{permitted}
 use Rattle.report.specs.Typing.{at, leads, present, names, projectSet, setOf, reached, faultsOf, faults}
 use Rattle.report.specs.Formed.{Formed, QueryLower}
 use Rattle.report.specs.declared.Query.{Query}
 use Rattle.report.proofs.FormedFacts.{query-at, relation-expression}
 use Rattle.comparisons.specs.declared.Gathered.{Gathered}
-use Rattle.conditions.specs.Conditions.{Conditioned, reachRow}
+use Rattle.expression_rows.specs.ExpressionRows.{TruthFilled, reachRow}
 use Rattle.attribute_rows.specs.AttributeRows.{hasRow, listRow, gatheredRow, setRow}
 use Rattle.attribute_rows.proofs.AttributeLaws.{row-same, has-none, has-and}
 use Rattle.fault_rows.specs.FaultRows.{faultRow}
@@ -51,12 +51,12 @@ module _ (T : Tables) (a : ℕ) (f g : ℕ → ℕ) where
 
 -- ---- an absent relation
 
-module _ {conditions relations : List ℕ} {r : ℕ} (A : AbsentRead conditions relations r) (among : List ℕ) {a : ℕ} where
-  pub absent-here : a ≡ r → {x : ℕ} {row : List ℕ} → x ≡ relationExpression relations r → row ≡ rowMinus 16 among (rowIn 16 conditions x)
-      → row ≡ absentRow conditions among relations a r
-  absent-here e p is = rw (eq-eqb a r e) (is ∙ ap (λ (y : ℕ). rowMinus 16 among (rowIn 16 conditions y)) p)
+module _ {expressionRows relations : List ℕ} {r : ℕ} (A : AbsentRead expressionRows relations r) (among : List ℕ) {a : ℕ} where
+  pub absent-here : a ≡ r → {x : ℕ} {row : List ℕ} → x ≡ relationExpression relations r → row ≡ rowMinus 16 among (rowIn 16 expressionRows x)
+      → row ≡ absentRow expressionRows among relations a r
+  absent-here e p is = rw (eq-eqb a r e) (is ∙ ap (λ (y : ℕ). rowMinus 16 among (rowIn 16 expressionRows y)) p)
 
-  pub absent-other : (a ≡ r → ⊥) → {row : List ℕ} → row ≡ rowOf 16 (λ c. false) → row ≡ absentRow conditions among relations a r
+  pub absent-other : (a ≡ r → ⊥) → {row : List ℕ} → row ≡ rowOf 16 (λ c. false) → row ≡ absentRow expressionRows among relations a r
   absent-other e is = rw (ne-eqb a r e) is
 
 -- a row, or none
@@ -73,7 +73,7 @@ unfolding reached permitted
 cut-within T q p =
     intersect-rowOf 16 (within (T .features) p) (λ c. reached T c q)
     ∙ rowOf-same 16 (λ c. within (T .features) p c && reached T c q) (λ c. reached T c q && p c)
-    (λ c h. go (ltb c (2 ^ (T .features))) (holds (T .expressions) c (T .model)) (leads T c q (report T)) (p c))
+    (λ c h. go (ltb c (2 ^ (T .features))) (T .truth c (T .model)) (leads T c q (report T)) (p c))
   where
     go : (l m d b : Bool) → ((l && b) && ((l && m) && d)) ≡ (((l && m) && d) && b)
     go true true true b = and-true b
@@ -100,7 +100,7 @@ cut-absent T q e t =
     ∙ intersect-rowOf 16 (λ c. (reached T c q && not (within (T .features) (λ d. at T d e) c)) && t) (λ c. reached T c q)
     ∙ rowOf-same 16 (λ c. ((reached T c q && not (within (T .features) (λ d. at T d e) c)) && t) && reached T c q)
     (λ c. reached T c q && (not (at T c e) && t))
-    (λ c h. go (ltb c (2 ^ (T .features))) (holds (T .expressions) c (T .model)) (leads T c q (report T)) (at T c e))
+    (λ c h. go (ltb c (2 ^ (T .features))) (T .truth c (T .model)) (leads T c q (report T)) (at T c e))
   where
     go : (l m d h : Bool) → (((((l && m) && d) && not (l && h)) && t) && ((l && m) && d)) ≡ (((l && m) && d) && (not h && t))
     go true true true h = and-true (not h && t)
@@ -109,13 +109,13 @@ cut-absent T q e t =
     go false m d h = refl
 
 -- the rows that the faults of form q are made of
-module _ {T : Tables} (F : Formed T) (a : ℕ) {conditions named sets : List ℕ} (C : Conditioned T conditions)
-    (compared : RowsAre 16 (comparisonCount T) (gatheredRow T Gathered.Names a) named) {q : ℕ} (B : RowsAre 16 q (setRow T a) sets) where
+module _ {T : Tables} (F : Formed T) (a : ℕ) {expressionRows namedRows formRows : List ℕ} (C : TruthFilled T expressionRows)
+    (compared : RowsAre 16 (comparisonCount T) (gatheredRow T Gathered.Names a) namedRows) {q : ℕ} (B : RowsAre 16 q (setRow T a) formRows) where
   -- where item a is at fault in a form, cut by what reaches form q
   abbrev cutFaults : Query → List ℕ
   cutFaults x =
       rowIntersect 16
-      (faultStep conditions (T .relations) named sets (listRow T a (projectStart T q) (projectLength x)) (reachRow T q) a x)
+      (faultStep expressionRows (T .relations) namedRows formRows (listRow T a (projectStart T q) (projectLength x)) (reachRow T q) a x)
       (reachRow T q)
 
   absent-rule : (r : ℕ) → r < relationCount T
@@ -135,7 +135,7 @@ module _ {T : Tables} (F : Formed T) (a : ℕ) {conditions named sets : List ℕ
       own false = sym (bit-pow r a)
 
   unequal-rule : (b d : ℕ) → b < q → d < q
-      → rowIntersect 16 (unequalRow (rowIn 16 sets b) (rowIn 16 sets d)) (reachRow T q)
+      → rowIntersect 16 (unequalRow (rowIn 16 formRows b) (rowIn 16 formRows d)) (reachRow T q)
       ≡ rowOf 16 (λ c. reached T c q && bit (bitXor (setOf T c b) (setOf T c d)) a)
   unequal-rule b d l m =
       cut-row T q a (λ c. bitXor (setOf T c b) (setOf T c d))
@@ -160,7 +160,7 @@ module _ {T : Tables} (F : Formed T) (a : ℕ) {conditions named sets : List ℕ
   fault-rule (Query.Intersection b d) l = unequal-rule b d (l .first .lower) (l .second .lower)
 
   module _ (h : q < queryCount T) {x : Query} (e : x ≡ query (T .queries) q) where
-    pub fault-read : {relations : List ℕ} → relations ≡ T .relations → FaultRead conditions relations named sets x
+    pub fault-read : {relations : List ℕ} → relations ≡ T .relations → FaultRead expressionRows relations namedRows formRows x
     fault-read is = record {
       tables = T;
       form = q;
@@ -173,6 +173,6 @@ module _ {T : Tables} (F : Formed T) (a : ℕ) {conditions named sets : List ℕ
     -- made so, with the row of the form's own list and the row of what reaches it
     pub fault-is : {relations listed among row : List ℕ} → relations ≡ T .relations → listed ≡ listRow T a (projectStart T q) (projectLength x)
         → among ≡ reachRow T q
-        → row ≡ rowIntersect 16 (faultStep conditions relations named sets listed among a x) among → row ≡ faultRow T a q
+        → row ≡ rowIntersect 16 (faultStep expressionRows relations namedRows formRows listed among a x) among → row ≡ faultRow T a q
     unfolding faults
     fault-is is list reach step = (rw (is, list, reach) at step) ∙ ap cutFaults e ∙ fault-rule (query (T .queries) q) (query-at F q h)

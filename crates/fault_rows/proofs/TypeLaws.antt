@@ -44,60 +44,63 @@ faulty-wide T items q = rowOf-row 16 (λ c. reached T c q && someBelow (bit (fau
 
 -- ---- the loop
 
--- where `lent` starts with the fault rows of the items below a: the rows of the forms below q stand in `sets`, and in `faults` theirs have item a
+-- where `lent` starts with the fault rows of the items below a: the rows of the forms below q stand in `formRows`, and in `faultRows` theirs have item a
 -- besides; the list of the next project starts at `start`
-pub record FormsTyping (conditions projectEntries relations queries reach named relationRows : List ℕ) (a : ℕ) (before sets lent faults : List ℕ)
+pub record FormsTyping (expressionRows projectEntries relations queries reach namedRows relationRows : List ℕ) (a : ℕ)
+    (before formRows lent faultRows : List ℕ)
     (q start : ℕ)
     : Type 0 where
-  pub shaped : RowsFilling (λ T. FormRowsReads T conditions projectEntries relations queries reach named relationRows a lent) setRow a
-      (length queries / 4) before sets q
-  pub joined : RowsFilling (λ T. FormRowsReads T conditions projectEntries relations queries reach named relationRows a lent)
-      (λ T x k. faultyRow T (x + 1) k) a (length queries / 4) lent faults q
+  pub shaped : RowsFilling (λ T. FormRowsReads T expressionRows projectEntries relations queries reach namedRows relationRows a lent) setRow a
+      (length queries / 4) before formRows q
+  pub joined : RowsFilling (λ T. FormRowsReads T expressionRows projectEntries relations queries reach namedRows relationRows a lent)
+      (λ T x k. faultyRow T (x + 1) k) a (length queries / 4) lent faultRows q
   pub starts : start ≡ projectedBefore queries q
 
-pub typing-none : {conditions projectEntries relations queries reach named relationRows : List ℕ} {a : ℕ} {before lent : List ℕ}
-    → FormsTyping conditions projectEntries relations queries reach named relationRows a before before lent lent 0 0
+pub typing-none : {expressionRows projectEntries relations queries reach namedRows relationRows : List ℕ} {a : ℕ} {before lent : List ℕ}
+    → FormsTyping expressionRows projectEntries relations queries reach namedRows relationRows a before before lent lent 0 0
 typing-none = record { shaped = filling-none; joined = filling-none; starts = refl }
 
-module _ {conditions projectEntries relations queries reach named relationRows : List ℕ} {a : ℕ} {before sets lent faults : List ℕ} {q start : ℕ}
-    (S : FormsTyping conditions projectEntries relations queries reach named relationRows a before sets lent faults q start) where
+module _ {expressionRows projectEntries relations queries reach namedRows relationRows : List ℕ} {a : ℕ} {before formRows lent faultRows : List ℕ}
+    {q start : ℕ}
+    (S : FormsTyping expressionRows projectEntries relations queries reach namedRows relationRows a before formRows lent faultRows q start) where
   module _ (h : q < length queries / 4) where
-    module _ {T : Tables} (R : FormRowsReads T conditions projectEntries relations queries reach named relationRows a lent) where
+    module _ {T : Tables} (R : FormRowsReads T expressionRows projectEntries relations queries reach namedRows relationRows a lent) where
       in-table : q < queryCount T
       in-table = rw (R .queriesAre) at h
 
-      lower : RowsAre 16 q (setRow T a) sets
+      lower : RowsAre 16 q (setRow T a) formRows
       lower = rows-are 16 q (setRow T a) (λ k l. set-wide T a k) _ (S .shaped .filled T R)
 
     -- form q has its rows
-    module _ (A : FormRowsReadable conditions projectEntries relations queries reach named relationRows a before lent) where
+    module _ (A : FormRowsReadable expressionRows projectEntries relations queries reach namedRows relationRows a before lent) where
       pub typing-reach : q * 16 + 16 ≤ length reach
       typing-reach = let m = A .reads .reaching .room in let i = in-table (A .reads) in omega arith
 
-      pub typing-faults : q * 16 + 16 ≤ length faults
+      pub typing-faults : q * 16 + 16 ≤ length faultRows
       typing-faults = let m = A .reads .faulty .room in let s = S .joined .size in let i = in-table (A .reads) in omega arith
 
-      pub typing-sets : q * 16 + 16 ≤ length sets
+      pub typing-sets : q * 16 + 16 ≤ length formRows
       typing-sets = let m = A .room in let s = S .shaped .size in omega arith
 
     -- the code finds it to be x
     module _ {x : Query} (e : x ≡ query queries q) where
-      form : {T : Tables} → FormRowsReads T conditions projectEntries relations queries reach named relationRows a lent → x ≡ query (T .queries) q
+      form : {T : Tables} → FormRowsReads T expressionRows projectEntries relations queries reach namedRows relationRows a lent
+          → x ≡ query (T .queries) q
       form R = e ∙ ap (λ (t : List ℕ). query t q) (R .queriesAre)
 
-      module _ (A : FormRowsReadable conditions projectEntries relations queries reach named relationRows a before lent) where
-        pub typing-fault : FaultRead conditions relations named sets x
+      module _ (A : FormRowsReadable expressionRows projectEntries relations queries reach namedRows relationRows a before lent) where
+        pub typing-fault : FaultRead expressionRows relations namedRows formRows x
         typing-fault =
             let R = A .reads in
             fault-read (R .formed) a (R .filled) (R .compared) (lower R) (in-table R) (form R) (R .relationsAre)
 
-        pub typing-set : SetRead conditions relationRows sets x
+        pub typing-set : SetRead expressionRows relationRows formRows x
         typing-set = let R = A .reads in set-read (R .formed) a (R .filled) (R .related) (lower R) (in-table R) (form R)
 
       -- with n entries
       module _ {n : ℕ} (p : n ≡ projectLength x) where
-        list-reads : {T : Tables} → FormRowsReads T conditions projectEntries relations queries reach named relationRows a lent
-            → ListRowReads T (relationsEnd T) conditions projectEntries start n
+        list-reads : {T : Tables} → FormRowsReads T expressionRows projectEntries relations queries reach namedRows relationRows a lent
+            → ListRowReads T (relationsEnd T) expressionRows projectEntries start n
         list-reads R = record {
           formed = R .formed;
           filled = R .filled;
@@ -105,37 +108,39 @@ module _ {conditions projectEntries relations queries reach named relationRows :
           inside = rw (R .entriesAre, S .starts, R .queriesAre, p, form R) (project-in-part (R .formed) q (in-table R));
         }
 
-        pub typing-list : FormRowsReadable conditions projectEntries relations queries reach named relationRows a before lent
-            → ListRowReadable conditions projectEntries start n
+        pub typing-list : FormRowsReadable expressionRows projectEntries relations queries reach namedRows relationRows a before lent
+            → ListRowReadable expressionRows projectEntries start n
         typing-list A = record { tables = A .tables; offset = relationsEnd (A .tables); reads = list-reads (A .reads) }
 
         -- the row of these entries
         module _ {listed : List ℕ}
-            (list : (T : Tables) (offset : ℕ) → ListRowReads T offset conditions projectEntries start n
+            (list : (T : Tables) (offset : ℕ) → ListRowReads T offset expressionRows projectEntries start n
             → listed ≡ listRow T a (offset + start) n) where
-          module _ {T : Tables} (R : FormRowsReads T conditions projectEntries relations queries reach named relationRows a lent) where
+          module _ {T : Tables} (R : FormRowsReads T expressionRows projectEntries relations queries reach namedRows relationRows a lent) where
             own-list : listed ≡ listRow T a (projectStart T q) (projectLength x)
             own-list =
                 list T (relationsEnd T) (list-reads R)
                 ∙ ap₂ (λ (i k : ℕ). listRow T a (relationsEnd T + i) k) (S .starts ∙ ap (λ (t : List ℕ). projectedBefore t q) (R .queriesAre)) p
 
-            own-set : {row : List ℕ} → row ≡ setStep conditions relationRows sets listed x → row ≡ setRow T a q
+            own-set : {row : List ℕ} → row ≡ setStep expressionRows relationRows formRows listed x → row ≡ setRow T a q
             own-set = set-is (R .formed) a (R .filled) (R .related) (lower R) (in-table R) (form R) own-list
 
             own-fault : {among here : List ℕ} → among ≡ rowIn 16 reach q
-                → here ≡ rowIntersect 16 (faultStep conditions relations named sets listed among a x) among
-                → rowJoin 16 (rowIn 16 faults q) here ≡ faultyRow T (a + 1) q
+                → here ≡ rowIntersect 16 (faultStep expressionRows relations namedRows formRows listed among a x) among
+                → rowJoin 16 (rowIn 16 faultRows q) here ≡ faultyRow T (a + 1) q
             own-fault load step =
                 ap₂ (rowJoin 16) (filling-rest (λ T x k. faulty-wide T (x + 1) k) (S .joined) T R q (le-refl q) ∙ R .faulty .each q (in-table R))
                 (fault-is (R .formed) a (R .filled) (R .compared) (lower R) (in-table R) (form R) (R .relationsAre) own-list
                 (load ∙ R .reaching .each q (in-table R)) step)
                 ∙ join-row T a q
 
-          pub typing-more : {among here row newFaults newSets : List ℕ} → among ≡ rowIn 16 reach q
-              → here ≡ rowIntersect 16 (faultStep conditions relations named sets listed among a x) among
-              → length newFaults ≡ length faults → newFaults ≡ withRow 16 faults q (rowJoin 16 (rowIn 16 faults q) here)
-              → row ≡ setStep conditions relationRows sets listed x → length newSets ≡ length sets → newSets ≡ withRow 16 sets q row
-              → FormsTyping conditions projectEntries relations queries reach named relationRows a before newSets lent newFaults (q + 1) (start + n)
+          pub typing-more : {among here row newFaultRows newFormRows : List ℕ} → among ≡ rowIn 16 reach q
+              → here ≡ rowIntersect 16 (faultStep expressionRows relations namedRows formRows listed among a x) among
+              → length newFaultRows ≡ length faultRows → newFaultRows ≡ withRow 16 faultRows q (rowJoin 16 (rowIn 16 faultRows q) here)
+              → row ≡ setStep expressionRows relationRows formRows listed x → length newFormRows ≡ length formRows
+              → newFormRows ≡ withRow 16 formRows q row
+              → FormsTyping expressionRows projectEntries relations queries reach namedRows relationRows a before newFormRows lent newFaultRows
+              (q + 1) (start + n)
           typing-more load fault same joins step alike stores = record {
             shaped = filling-more set-wide (S .shaped) h (λ T R B. own-set R step) alike stores;
             joined = filling-more (λ T x k. faulty-wide T (x + 1) k) (S .joined) h (λ T R B. own-fault R load fault) same joins;
@@ -145,7 +150,7 @@ module _ {conditions projectEntries relations queries reach named relationRows :
           }
 
   pub typing-all : length queries / 4 ≤ q → (T : Tables)
-      → FormRowsReads T conditions projectEntries relations queries reach named relationRows a lent → FormsFilled T a sets lent faults
+      → FormRowsReads T expressionRows projectEntries relations queries reach namedRows relationRows a lent → FormsFilled T a formRows lent faultRows
   typing-all h T R =
       let e = ap (λ (t : List ℕ). length t / 4) (R .queriesAre) in
       record {

@@ -2,21 +2,23 @@
 -- column rows.
 use Prim.Native.Nat.{ℕ, _*_, _≤_}
 use mathlib.Core.Path.{_≡_}
-use mathlib.Core.Bool.{Bool, true, cond, _&&_}
+use mathlib.Core.Bool.{Bool, cond, _&&_}
 use mathlib.Core.List.{List}
 use lib.ListN.{length, replicate}
 use Rattle.sets.specs.Search.{someBelow}
 use Rattle.sets.specs.Lists.{concat}
 use Rattle.sets.specs.Bits.{bit}
-use Rattle.sets.specs.Rows.{rowOf, within, RowsAre}
-use Rattle.report.specs.Tables.{Tables, relationCount, comparisonCount, queryCount}
-use Rattle.report.specs.Expressions.{configurations, permitted}
+use Rattle.sets.specs.Rows.{rowOf, RowsAre}
+use Rattle.report.specs.Tables.{Tables, comparisonCount, queryCount}
+use Rattle.report.specs.Expressions.{configurations}
 use Rattle.report.specs.Typing.{reached, faults, fails}
 use Rattle.report.specs.ColumnRows.{hasColumn}
 use Rattle.report.specs.Configuring.{written}
 use Rattle.report.specs.Formed.{Formed}
 use Rattle.comparisons.specs.declared.Gathered.{Gathered}
-use Rattle.conditions.specs.Conditions.{Prepared, ReachFilled}
+use Rattle.expression_rows.specs.ExpressionRows.{ReachFilled}
+use Rattle.expression_rows.specs.TypingReads.{TypingReads}
+use Rattle.expression_rows.specs.declared.Scope.{Scope}
 use Rattle.attribute_rows.specs.AttributeRows.{gatheredRow}
 
 module _ (T : Tables) where
@@ -43,47 +45,32 @@ module _ (T : Tables) where
   abbrev pub columnRow : ℕ → List ℕ
   columnRow a = rowOf 16 (hasColumn T a)
 
--- what the fault rows of the first phase are worked out from: the prepared tables, the kind table, all configurations, the permitted ones and those
--- that reach each form
-pub record FailReads (T : Tables) (conditions full permits reach relationEntries projectEntries relations comparisons queries kinds : List ℕ)
+-- there are tables that are read so; `faultRows` has only zeros and room for a row a form, and `columns` room for a row an item
+pub record FailReadable (scope : Scope)
+    (expressionRows relationEntries projectEntries relations comparisons queries kinds reach faultRows columns : List ℕ)
     : Type 0 where
-  pub prepared : Prepared T conditions relationEntries projectEntries relations comparisons queries
-  pub kindsAre : kinds ≡ T .kinds
-  pub whole : full ≡ rowOf 16 (within (T .features) (λ c. true))
-  pub permitting : permits ≡ rowOf 16 (permitted T)
-  pub reaching : ReachFilled T reach
-
--- there are such tables, `faults` has only zeros and room for a row a form, and `columns` room for a row an item
-pub record FailReadable (conditions full permits reach relationEntries projectEntries relations comparisons queries kinds : List ℕ) (items : ℕ)
-    (faults columns : List ℕ) : Type 0 where
   pub tables : Tables
-  pub reads : FailReads tables conditions full permits reach relationEntries projectEntries relations comparisons queries kinds
+  pub reads : TypingReads tables scope expressionRows relationEntries projectEntries relations comparisons queries kinds reach
   pub words : ℕ
-  pub clear : faults ≡ replicate words 0
+  pub clear : faultRows ≡ replicate words 0
   pub room : queryCount tables * 16 ≤ words
-  pub column : items * 16 ≤ length columns
+  pub column : scope .items * 16 ≤ length columns
 
 -- what is filled in, over the words that were lent: the rows of the forms, and the column rows
-pub record FailsFilled (T : Tables) (items : ℕ) (lentFaults faults lentColumns columns : List ℕ) : Type 0 where
-  pub rows : faults ≡ written (concat (queryCount T) (faultyRow T items)) lentFaults
+pub record FailsFilled (T : Tables) (items : ℕ) (lentFaultRows faultRows lentColumns columns : List ℕ) : Type 0 where
+  pub rows : faultRows ≡ written (concat (queryCount T) (faultyRow T items)) lentFaultRows
   pub shown : columns ≡ written (concat items (columnRow T)) lentColumns
 
 -- what the second phase is worked out from: the query forms, the configurations that reach each, those at which each comparison clashes, and those
 -- at which each form fails in the first phase
-pub record ClashReads (T : Tables) (queries reach clashes faults : List ℕ) : Type 0 where
+pub record ClashReads (T : Tables) (queries reach clashRows faultRows : List ℕ) : Type 0 where
   pub formed : Formed T
   pub queriesAre : queries ≡ T .queries
   pub reaching : ReachFilled T reach
-  pub clashing : RowsAre 16 (comparisonCount T) (gatheredRow T Gathered.Clashes 0) clashes
-  pub failing : RowsAre 16 (queryCount T) (failsRow T 0) faults
+  pub clashing : RowsAre 16 (comparisonCount T) (gatheredRow T Gathered.Clashes 0) clashRows
+  pub failing : RowsAre 16 (queryCount T) (failsRow T 0) faultRows
 
 -- there are such tables
-pub record ClashReadable (queries reach clashes faults : List ℕ) : Type 0 where
+pub record ClashReadable (queries reach clashRows faultRows : List ℕ) : Type 0 where
   pub tables : Tables
-  pub reads : ClashReads tables queries reach clashes faults
-
--- items are attributes and relations
-pub record Items (T : Tables) (items : ℕ) : Type 0 where
-  pub attributes : T .attributes ≤ items
-  pub relations : relationCount T ≤ items
-  pub most : items ≤ 64
+  pub reads : ClashReads tables queries reach clashRows faultRows

@@ -5,11 +5,12 @@ use attribute_rows::fill_relation_rows;
 use attribute_rows::list_row;
 use attribute_rows::set_row;
 use comparisons::Gathered;
+use decoders::decode_query;
 use decoders::project_length;
-use decoders::query_at;
 use decoders::relation_expression;
+use expression_rows::Scope;
+use report::Limits;
 use report::Query;
-use sets::AttributeSet;
 use sets::Row;
 ghost use mathlib.Core.Path.{_≡_};
 ghost use Prim.Native.Nat.{_+_, _*_, _≤_};
@@ -18,12 +19,13 @@ ghost use Rattle.sets.specs.Lists.{concat};
 ghost use Rattle.sets.specs.Rows.{rowIn, rowJoin, rowIntersect, rowMinus, withRow};
 ghost use Rattle.report.specs.Tables.{Tables, queryCount};
 ghost use Rattle.report.specs.Configuring.{written};
-ghost use Rattle.fault_rows.specs.FaultRows.{failingRow, FailReads, FailReadable, FailsFilled, ClashReads, ClashReadable};
+ghost use Rattle.expression_rows.specs.TypingReads.{TypingReads};
+ghost use Rattle.fault_rows.specs.FaultRows.{failingRow, FailReadable, FailsFilled, ClashReads, ClashReadable};
 ghost use Rattle.fault_rows.specs.FaultRules.{unequalRow, absentRow, AbsentRead, faultStep, FaultRead, FormRowsReads, FormRowsReadable, FormsFilled};
 ghost use Rattle.fault_rows.specs.FaultRules.{clashStep, ClashRead, firstFound, storedColumn, ColumnRead};
 
 // The configurations at which row b or row d has it, and not both.
-fn unequal_row(rows: &[u64], b: usize, d: usize) -> Row
+fn unequal_row(b: usize, d: usize, rows: &[u64]) -> Row
     requires { ⌜ (b * 16 + 16 ≤ length (now rows)) × (d * 16 + 16 ≤ length (now rows)) ⌝ }
     ensures { λ r. ⌜ r .words ≡ unequalRow (rowIn 16 (now (rows .entry)) b) (rowIn 16 (now (rows .entry)) d) ⌝ }
 {
@@ -33,7 +35,7 @@ fn unequal_row(rows: &[u64], b: usize, d: usize) -> Row
 }
 
 // The configurations that both rows b and d have.
-fn common_row(rows: &[u64], b: usize, d: usize) -> Row
+fn common_row(b: usize, d: usize, rows: &[u64]) -> Row
     requires { ⌜ (b * 16 + 16 ≤ length (now rows)) × (d * 16 + 16 ≤ length (now rows)) ⌝ }
     ensures { λ r. ⌜ r .words ≡ rowIntersect 16 (rowIn 16 (now (rows .entry)) b) (rowIn 16 (now (rows .entry)) d) ⌝ }
 {
@@ -41,7 +43,7 @@ fn common_row(rows: &[u64], b: usize, d: usize) -> Row
 }
 
 // The configurations of a row that row b lacks.
-fn missing_row(wanted: Row, rows: &[u64], b: usize) -> Row
+fn missing_row(wanted: Row, b: usize, rows: &[u64]) -> Row
     requires { ⌜ b * 16 + 16 ≤ length (now rows) ⌝ }
     ensures { λ r. ⌜ r .words ≡ rowMinus 16 (wanted .words) (rowIn 16 (now (rows .entry)) b) ⌝ }
 {
@@ -49,200 +51,219 @@ fn missing_row(wanted: Row, rows: &[u64], b: usize) -> Row
 }
 
 // The configurations of `reached` at which relation r is absent, if it is item a.
-fn absent_row(relations: &[u16], conditions: &[u64], reached: Row, r: usize, a: usize) -> Row
-    requires { ⌜ AbsentRead (now conditions) (now relations) r ⌝ }
-    ensures { λ s. ⌜ s .words ≡ absentRow (now (conditions .entry)) (reached .words) (now (relations .entry)) a r ⌝ }
+fn absent_row(reached: Row, r: usize, a: usize, expression_rows: &[u64], relations: &[u16]) -> Row
+    requires { ⌜ AbsentRead (now «expression_rows») (now relations) r ⌝ }
+    ensures { λ s. ⌜ s .words ≡ absentRow (now («expression_rows» .entry)) (reached .words) (now (relations .entry)) a r ⌝ }
 {
     if a == r {
         let x = relation_expression(relations, r);
-        return missing_row(reached, conditions, x);
+        return missing_row(reached, x, expression_rows);
     }
     Row::empty()
 }
 
 // The configurations at which item a is at fault in a query form: all of those in `reached`, perhaps others. `listed` is the row of the form's
-// own list; `named` and `sets`, of which only those of lower forms are read, have the rows of attribute a.
+// own list; `named_rows` and `form_rows`, of which only those of lower forms are read, have the rows of attribute a.
 fn form_faults(
     x: Query,
-    relations: &[u16],
-    conditions: &[u64],
-    named: &[u64],
-    sets: &[u64],
     listed: Row,
     reached: Row,
     a: usize,
+    expression_rows: &[u64],
+    relations: &[u16],
+    named_rows: &[u64],
+    form_rows: &[u64],
 ) -> Row
-    requires { ⌜ FaultRead (now conditions) (now relations) (now named) (now sets) x ⌝ }
+    requires { ⌜ FaultRead (now «expression_rows») (now relations) (now «named_rows») (now «form_rows») x ⌝ }
     ensures { λ r.
-        ⌜ r .words ≡ faultStep (now (conditions .entry)) (now (relations .entry)) (now (named .entry)) (now (sets .entry)) (listed .words)
-        (reached .words) a x ⌝ }
+        ⌜ r .words ≡ faultStep (now («expression_rows» .entry)) (now (relations .entry)) (now («named_rows» .entry)) (now («form_rows» .entry))
+        (listed .words) (reached .words) a x ⌝ }
 {
     match x {
         Query::Malformed => Row::empty(),
         Query::Empty => Row::empty(),
-        Query::Relation(r) => absent_row(relations, conditions, reached, r, a),
-        Query::Select(f, b) => missing_row(Row::load(named, f), sets, b),
-        Query::Project(_, b) => missing_row(listed, sets, b),
+        Query::Relation(r) => absent_row(reached, r, a, expression_rows, relations),
+        Query::Select(f, b) => missing_row(Row::load(named_rows, f), b, form_rows),
+        Query::Project(_, b) => missing_row(listed, b, form_rows),
         Query::Choice(_, _, _) => Row::empty(),
-        Query::Product(b, d) => common_row(sets, b, d),
-        Query::Union(b, d) => unequal_row(sets, b, d),
-        Query::Intersection(b, d) => unequal_row(sets, b, d),
+        Query::Product(b, d) => common_row(b, d, form_rows),
+        Query::Union(b, d) => unequal_row(b, d, form_rows),
+        Query::Intersection(b, d) => unequal_row(b, d, form_rows),
     }
 }
 
 // The configurations of `reached`, which has those that reach the form, at which item a is at fault in it.
 fn fault_row(
     x: Query,
-    relations: &[u16],
-    conditions: &[u64],
-    named: &[u64],
-    sets: &[u64],
     listed: Row,
     reached: Row,
     a: usize,
+    expression_rows: &[u64],
+    relations: &[u16],
+    named_rows: &[u64],
+    form_rows: &[u64],
 ) -> Row
-    requires { ⌜ FaultRead (now conditions) (now relations) (now named) (now sets) x ⌝ }
+    requires { ⌜ FaultRead (now «expression_rows») (now relations) (now «named_rows») (now «form_rows») x ⌝ }
     ensures { λ r.
-        ⌜ r .words ≡ rowIntersect 16 (faultStep (now (conditions .entry)) (now (relations .entry)) (now (named .entry)) (now (sets .entry))
-        (listed .words) (reached .words) a x) (reached .words) ⌝ }
+        ⌜ r .words ≡ rowIntersect 16 (faultStep (now («expression_rows» .entry)) (now (relations .entry)) (now («named_rows» .entry))
+        (now («form_rows» .entry)) (listed .words) (reached .words) a x) (reached .words) ⌝ }
 {
-    let here = form_faults(x, relations, conditions, named, sets, listed, reached, a);
+    let here = form_faults(
+        x,
+        listed,
+        reached,
+        a,
+        expression_rows,
+        relations,
+        named_rows,
+        form_rows,
+    );
     here.intersect(reached)
 }
 
-// Row q of `faults` joined with `here`.
-fn join_fault(here: Row, q: usize, faults: &mut [u64])
-    requires { ⌜ q * 16 + 16 ≤ length (now faults) ⌝ }
-    ensures { λ _. ⌜ now (faults .exit) ≡ withRow 16 (now (faults .entry)) q (rowJoin 16 (rowIn 16 (now (faults .entry)) q) (here .words)) ⌝ }
+// Row q of `fault_rows` joined with `here`.
+fn join_fault(here: Row, q: usize, fault_rows: &mut [u64])
+    requires { ⌜ q * 16 + 16 ≤ length (now «fault_rows») ⌝ }
+    ensures { λ _. ⌜ now («fault_rows» .exit) ≡ withRow 16 (now («fault_rows» .entry)) q (rowJoin 16 (rowIn 16 (now («fault_rows» .entry)) q)
+        (here .words)) ⌝ }
 {
-    let all = Row::load(&*faults, q).join(here);
-    all.store(&mut *faults, q);
+    let all = Row::load(&*fault_rows, q).join(here);
+    all.store(&mut *fault_rows, q);
 }
 
-// Types all query forms in attribute a, bottom up: joins into row q of `faults`, for each form q, the configurations that reach q and at which item a
-// is at fault in it, and fills `sets` with the forms' rows.
+// Types all query forms in attribute a, bottom up: joins into row q of `fault_rows`, for each form q, the configurations that reach q and at which item a
+// is at fault in it, and fills `form_rows` with the forms' rows.
 fn type_forms(
+    a: usize,
+    expression_rows: &[u64],
     project_entries: &[u16],
     relations: &[u16],
     queries: &[u16],
-    conditions: &[u64],
     reach: &[u64],
-    named: &[u64],
+    named_rows: &[u64],
     relation_rows: &[u64],
-    a: usize,
-    sets: &mut [u64],
-    faults: &mut [u64],
+    form_rows: &mut [u64],
+    fault_rows: &mut [u64],
 )
-    requires { ⌜ FormRowsReadable (now conditions) (now «project_entries») (now relations) (now queries) (now reach) (now named) (now «relation_rows») a
-        (now sets) (now faults) ⌝ }
+    requires { ⌜ FormRowsReadable (now «expression_rows») (now «project_entries») (now relations) (now queries) (now reach) (now «named_rows»)
+        (now «relation_rows») a (now «form_rows») (now «fault_rows») ⌝ }
     ensures { λ _.
         ⌜ ((T : Tables)
-        → FormRowsReads T (now (conditions .entry)) (now («project_entries» .entry)) (now (relations .entry)) (now (queries .entry))
-        (now (reach .entry)) (now (named .entry)) (now («relation_rows» .entry)) a (now (faults .entry))
-        → FormsFilled T a (now (sets .exit)) (now (faults .entry)) (now (faults .exit))) ⌝ }
+        → FormRowsReads T (now («expression_rows» .entry)) (now («project_entries» .entry)) (now (relations .entry)) (now (queries .entry))
+        (now (reach .entry)) (now («named_rows» .entry)) (now («relation_rows» .entry)) a (now («fault_rows» .entry))
+        → FormsFilled T a (now («form_rows» .exit)) (now («fault_rows» .entry)) (now («fault_rows» .exit))) ⌝ }
 {
     let count = queries.len() / 4;
     let mut start = 0;
     let mut q = 0;
     while q < count {
-        let x = query_at(queries, q);
+        let x = decode_query(queries, q);
         let n = project_length(x);
-        let listed = list_row(project_entries, conditions, start, n, a);
+        let listed = list_row(start, n, a, expression_rows, project_entries);
         let reached = Row::load(reach, q);
-        let here = fault_row(x, relations, conditions, named, &*sets, listed, reached, a);
-        join_fault(here, q, &mut *faults);
-        let row = set_row(x, conditions, relation_rows, &*sets, listed);
-        row.store(&mut *sets, q);
+        let here = fault_row(
+            x,
+            listed,
+            reached,
+            a,
+            expression_rows,
+            relations,
+            named_rows,
+            &*form_rows,
+        );
+        join_fault(here, q, &mut *fault_rows);
+        let row = set_row(x, listed, expression_rows, relation_rows, &*form_rows);
+        row.store(&mut *form_rows, q);
         start += n;
         q += 1;
     }
 }
 
-// Stores the column row of attribute a; `sets` has the rows of attribute a.
-fn store_column(queries: &[u16], permitted: Row, sets: &[u64], a: usize, columns: &mut [u64])
-    requires { ⌜ ColumnRead (now queries) (now sets) a (now columns) ⌝ }
+// Stores the column row of attribute a; `form_rows` has the rows of attribute a.
+fn store_column(permitted: Row, a: usize, queries: &[u16], form_rows: &[u64], columns: &mut [u64])
+    requires { ⌜ ColumnRead (now queries) (now «form_rows») a (now columns) ⌝ }
     ensures { λ _.
-        ⌜ now (columns .exit) ≡ withRow 16 (now (columns .entry)) a (storedColumn (permitted .words) (now (queries .entry)) (now (sets .entry))) ⌝ }
+        ⌜ now (columns .exit) ≡ withRow 16 (now (columns .entry)) a (storedColumn (permitted .words) (now (queries .entry))
+        (now («form_rows» .entry))) ⌝ }
 {
     let last = queries.len() / 4 - 1;
-    let shown = Row::load(sets, last);
+    let shown = Row::load(form_rows, last);
     let column = shown.intersect(permitted);
     column.store(&mut *columns, a);
 }
 
-// The first phase: fills `faults` with the rows of the configurations at which each form fails in it, and `columns` with the column rows: attribute
-// by attribute, of the items below `items`.
+// The first phase: fills `fault_rows` with the rows of the configurations at which each form fails in it, and `columns` with the column rows: attribute
+// by attribute, of the items of the scope.
 pub fn fill_faults(
+    scope: Scope,
+    expression_rows: &[u64],
     relation_entries: &[u16],
     project_entries: &[u16],
     relations: &[u16],
     comparisons: &[u16],
     queries: &[u16],
     kinds: &[u16],
-    conditions: &[u64],
-    full: Row,
-    permitted: Row,
-    items: usize,
     reach: &[u64],
-    faults: &mut [u64],
+    fault_rows: &mut [u64],
     columns: &mut [u64],
 )
-    requires { ⌜ FailReadable (now conditions) (full .words) (permitted .words) (now reach) (now «relation_entries») (now «project_entries»)
-        (now relations) (now comparisons) (now queries) (now kinds) items (now faults) (now columns) ⌝ }
+    requires { ⌜ FailReadable scope (now «expression_rows») (now «relation_entries») (now «project_entries») (now relations) (now comparisons)
+        (now queries) (now kinds) (now reach) (now «fault_rows») (now columns) ⌝ }
     ensures { λ _.
         ⌜ ((T : Tables)
-        → FailReads T (now (conditions .entry)) (full .words) (permitted .words) (now (reach .entry)) (now («relation_entries» .entry))
-        (now («project_entries» .entry)) (now (relations .entry)) (now (comparisons .entry)) (now (queries .entry)) (now (kinds .entry))
-        → FailsFilled T items (now (faults .entry)) (now (faults .exit)) (now (columns .entry)) (now (columns .exit))) ⌝ }
+        → TypingReads T scope (now («expression_rows» .entry)) (now («relation_entries» .entry)) (now («project_entries» .entry))
+        (now (relations .entry)) (now (comparisons .entry)) (now (queries .entry)) (now (kinds .entry)) (now (reach .entry))
+        → FailsFilled T (scope .items) (now («fault_rows» .entry)) (now («fault_rows» .exit)) (now (columns .entry)) (now (columns .exit))) ⌝ }
 {
-    let mut named = [0; AttributeSet::MOST_COMPARISONS * Row::WORDS];
-    let mut relation_rows = [0; AttributeSet::MOST_RELATIONS * Row::WORDS];
-    let mut sets = [0; AttributeSet::MOST_QUERIES * Row::WORDS];
+    let items = scope.items;
+    let mut named_rows = [0; Limits::MOST_COMPARISONS * Row::WORDS];
+    let mut relation_rows = [0; Limits::MOST_RELATIONS * Row::WORDS];
+    let mut form_rows = [0; Limits::MOST_QUERIES * Row::WORDS];
     let mut a = 0;
     while a < items {
         fill_gathered_rows(
-            comparisons,
-            kinds,
-            conditions,
-            full,
             Gathered::Names,
             a,
-            &mut named,
+            scope.full,
+            expression_rows,
+            comparisons,
+            kinds,
+            &mut named_rows,
         );
         fill_relation_rows(
+            a,
+            expression_rows,
             relation_entries,
             relations,
-            conditions,
-            a,
             &mut relation_rows,
         );
         type_forms(
+            a,
+            expression_rows,
             project_entries,
             relations,
             queries,
-            conditions,
             reach,
-            &named,
+            &named_rows,
             &relation_rows,
-            a,
-            &mut sets,
-            &mut *faults,
+            &mut form_rows,
+            &mut *fault_rows,
         );
-        store_column(queries, permitted, &sets, a, &mut *columns);
+        store_column(scope.permitted, a, queries, &form_rows, &mut *columns);
         a += 1;
     }
 }
 
-// The configurations of `reached` at which a query form clashes; `clashes` has those of the comparisons.
-fn clash_row(x: Query, clashes: &[u64], reached: Row) -> Row
-    requires { ⌜ ClashRead (now clashes) x ⌝ }
-    ensures { λ r. ⌜ r .words ≡ clashStep (now (clashes .entry)) (reached .words) x ⌝ }
+// The configurations of `reached` at which a query form clashes; `clash_rows` has those of the comparisons.
+fn clash_row(x: Query, reached: Row, clash_rows: &[u64]) -> Row
+    requires { ⌜ ClashRead (now «clash_rows») x ⌝ }
+    ensures { λ r. ⌜ r .words ≡ clashStep (now («clash_rows» .entry)) (reached .words) x ⌝ }
 {
     match x {
         Query::Malformed => Row::empty(),
         Query::Empty => Row::empty(),
         Query::Relation(_) => Row::empty(),
-        Query::Select(f, _) => Row::load(clashes, f).intersect(reached),
+        Query::Select(f, _) => Row::load(clash_rows, f).intersect(reached),
         Query::Project(_, _) => Row::empty(),
         Query::Choice(_, _, _) => Row::empty(),
         Query::Product(_, _) => Row::empty(),
@@ -261,21 +282,21 @@ fn first_found(first: Row, second: Row) -> Row
     first
 }
 
-// The second phase: in `faults` the row of each form that fails nowhere in the first becomes that of the configurations that reach the form and at
+// The second phase: in `fault_rows` the row of each form that fails nowhere in the first becomes that of the configurations that reach the form and at
 // which it clashes. All other rows stay.
-pub fn add_clashes(queries: &[u16], reach: &[u64], clashes: &[u64], faults: &mut [u64])
-    requires { ⌜ ClashReadable (now queries) (now reach) (now clashes) (now faults) ⌝ }
+pub fn add_clashes(queries: &[u16], reach: &[u64], clash_rows: &[u64], fault_rows: &mut [u64])
+    requires { ⌜ ClashReadable (now queries) (now reach) (now «clash_rows») (now «fault_rows») ⌝ }
     ensures { λ _.
-        ⌜ ((T : Tables) → ClashReads T (now (queries .entry)) (now (reach .entry)) (now (clashes .entry)) (now (faults .entry))
-        → now (faults .exit) ≡ written (concat (queryCount T) (failingRow T)) (now (faults .entry))) ⌝ }
+        ⌜ ((T : Tables) → ClashReads T (now (queries .entry)) (now (reach .entry)) (now («clash_rows» .entry)) (now («fault_rows» .entry))
+        → now («fault_rows» .exit) ≡ written (concat (queryCount T) (failingRow T)) (now («fault_rows» .entry))) ⌝ }
 {
     let count = queries.len() / 4;
     let mut q = 0;
     while q < count {
-        let x = query_at(queries, q);
-        let second = clash_row(x, clashes, Row::load(reach, q));
-        let row = first_found(Row::load(&*faults, q), second);
-        row.store(&mut *faults, q);
+        let x = decode_query(queries, q);
+        let second = clash_row(x, Row::load(reach, q), clash_rows);
+        let row = first_found(Row::load(&*fault_rows, q), second);
+        row.store(&mut *fault_rows, q);
         q += 1;
     }
 }

@@ -11,12 +11,12 @@ use Rattle.at_configuration.proofs.ListLaws.{form-lower}
 use Rattle.faults_at.specs.SetsAt.{FormFaultsReads, FormClashesReads}
 
 -- a relation that a form names is in table 2
-module _ {T : Tables} {q : ℕ} {conditions entries relations : List ℕ} {c : ℕ} {named sets : List ℕ} {start : ℕ} {x : Query}
-    (R : FormFaultsReads T q conditions entries relations c named sets start x) where
-  pub form-present : PresentReads T conditions relations c
+module _ {T : Tables} {q : ℕ} {expressionRows entries relations : List ℕ} {c : ℕ} {named sets : List ℕ} {start : ℕ} {x : Query}
+    (R : FormFaultsReads T q expressionRows entries relations c named sets start x) where
+  pub form-present : PresentReads T expressionRows relations c
   form-present = record { reads = R .at .reads; relationsAre = R .relationsAre }
 
-  pub form-relation : {r : ℕ} → x ≡ Query.Relation r → PresentReadable conditions relations c (r + 1)
+  pub form-relation : {r : ℕ} → x ≡ Query.Relation r → PresentReadable expressionRows relations c (r + 1)
   form-relation e = record { tables = T; reads = form-present; few = let l = rw e at (form-lower (R .at)) in omega arith }
 
 -- the comparison of a select is in table 3

@@ -21,8 +21,8 @@ module _ {n : ℕ} {f : ℕ → ℕ} {sets : List ℕ} (S : NumbersAre n f sets)
   both-are op p = p ∙ ap₂ op (S .each a (l .0)) (S .each b (l .1))
 
   -- a choice takes one of them
-  module _ {T : Tables} {conditions : List ℕ} {c : ℕ} (R : AtReads T conditions c) {e : ℕ} (h : e < expressionCount T) {k : ℕ}
-      (p : k ≡ cond (rowBit (rowIn 16 conditions e) c) a b) where
+  module _ {T : Tables} {expressionRows : List ℕ} {c : ℕ} (R : AtReads T expressionRows c) {e : ℕ} (h : e < expressionCount T) {k : ℕ}
+      (p : k ≡ cond (rowBit (rowIn 16 expressionRows e) c) a b) where
     pub either-in : k < length sets
     either-in = let m = S .room in let i = taken-in R h l p in omega arith
 

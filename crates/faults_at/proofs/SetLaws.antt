@@ -21,9 +21,9 @@ pub pair-lower : {queries : List ℕ} {q a b : ℕ} → FreePair queries q a b �
 pair-lower P = (P .first .lower, P .second .lower)
 
 -- the list of a project
-module _ {T : Tables} {q : ℕ} {conditions entries : List ℕ} {c start : ℕ} {x : Query} (A : FormAt T q conditions entries c start x) {n b : ℕ}
+module _ {T : Tables} {q : ℕ} {expressionRows entries : List ℕ} {c start : ℕ} {x : Query} (A : FormAt T q expressionRows entries c start x) {n b : ℕ}
     (e : x ≡ Query.Project n b) where
-  pub project-list : ListReads T (relationsEnd T) conditions entries c start n
+  pub project-list : ListReads T (relationsEnd T) expressionRows entries c start n
   project-list = form-list A (sym (ap projectLength e))
 
   pub project-joined : {s : ℕ} → s ≡ joinedSet T c (relationsEnd T + start) n → s ≡ projectSet T c q n
@@ -32,17 +32,17 @@ module _ {T : Tables} {q : ℕ} {conditions entries : List ℕ} {c start : ℕ} 
 -- ---- the loop
 
 -- the sets of the forms below p stand over `lent`, and the list of the next project starts at `start`
-pub record QueriesFilling (conditions entries queries relationSets : List ℕ) (c q : ℕ) (lent sets : List ℕ) (p start : ℕ) : Type 0 where
-  pub formed : NumbersFilling (λ T. SetsReads T conditions entries queries relationSets c) (λ T. setOf T c) q lent sets p
+pub record QueriesFilling (expressionRows entries queries relationSets : List ℕ) (c q : ℕ) (lent sets : List ℕ) (p start : ℕ) : Type 0 where
+  pub formed : NumbersFilling (λ T. SetsReads T expressionRows entries queries relationSets c) (λ T. setOf T c) q lent sets p
   pub starts : start ≡ projectedBefore queries p
 
-pub setting-none : {conditions entries queries relationSets : List ℕ} {c q : ℕ} {lent : List ℕ}
-    → QueriesFilling conditions entries queries relationSets c q lent lent 0 0
+pub setting-none : {expressionRows entries queries relationSets : List ℕ} {c q : ℕ} {lent : List ℕ}
+    → QueriesFilling expressionRows entries queries relationSets c q lent lent 0 0
 setting-none = record { formed = filling-none; starts = refl }
 
-module _ {conditions entries queries relationSets : List ℕ} {c q : ℕ} {lent sets : List ℕ} {p start : ℕ}
-    (S : QueriesFilling conditions entries queries relationSets c q lent sets p start) where
-  module _ (A : SetsReadable conditions entries queries relationSets c q lent) (h : p < q) where
+module _ {expressionRows entries queries relationSets : List ℕ} {c q : ℕ} {lent sets : List ℕ} {p start : ℕ}
+    (S : QueriesFilling expressionRows entries queries relationSets c q lent sets p start) where
+  module _ (A : SetsReadable expressionRows entries queries relationSets c q lent) (h : p < q) where
     pub setting-in : p < length queries / 4
     setting-in = rw (A .reads .queriesAre) (lt-of-lt-of-le h (A .inside))
 
@@ -50,8 +50,8 @@ module _ {conditions entries queries relationSets : List ℕ} {c q : ℕ} {lent 
     setting-place = filling-place (S .formed) (A .room) h
 
     module _ {x : Query} (e : x ≡ query queries p) where
-      setting-here : {T : Tables} → SetsReads T conditions entries queries relationSets c
-          → QueryAt T p conditions entries relationSets c sets start x
+      setting-here : {T : Tables} → SetsReads T expressionRows entries queries relationSets c
+          → QueryAt T p expressionRows entries relationSets c sets start x
       setting-here R = record {
         at = record {
           reads = R .reads;
@@ -64,7 +64,7 @@ module _ {conditions entries queries relationSets : List ℕ} {c q : ℕ} {lent 
         related = R .related;
       }
 
-      pub setting-some : SomeQuery conditions entries relationSets c sets start x
+      pub setting-some : SomeQuery expressionRows entries relationSets c sets start x
       setting-some = record { tables = A .tables; number = p; at = setting-here (A .reads) }
 
       module _ {n : ℕ} (l : n ≡ projectLength x) where
@@ -72,8 +72,8 @@ module _ {conditions entries queries relationSets : List ℕ} {c q : ℕ} {lent 
         setting-inside = form-list (setting-here (A .reads) .at) l .lies
 
         pub setting-more : {s : ℕ}
-            → ((T : Tables) (q : ℕ) → QueryAt T q conditions entries relationSets c sets start x → s ≡ setRule T c (setOf T c) q x)
-            → QueriesFilling conditions entries queries relationSets c q lent (set sets p s) (p + 1) (start + n)
+            → ((T : Tables) (q : ℕ) → QueryAt T q expressionRows entries relationSets c sets start x → s ≡ setRule T c (setOf T c) q x)
+            → QueriesFilling expressionRows entries queries relationSets c q lent (set sets p s) (p + 1) (start + n)
         setting-more s = record {
           formed =
               filling-more (S .formed) (A .room) h
@@ -82,7 +82,7 @@ module _ {conditions entries queries relationSets : List ℕ} {c q : ℕ} {lent 
           starts = ap₂ _+_ (S .starts) (l ∙ ap projectLength e) ∙ ap (projectedBefore queries) (sym (add-one p));
         }
 
-  pub setting-all : q ≤ p → (T : Tables) → SetsReads T conditions entries queries relationSets c → SetsFilled T c q lent sets start
+  pub setting-all : q ≤ p → (T : Tables) → SetsReads T expressionRows entries queries relationSets c → SetsFilled T c q lent sets start
   setting-all h T R =
       let m : p ≡ q = (let l = S .formed .most in omega arith) in
       record {

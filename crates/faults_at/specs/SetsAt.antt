@@ -23,56 +23,56 @@ presentSet T c r = cond (present T c r) (relationSet T c r) 0
 -- ---- relations
 
 -- room for the sets of all
-pub record RelationSetsReadable (conditions entries relations : List ℕ) (c : ℕ) (lent : List ℕ) : Type 0 where
+pub record RelationSetsReadable (expressionRows entries relations : List ℕ) (c : ℕ) (lent : List ℕ) : Type 0 where
   pub tables : Tables
-  pub reads : RelationReads tables conditions entries relations c
+  pub reads : RelationReads tables expressionRows entries relations c
   pub room : length relations / 2 ≤ length lent
 
 -- relation r, whose list starts at `start`
-pub record RelationSetReadable (conditions entries relations : List ℕ) (c r start : ℕ) : Type 0 where
+pub record RelationSetReadable (expressionRows entries relations : List ℕ) (c r start : ℕ) : Type 0 where
   pub tables : Tables
-  pub reads : RelationReads tables conditions entries relations c
+  pub reads : RelationReads tables expressionRows entries relations c
   pub inside : r < length relations / 2
   pub starts : start ≡ relationStart relations r
 
 -- ---- comparisons
 
 -- comparison f refers to these, and `sets` has the sets of the lower ones, which `set` gives
-pub record ComparisonAt (T : Tables) (f : ℕ) (set : ℕ → ℕ) (conditions : List ℕ) (c : ℕ) (sets : List ℕ) (to : Operands) : Type 0 where
-  pub reads : AtReads T conditions c
+pub record ComparisonAt (T : Tables) (f : ℕ) (set : ℕ → ℕ) (expressionRows : List ℕ) (c : ℕ) (sets : List ℕ) (to : Operands) : Type 0 where
+  pub reads : AtReads T expressionRows c
   pub inside : f < comparisonCount T
   pub refers : to ≡ comparisonOperands (comparison (T .comparisons) f)
   pub below : NumbersAre f set sets
 
-pub record SomeComparison (conditions : List ℕ) (c : ℕ) (sets : List ℕ) (to : Operands) : Type 0 where
+pub record SomeComparison (expressionRows : List ℕ) (c : ℕ) (sets : List ℕ) (to : Operands) : Type 0 where
   pub tables : Tables
   pub number : ℕ
   pub set : ℕ → ℕ
-  pub at : ComparisonAt tables number set conditions c sets to
+  pub at : ComparisonAt tables number set expressionRows c sets to
 
 -- table 3 and the kind table
-pub record GatheredReads (T : Tables) (conditions comparisons kinds : List ℕ) (c : ℕ) : Type 0 where
-  pub compared : ComparisonReads T conditions comparisons c
+pub record GatheredReads (T : Tables) (expressionRows comparisons kinds : List ℕ) (c : ℕ) : Type 0 where
+  pub compared : ComparisonReads T expressionRows comparisons c
   pub kindsAre : kinds ≡ T .kinds
 
 -- and room for the sets of all
-pub record GatheredReadable (conditions comparisons kinds : List ℕ) (c : ℕ) (lent : List ℕ) : Type 0 where
+pub record GatheredReadable (expressionRows comparisons kinds : List ℕ) (c : ℕ) (lent : List ℕ) : Type 0 where
   pub tables : Tables
-  pub reads : GatheredReads tables conditions comparisons kinds c
+  pub reads : GatheredReads tables expressionRows comparisons kinds c
   pub room : length comparisons / 5 ≤ length lent
 
 -- ---- query forms
 
 -- the project forms' entries and table 4; `relationSets` has the sets of the relations
-pub record SetsReads (T : Tables) (conditions entries queries relationSets : List ℕ) (c : ℕ) : Type 0 where
-  pub reads : AtReads T conditions c
+pub record SetsReads (T : Tables) (expressionRows entries queries relationSets : List ℕ) (c : ℕ) : Type 0 where
+  pub reads : AtReads T expressionRows c
   pub entriesAre : entries ≡ entriesOfProjects T
   pub queriesAre : queries ≡ T .queries
   pub related : NumbersAre (relationCount T) (presentSet T c) relationSets
 
-pub record SetsReadable (conditions entries queries relationSets : List ℕ) (c q : ℕ) (lent : List ℕ) : Type 0 where
+pub record SetsReadable (expressionRows entries queries relationSets : List ℕ) (c q : ℕ) (lent : List ℕ) : Type 0 where
   pub tables : Tables
-  pub reads : SetsReads tables conditions entries queries relationSets c
+  pub reads : SetsReads tables expressionRows entries queries relationSets c
   pub inside : q ≤ queryCount tables
   pub room : q ≤ length lent
 
@@ -82,27 +82,28 @@ pub record SetsFilled (T : Tables) (c q : ℕ) (lent sets : List ℕ) (start : �
   pub starts : start ≡ projectedBefore (T .queries) q
 
 -- x is query form q, `sets` has the sets of lower forms and `relationSets` those of the relations
-pub record QueryAt (T : Tables) (q : ℕ) (conditions entries relationSets : List ℕ) (c : ℕ) (sets : List ℕ) (start : ℕ) (x : Query) : Type 0 where
-  pub at : FormAt T q conditions entries c start x
+pub record QueryAt (T : Tables) (q : ℕ) (expressionRows entries relationSets : List ℕ) (c : ℕ) (sets : List ℕ) (start : ℕ) (x : Query) : Type 0 where
+  pub at : FormAt T q expressionRows entries c start x
   pub below : NumbersAre q (setOf T c) sets
   pub related : NumbersAre (relationCount T) (presentSet T c) relationSets
 
-pub record SomeQuery (conditions entries relationSets : List ℕ) (c : ℕ) (sets : List ℕ) (start : ℕ) (x : Query) : Type 0 where
+pub record SomeQuery (expressionRows entries relationSets : List ℕ) (c : ℕ) (sets : List ℕ) (start : ℕ) (x : Query) : Type 0 where
   pub tables : Tables
   pub number : ℕ
-  pub at : QueryAt tables number conditions entries relationSets c sets start x
+  pub at : QueryAt tables number expressionRows entries relationSets c sets start x
 
 -- x is query form q, `sets` has the sets of lower forms and `named` what the comparisons name; and table 2
-pub record FormFaultsReads (T : Tables) (q : ℕ) (conditions entries relations : List ℕ) (c : ℕ) (named sets : List ℕ) (start : ℕ) (x : Query) : Type 0 where
-  pub at : FormAt T q conditions entries c start x
+pub record FormFaultsReads (T : Tables) (q : ℕ) (expressionRows entries relations : List ℕ) (c : ℕ) (named sets : List ℕ) (start : ℕ)
+    (x : Query) : Type 0 where
+  pub at : FormAt T q expressionRows entries c start x
   pub below : NumbersAre q (setOf T c) sets
   pub relationsAre : relations ≡ T .relations
   pub compared : NumbersAre (comparisonCount T) (names T c) named
 
-pub record FormFaultsReadable (conditions entries relations : List ℕ) (c : ℕ) (named sets : List ℕ) (start : ℕ) (x : Query) : Type 0 where
+pub record FormFaultsReadable (expressionRows entries relations : List ℕ) (c : ℕ) (named sets : List ℕ) (start : ℕ) (x : Query) : Type 0 where
   pub tables : Tables
   pub number : ℕ
-  pub reads : FormFaultsReads tables number conditions entries relations c named sets start x
+  pub reads : FormFaultsReads tables number expressionRows entries relations c named sets start x
 
 -- x is query form q, and `clashing` has the left attributes at fault in the comparisons
 pub record FormClashesReads (T : Tables) (q c : ℕ) (clashing : List ℕ) (x : Query) : Type 0 where

@@ -5,10 +5,10 @@ use at_configuration::joined_at;
 use at_configuration::taken_at;
 use comparisons::Gathered;
 use comparisons::own_set;
-use decoders::comparison_at;
 use decoders::comparison_operands;
+use decoders::decode_comparison;
+use decoders::decode_query;
 use decoders::project_length;
-use decoders::query_at;
 use decoders::relation_length;
 use report::Operands;
 use report::Query;
@@ -31,43 +31,43 @@ ghost use Rattle.faults_at.specs.SetsAt.{FormClashesReads, FormClashesRe
 
 // The set of relation r, whose list starts at `start`: none where it is absent.
 fn relation_set(
-    entries: &[u16],
-    relations: &[u16],
-    conditions: &[u64],
     c: usize,
     r: usize,
     start: usize,
+    expression_rows: &[u64],
+    relation_entries: &[u16],
+    relations: &[u16],
 ) -> AttributeSet
-    requires { ⌜ RelationSetReadable (now conditions) (now entries) (now relations) c r start ⌝ }
+    requires { ⌜ RelationSetReadable (now «expression_rows») (now «relation_entries») (now relations) c r start ⌝ }
     ensures { λ s.
-        ⌜ ((T : Tables) → RelationReads T (now (conditions .entry)) (now (entries .entry)) (now (relations .entry)) c
+        ⌜ ((T : Tables) → RelationReads T (now («expression_rows» .entry)) (now («relation_entries» .entry)) (now (relations .entry)) c
         → s .bits ≡ presentSet T c r) ⌝ }
 {
-    if is_present(relations, conditions, c, r) {
+    if is_present(c, r, expression_rows, relations) {
         let count = relation_length(relations, r);
-        return joined_at(entries, conditions, c, start, count);
+        return joined_at(c, start, count, expression_rows, relation_entries);
     }
     AttributeSet::empty()
 }
 
 // Fills `relation_sets` with the sets of all relations.
 pub fn fill_relation_sets(
-    entries: &[u16],
-    relations: &[u16],
-    conditions: &[u64],
     c: usize,
+    expression_rows: &[u64],
+    relation_entries: &[u16],
+    relations: &[u16],
     relation_sets: &mut [u64],
 )
-    requires { ⌜ RelationSetsReadable (now conditions) (now entries) (now relations) c (now «relation_sets») ⌝ }
+    requires { ⌜ RelationSetsReadable (now «expression_rows») (now «relation_entries») (now relations) c (now «relation_sets») ⌝ }
     ensures { λ _.
-        ⌜ ((T : Tables) → RelationReads T (now (conditions .entry)) (now (entries .entry)) (now (relations .entry)) c
+        ⌜ ((T : Tables) → RelationReads T (now («expression_rows» .entry)) (now («relation_entries» .entry)) (now (relations .entry)) c
         → now («relation_sets» .exit) ≡ written (table (relationCount T) (presentSet T c)) (now («relation_sets» .entry))) ⌝ }
 {
     let count = relations.len() / 2;
     let mut start = 0;
     let mut r = 0;
     while r < count {
-        let s = relation_set(entries, relations, conditions, c, r, start);
+        let s = relation_set(c, r, start, expression_rows, relation_entries, relations);
         relation_sets[r] = s.bits;
         start += relation_length(relations, r);
         r += 1;
@@ -83,7 +83,7 @@ fn set_in(sets: &[u64], k: usize) -> AttributeSet
 }
 
 // The union of sets a and b.
-fn union_in(sets: &[u64], a: usize, b: usize) -> AttributeSet
+fn union_in(a: usize, b: usize, sets: &[u64]) -> AttributeSet
     requires { ⌜ (a < length (now sets)) × (b < length (now sets)) ⌝ }
     ensures { λ s. ⌜ s .bits ≡ bitOr (getD (now (sets .entry)) a 0) (getD (now (sets .entry)) b 0) ⌝ }
 {
@@ -91,7 +91,7 @@ fn union_in(sets: &[u64], a: usize, b: usize) -> AttributeSet
 }
 
 // The attributes that both sets a and b have.
-fn common_in(sets: &[u64], a: usize, b: usize) -> AttributeSet
+fn common_in(a: usize, b: usize, sets: &[u64]) -> AttributeSet
     requires { ⌜ (a < length (now sets)) × (b < length (now sets)) ⌝ }
     ensures { λ s. ⌜ s .bits ≡ bitAnd (getD (now (sets .entry)) a 0) (getD (now (sets .entry)) b 0) ⌝ }
 {
@@ -99,72 +99,79 @@ fn common_in(sets: &[u64], a: usize, b: usize) -> AttributeSet
 }
 
 // The attributes that set a or set b has, and not both.
-fn unequal_in(sets: &[u64], a: usize, b: usize) -> AttributeSet
+fn unequal_in(a: usize, b: usize, sets: &[u64]) -> AttributeSet
     requires { ⌜ (a < length (now sets)) × (b < length (now sets)) ⌝ }
     ensures { λ s. ⌜ s .bits ≡ bitXor (getD (now (sets .entry)) a 0) (getD (now (sets .entry)) b 0) ⌝ }
 {
     set_in(sets, a).unequal(set_in(sets, b))
 }
 
-// What is gathered at c from a comparison that refers to these: `sets` has what is gathered from lower ones. One that refers to none gives its own.
+// What is gathered at c from a comparison that refers to these: `gathered_sets` has what is gathered from lower ones. One that refers to none gives its own.
 fn gathered_at(
     to: Operands,
-    conditions: &[u64],
     c: usize,
-    sets: &[u64],
     own: AttributeSet,
+    expression_rows: &[u64],
+    gathered_sets: &[u64],
 ) -> AttributeSet
-    requires { ⌜ SomeComparison (now conditions) c (now sets) to ⌝ }
+    requires { ⌜ SomeComparison (now «expression_rows») c (now «gathered_sets») to ⌝ }
     ensures { λ s.
-        ⌜ ((T : Tables) (f : ℕ) (set : ℕ → ℕ) → ComparisonAt T f set (now (conditions .entry)) c (now (sets .entry)) to
+        ⌜ ((T : Tables) (f : ℕ) (set : ℕ → ℕ) → ComparisonAt T f set (now («expression_rows» .entry)) c (now («gathered_sets» .entry)) to
         → s .bits ≡ gatheredOf T c set (own .bits) to) ⌝ }
 {
     match to {
         Operands::Nothing => own,
-        Operands::One(a) => set_in(sets, a),
-        Operands::Both(a, b) => union_in(sets, a, b),
-        Operands::Choice(e, a, b) => set_in(sets, taken_at(conditions, c, e, a, b)),
+        Operands::One(a) => set_in(gathered_sets, a),
+        Operands::Both(a, b) => union_in(a, b, gathered_sets),
+        Operands::Choice(e, a, b) => set_in(gathered_sets, taken_at(c, e, a, b, expression_rows)),
     }
 }
 
-// Fills `sets` with what is gathered from each comparison at c.
+// Fills `gathered_sets` with what is gathered from each comparison at c.
 pub fn fill_gathered(
-    comparisons: &[u16],
-    kinds: &[u16],
-    conditions: &[u64],
     c: usize,
     what: Gathered,
-    sets: &mut [u64],
+    expression_rows: &[u64],
+    comparisons: &[u16],
+    kinds: &[u16],
+    gathered_sets: &mut [u64],
 )
-    requires { ⌜ GatheredReadable (now conditions) (now comparisons) (now kinds) c (now sets) ⌝ }
+    requires { ⌜ GatheredReadable (now «expression_rows») (now comparisons) (now kinds) c (now «gathered_sets») ⌝ }
     ensures { λ _.
-        ⌜ ((T : Tables) → GatheredReads T (now (conditions .entry)) (now (comparisons .entry)) (now (kinds .entry)) c
-        → now (sets .exit) ≡ written (table (comparisonCount T) (gathered T c (ownOf (kindOf T) what))) (now (sets .entry))) ⌝ }
+        ⌜ ((T : Tables) → GatheredReads T (now («expression_rows» .entry)) (now (comparisons .entry)) (now (kinds .entry)) c
+        → now («gathered_sets» .exit) ≡ written (table (comparisonCount T) (gathered T c (ownOf (kindOf T) what))) (now («gathered_sets» .entry))) ⌝ }
 {
     let count = comparisons.len() / 5;
     let mut f = 0;
     while f < count {
-        let x = comparison_at(comparisons, f);
+        let x = decode_comparison(comparisons, f);
         let own = own_set(what, x, kinds);
-        let s = gathered_at(comparison_operands(x), conditions, c, &*sets, own);
-        sets[f] = s.bits;
+        let s = gathered_at(
+            comparison_operands(x),
+            c,
+            own,
+            expression_rows,
+            &*gathered_sets,
+        );
+        gathered_sets[f] = s.bits;
         f += 1;
     }
 }
 
-// The set of a query form at c, a project's list starting at `start`; `sets` has those of lower forms.
+// The set of a query form at c, a project's list starting at `start`; `form_sets` has those of lower forms.
 fn set_at(
     x: Query,
-    entries: &[u16],
-    conditions: &[u64],
     c: usize,
-    relation_sets: &[u64],
-    sets: &[u64],
     start: usize,
+    expression_rows: &[u64],
+    project_entries: &[u16],
+    relation_sets: &[u64],
+    form_sets: &[u64],
 ) -> AttributeSet
-    requires { ⌜ SomeQuery (now conditions) (now entries) (now «relation_sets») c (now sets) start x ⌝ }
+    requires { ⌜ SomeQuery (now «expression_rows») (now «project_entries») (now «relation_sets») c (now «form_sets») start x ⌝ }
     ensures { λ s.
-        ⌜ ((T : Tables) (q : ℕ) → QueryAt T q (now (conditions .entry)) (now (entries .entry)) (now («relation_sets» .entry)) c (now (sets .entry))
+        ⌜ ((T : Tables) (q : ℕ) → QueryAt T q (now («expression_rows» .entry)) (now («project_entries» .entry)) (now («relation_sets» .entry)) c
+        (now («form_sets» .entry))
         start x
         → s .bits ≡ setRule T c (setOf T c) q x) ⌝ }
 {
@@ -172,39 +179,48 @@ fn set_at(
         Query::Malformed => AttributeSet::empty(),
         Query::Empty => AttributeSet::empty(),
         Query::Relation(r) => set_in(relation_sets, r),
-        Query::Select(_, a) => set_in(sets, a),
+        Query::Select(_, a) => set_in(form_sets, a),
         Query::Project(count, a) => {
-            let listed = joined_at(entries, conditions, c, start, count);
-            listed.intersect(set_in(sets, a))
+            let listed = joined_at(c, start, count, expression_rows, project_entries);
+            listed.intersect(set_in(form_sets, a))
         }
-        Query::Choice(e, a, b) => set_in(sets, taken_at(conditions, c, e, a, b)),
-        Query::Product(a, b) => union_in(sets, a, b),
-        Query::Union(a, _) => set_in(sets, a),
-        Query::Intersection(a, _) => set_in(sets, a),
+        Query::Choice(e, a, b) => set_in(form_sets, taken_at(c, e, a, b, expression_rows)),
+        Query::Product(a, b) => union_in(a, b, form_sets),
+        Query::Union(a, _) => set_in(form_sets, a),
+        Query::Intersection(a, _) => set_in(form_sets, a),
     }
 }
 
-// Fills `sets` with the sets of the query forms below q, and answers where the list of form q starts.
+// Fills `form_sets` with the sets of the query forms below q, and answers where the list of form q starts.
 pub fn fill_sets(
-    entries: &[u16],
-    queries: &[u16],
-    conditions: &[u64],
-    relation_sets: &[u64],
     c: usize,
     q: usize,
-    sets: &mut [u64],
+    expression_rows: &[u64],
+    project_entries: &[u16],
+    queries: &[u16],
+    relation_sets: &[u64],
+    form_sets: &mut [u64],
 ) -> usize
-    requires { ⌜ SetsReadable (now conditions) (now entries) (now queries) (now «relation_sets») c q (now sets) ⌝ }
+    requires { ⌜ SetsReadable (now «expression_rows») (now «project_entries») (now queries) (now «relation_sets») c q (now «form_sets») ⌝ }
     ensures { λ start.
-        ⌜ ((T : Tables) → SetsReads T (now (conditions .entry)) (now (entries .entry)) (now (queries .entry)) (now («relation_sets» .entry)) c
-        → SetsFilled T c q (now (sets .entry)) (now (sets .exit)) start) ⌝ }
+        ⌜ ((T : Tables) → SetsReads T (now («expression_rows» .entry)) (now («project_entries» .entry)) (now (queries .entry))
+        (now («relation_sets» .entry)) c
+        → SetsFilled T c q (now («form_sets» .entry)) (now («form_sets» .exit)) start) ⌝ }
 {
     let mut start = 0;
     let mut p = 0;
     while p < q {
-        let x = query_at(queries, p);
-        let s = set_at(x, entries, conditions, c, relation_sets, &*sets, start);
-        sets[p] = s.bits;
+        let x = decode_query(queries, p);
+        let s = set_at(
+            x,
+            c,
+            start,
+            expression_rows,
+            project_entries,
+            relation_sets,
+            &*form_sets,
+        );
+        form_sets[p] = s.bits;
         start += project_length(x);
         p += 1;
     }
@@ -212,58 +228,59 @@ pub fn fill_sets(
 }
 
 // Relation r if it is absent at c, as a set of items.
-fn absent_item(relations: &[u16], conditions: &[u64], c: usize, r: usize) -> AttributeSet
-    requires { ⌜ PresentReadable (now conditions) (now relations) c (r + 1) ⌝ }
+fn absent_item(c: usize, r: usize, expression_rows: &[u64], relations: &[u16]) -> AttributeSet
+    requires { ⌜ PresentReadable (now «expression_rows») (now relations) c (r + 1) ⌝ }
     ensures { λ s.
-        ⌜ ((T : Tables) → PresentReads T (now (conditions .entry)) (now (relations .entry)) c → s .bits ≡ cond (present T c r) 0 (2 ^ r)) ⌝ }
+        ⌜ ((T : Tables) → PresentReads T (now («expression_rows» .entry)) (now (relations .entry)) c → s .bits ≡ cond (present T c r) 0 (2 ^ r)) ⌝ }
 {
-    if is_present(relations, conditions, c, r) {
+    if is_present(c, r, expression_rows, relations) {
         return AttributeSet::empty();
     }
     AttributeSet::single(r)
 }
 
-// The items at fault in a query form at c, a project's list starting at `start`; `named` has what each comparison names, `sets` the sets of
+// The items at fault in a query form at c, a project's list starting at `start`; `named_sets` has what each comparison names, `form_sets` the sets of
 // lower forms.
 pub fn faults_of(
     x: Query,
-    entries: &[u16],
-    relations: &[u16],
-    conditions: &[u64],
     c: usize,
-    named: &[u64],
-    sets: &[u64],
     start: usize,
+    expression_rows: &[u64],
+    project_entries: &[u16],
+    relations: &[u16],
+    named_sets: &[u64],
+    form_sets: &[u64],
 ) -> AttributeSet
-    requires { ⌜ FormFaultsReadable (now conditions) (now entries) (now relations) c (now named) (now sets) start x ⌝ }
+    requires { ⌜ FormFaultsReadable (now «expression_rows») (now «project_entries») (now relations) c (now «named_sets») (now «form_sets») start x ⌝ }
     ensures { λ s.
         ⌜ ((T : Tables) (q : ℕ)
-        → FormFaultsReads T q (now (conditions .entry)) (now (entries .entry)) (now (relations .entry)) c (now (named .entry)) (now (sets .entry)) start x
+        → FormFaultsReads T q (now («expression_rows» .entry)) (now («project_entries» .entry)) (now (relations .entry)) c
+        (now («named_sets» .entry)) (now («form_sets» .entry)) start x
         → s .bits ≡ faultsOf T c q x) ⌝ }
 {
     match x {
         Query::Malformed => AttributeSet::empty(),
         Query::Empty => AttributeSet::empty(),
-        Query::Relation(r) => absent_item(relations, conditions, c, r),
-        Query::Select(f, a) => set_in(named, f).minus(set_in(sets, a)),
+        Query::Relation(r) => absent_item(c, r, expression_rows, relations),
+        Query::Select(f, a) => set_in(named_sets, f).minus(set_in(form_sets, a)),
         Query::Project(count, a) => {
-            let listed = joined_at(entries, conditions, c, start, count);
-            listed.minus(set_in(sets, a))
+            let listed = joined_at(c, start, count, expression_rows, project_entries);
+            listed.minus(set_in(form_sets, a))
         }
         Query::Choice(_, _, _) => AttributeSet::empty(),
-        Query::Product(a, b) => common_in(sets, a, b),
-        Query::Union(a, b) => unequal_in(sets, a, b),
-        Query::Intersection(a, b) => unequal_in(sets, a, b),
+        Query::Product(a, b) => common_in(a, b, form_sets),
+        Query::Union(a, b) => unequal_in(a, b, form_sets),
+        Query::Intersection(a, b) => unequal_in(a, b, form_sets),
     }
 }
 
-// The left attributes at fault in a query form at c; `clashes` has those of the comparisons. Only a select compares.
-pub fn clashes_in(x: Query, clashes: &[u64]) -> AttributeSet
-    requires { ⌜ FormClashesReadable (now clashes) x ⌝ }
-    ensures { λ s. ⌜ ((T : Tables) (q c : ℕ) → FormClashesReads T q c (now (clashes .entry)) x → s .bits ≡ clashesIn T c x) ⌝ }
+// The left attributes at fault in a query form at c; `clash_sets` has those of the comparisons. Only a select compares.
+pub fn clashes_in(x: Query, clash_sets: &[u64]) -> AttributeSet
+    requires { ⌜ FormClashesReadable (now «clash_sets») x ⌝ }
+    ensures { λ s. ⌜ ((T : Tables) (q c : ℕ) → FormClashesReads T q c (now («clash_sets» .entry)) x → s .bits ≡ clashesIn T c x) ⌝ }
 {
     if let Query::Select(f, _) = x {
-        return set_in(clashes, f);
+        return set_in(clash_sets, f);
     }
     AttributeSet::empty()
 }

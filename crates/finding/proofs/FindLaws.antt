@@ -20,12 +20,12 @@ use Rattle.report.specs.declared.Refusal.{Refusal}
 use Rattle.report.specs.declared.Verdict.{Verdict}
 use Rattle.report.proofs.FirstFault.{first-none, first-one}
 use Rattle.report.proofs.TypingLaws.{shown-columns}
-use Rattle.conditions.proofs.PermittedLaws.{permitted-out}
+use Rattle.expression_rows.proofs.PermittedLaws.{permitted-out}
 use Rattle.judging.specs.Judging.{reportCheck}
 use Rattle.judging.proofs.JudgingLaws.{call-parts, Columns}
 use Rattle.finding.specs.declared.FindAnswer.{FindAnswer}
 use Rattle.finding.specs.Finding.{wantedCondition, finding, hasWanted, lowestWanted, foundAnswer, Finds}
-use Rattle.finding.specs.Steps.{showsWanted, lowestShown}
+use Rattle.finding.specs.ColumnSearch.{showsWanted, lowestShown}
 
 -- ---- the configuration, from the rows
 

@@ -12,7 +12,7 @@ use Rattle.sets.proofs.BitLaws.{bit-none, bit-bitsOf, zero-bits, subset-without
 use Rattle.sets.proofs.RowLaws.{rowBit-intersect}
 use Rattle.report.specs.ColumnRows.{shown}
 use Rattle.report.proofs.RulesMembers.{subset-members}
-use Rattle.finding.specs.Steps.{showsWanted, lowestShown}
+use Rattle.finding.specs.ColumnSearch.{showsWanted, lowestShown}
 
 -- ---- the configurations of a row at which column rows show all wanted attributes
 

@@ -2,7 +2,8 @@
 -- proofs/FindExamplesHold. H1 and its parts: crate report, specs/Examples.
 use Prim.Native.Nat.{ℕ, _-_, _^_}
 use mathlib.Core.List.{List, [], _∷_}
-use Rattle.report.specs.Tables.{Tables, tablesOf}
+use Rattle.report.specs.Tables.{Tables}
+use Rattle.report.specs.Expressions.{tablesOf}
 use Rattle.report.specs.Verdicts.{refusal}
 use Rattle.report.specs.Examples.{moments, harbour, h1Expressions, h1Entries, h1Queries, h1}
 use Rattle.finding.specs.declared.FindAnswer.{FindAnswer}

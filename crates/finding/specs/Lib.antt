@@ -1,3 +1,3 @@
 pub mod Finding
-pub mod Steps
+pub mod ColumnSearch
 pub mod FindExamples

@@ -1,18 +1,19 @@
 // The entry point `find`: the lowest permitted configuration at which a report has wanted columns.
 use judging::COLUMN_WORDS;
-use judging::typed_columns;
+use judging::check_into_columns;
+use report::Head;
 use report::Refusal;
 use report::Verdict;
 use sets::AttributeSet;
 use sets::Found;
 use sets::Row;
-use table_checks::or_else;
-use table_checks::refuse_if;
+use verdicts::or_else;
+use verdicts::refuse_if;
 ghost use mathlib.Core.Path.{_≡_};
 ghost use lib.ListN.{length};
-ghost use Rattle.report.specs.Tables.{tablesOf};
+ghost use Rattle.report.specs.Expressions.{tablesUnder};
 ghost use Rattle.finding.specs.Finding.{Finds};
-ghost use Rattle.finding.specs.Steps.{lowestShown};
+ghost use Rattle.finding.specs.ColumnSearch.{lowestShown};
 
 // What finding answers: the configuration, none, or the refusal.
 pub enum FindAnswer {
@@ -40,29 +41,24 @@ fn lowest_with(row: Row, columns: &[u64], wanted: AttributeSet) -> Found
 
 // The lowest permitted configuration at which the report of these tables has all wanted attributes: attribute a is wanted where bit a is 1.
 pub fn find(
-    features: u64,
-    attributes: u64,
-    model: u64,
+    head: Head,
+    wanted: u64,
     expressions: &[u16],
     entries: &[u16],
     relations: &[u16],
     comparisons: &[u16],
     queries: &[u16],
     kinds: &[u16],
-    wanted: u64,
 ) -> FindAnswer
     ensures { λ r.
         ⌜ Finds
-        (tablesOf features attributes model (now (expressions .entry)) (now (entries .entry)) (now (relations .entry)) (now (comparisons .entry))
+        (tablesUnder head (now (expressions .entry)) (now (entries .entry)) (now (relations .entry)) (now (comparisons .entry))
         (now (queries .entry)) (now (kinds .entry))) wanted r ⌝ }
 {
-    let m = attributes as usize;
     let wanted = AttributeSet::of_bits(wanted);
     let mut columns = [0; COLUMN_WORDS];
-    let judged = typed_columns(
-        features as usize,
-        m,
-        model as usize,
+    let judged = check_into_columns(
+        head,
         expressions,
         entries,
         relations,
@@ -73,7 +69,7 @@ pub fn find(
     );
     let checked = judged.verdict;
     // 22 comes after the checks of the report.
-    let late = refuse_if(wanted.has_from(m), 22, 0);
+    let late = refuse_if(wanted.has_from(head.attributes), 22, 0);
     let verdict = or_else(checked, late);
     if let Verdict::Refused(r) = verdict {
         return FindAnswer::Refused(r);

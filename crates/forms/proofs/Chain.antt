@@ -20,7 +20,7 @@ use Rattle.report.proofs.FormFacts.{list-inside}
 use Rattle.report.proofs.Formed.{sized, all-fit}
 use Rattle.report.proofs.EntryParts.{rest-count}
 use Rattle.forms.specs.declared.Counts.{Counts}
-use Rattle.forms.specs.Steps.{queriesRest, QueriesReady, ListsReady}
+use Rattle.forms.specs.MarkedForms.{queriesRest, QueriesReady, ListsReady}
 use Rattle.forms.proofs.Queries.{rest-queries}
 
 -- a check that refuses ends the chain; after one that accepts, the rest answers

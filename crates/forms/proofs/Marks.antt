@@ -16,7 +16,7 @@ use Rattle.report.specs.declared.Query.{Query}
 use Rattle.report.specs.declared.Operands.{Operands}
 use Rattle.report.proofs.FormFacts.{list-inside, operands-free, free-below, below-more, Listing, project, unlisted, listing}
 use Rattle.forms.specs.declared.Counts.{Counts}
-use Rattle.forms.specs.Steps.{marked, markedBy}
+use Rattle.forms.specs.MarkedForms.{marked, markedBy}
 
 pub unmarked : (n x : ℕ) → marked (replicate n 0) x ≡ false
 unmarked zero x = refl

@@ -22,7 +22,7 @@ use Rattle.report.proofs.VerdictLaws.{then-next, then-refused}
 use Rattle.report.proofs.EntryParts.{rest-count}
 use Rattle.table_checks.proofs.FormLoops.{FormsPassed, passed-none, passed-more, passed-first, passed-all}
 use Rattle.forms.specs.declared.Counts.{Counts}
-use Rattle.forms.specs.Steps.{marked, markedBy, untakenBy, queriesRest, QueriesReady}
+use Rattle.forms.specs.MarkedForms.{marked, markedBy, untakenBy, queriesRest, QueriesReady}
 use Rattle.forms.proofs.Marks.{unmarked, operands-marked, marks-length, fits, fits-is, fits-inside, fits-below}
 
 -- the first q forms fit, their lists end at `end`, and the forms that they take are marked

@@ -1,36 +1,38 @@
 // Checks 6 and 8 to 10 of the table of refusals (docs/FORMAT.md, "Refusals"), and checks 1 to 10 and 24 one after another.
 use comparisons::check_kinds;
+use decoders::decode_query;
 use decoders::project_length;
-use decoders::query_at;
 use decoders::query_operands;
 use decoders::relation_expression;
 use decoders::relation_length;
+use report::Head;
+use report::Limits;
 use report::Operands;
 use report::Query;
 use report::Verdict;
-use sets::AttributeSet;
 use table_checks::check_comparisons;
 use table_checks::check_entries;
 use table_checks::check_expressions;
 use table_checks::check_head;
 use table_checks::check_lengths;
-use table_checks::check_model;
-use table_checks::or_else;
-use table_checks::refuse;
-use table_checks::refuse_if;
+use table_checks::check_model_form;
+use verdicts::or_else;
+use verdicts::refuse;
+use verdicts::refuse_if;
 ghost use mathlib.Core.Path.{_≡_};
 ghost use mathlib.Core.List.{[]};
 ghost use Prim.Native.Nat.{_/_, _<_, _≤_};
 ghost use lib.ListN.{length, set};
-ghost use Rattle.report.specs.Tables.{tablesOf, relationStart};
+ghost use Rattle.report.specs.Tables.{relationStart};
+ghost use Rattle.report.specs.Expressions.{tablesUnder};
 ghost use Rattle.report.specs.Verdicts.{orElse};
 ghost use Rattle.report.specs.FormChecks.{free, freePair, listFits, queryFits, relationsCheck, leftEntryCheck, tablesCheck, formCheck};
 ghost use Rattle.report.specs.Formed.{OperandsBelow};
-ghost use Rattle.forms.specs.Steps.{marked, FormRoom, markedBy, untakenBy};
-ghost use Rattle.forms.specs.Steps.{queriesRest, QueriesReady, listsRest, ListsReady, contentsRest};
+ghost use Rattle.forms.specs.MarkedForms.{marked, FormRoom, markedBy, untakenBy};
+ghost use Rattle.forms.specs.MarkedForms.{queriesRest, QueriesReady, listsRest, ListsReady, contentsRest};
 
 // A list that starts at `start` lies in the entries.
-fn list_fits(entries: &[u16], start: usize, count: usize) -> bool
+fn list_fits(start: usize, count: usize, entries: &[u16]) -> bool
     requires { ⌜ start ≤ length (now entries) / 2 ⌝ }
     ensures { λ r. ⌜ r ≡ listFits (now (entries .entry)) start count ⌝ }
 {
@@ -38,7 +40,7 @@ fn list_fits(entries: &[u16], start: usize, count: usize) -> bool
 }
 
 // Check 6, where there are e expressions.
-fn check_relations(e: usize, entries: &[u16], relations: &[u16]) -> Verdict
+pub fn check_relations(e: usize, entries: &[u16], relations: &[u16]) -> Verdict
     ensures { λ r. ⌜ r ≡ relationsCheck e (now (entries .entry)) (now (relations .entry)) ⌝ }
 {
     let count = relations.len() / 2;
@@ -47,7 +49,7 @@ fn check_relations(e: usize, entries: &[u16], relations: &[u16]) -> Verdict
     while r < count {
         let x = relation_expression(relations, r);
         let length = relation_length(relations, r);
-        let good = list_fits(entries, start, length);
+        let good = list_fits(start, length, entries);
         if !((x < e) & good) {
             return refuse(6, r);
         }
@@ -100,11 +102,11 @@ struct Counts {
 // A query that stands as form q; a project's list starts at `start`.
 fn query_fits(
     counts: Counts,
-    entries: &[u16],
-    start: usize,
-    marks: &[u8],
-    q: usize,
     x: Query,
+    q: usize,
+    start: usize,
+    entries: &[u16],
+    marks: &[u8],
 ) -> bool
     requires { ⌜ FormRoom (now entries) start (now marks) q ⌝ }
     ensures { λ r.
@@ -117,7 +119,7 @@ fn query_fits(
         Query::Empty => true,
         Query::Relation(a) => a < counts.relations,
         Query::Select(a, b) => (a < counts.comparisons) & is_free(marks, q, b),
-        Query::Project(a, b) => list_fits(entries, start, a) & is_free(marks, q, b),
+        Query::Project(a, b) => list_fits(start, a, entries) & is_free(marks, q, b),
         Query::Choice(a, b, d) => (a < counts.expressions) & are_free(marks, q, b, d),
         Query::Product(a, b) => are_free(marks, q, a, b),
         Query::Union(a, b) => are_free(marks, q, a, b),
@@ -156,7 +158,7 @@ fn mark_operands(marks: &mut [u8], to: Operands)
 }
 
 // Check 9, by the marks of all forms.
-fn check_untaken(marks: &[u8], last: usize) -> Verdict
+fn check_untaken(last: usize, marks: &[u8]) -> Verdict
     requires { ⌜ last ≤ length (now marks) ⌝ }
     ensures { λ r. ⌜ r ≡ untakenBy (now (marks .entry)) last ⌝ }
 {
@@ -171,27 +173,32 @@ fn check_untaken(marks: &[u8], last: usize) -> Verdict
 }
 
 // Checks 9 and 10, by the marks of all forms: their lists end at `end`, and table 1 has `count` entries.
-fn check_end(marks: &[u8], last: usize, end: usize, count: usize) -> Verdict
+fn check_end(last: usize, end: usize, count: usize, marks: &[u8]) -> Verdict
     requires { ⌜ last ≤ length (now marks) ⌝ }
     ensures { λ r. ⌜ r ≡ orElse (untakenBy (now (marks .entry)) last) (leftEntryCheck end count) ⌝ }
 {
-    let untaken = check_untaken(marks, last);
+    let untaken = check_untaken(last, marks);
     let left = refuse_if(end < count, 10, end);
     or_else(untaken, left)
 }
 
 // Checks 8 to 10 with the project forms' entries, which are entries `split` and following of table 1.
-fn check_queries(counts: Counts, project_entries: &[u16], split: usize, queries: &[u16]) -> Verdict
+pub fn check_queries(
+    counts: Counts,
+    split: usize,
+    project_entries: &[u16],
+    queries: &[u16],
+) -> Verdict
     requires { ⌜ QueriesReady (now «project_entries») split (now queries) ⌝ }
     ensures { λ r. ⌜ r ≡ queriesRest counts (now («project_entries» .entry)) split (now (queries .entry)) ⌝ }
 {
-    let mut marks: [u8; AttributeSet::MOST_QUERIES] = [0; AttributeSet::MOST_QUERIES];
+    let mut marks: [u8; Limits::MOST_QUERIES] = [0; Limits::MOST_QUERIES];
     let count = queries.len() / 4;
     let mut end = 0;
     let mut q = 0;
     while q < count {
-        let x = query_at(queries, q);
-        if !query_fits(counts, project_entries, end, &marks, q, x) {
+        let x = decode_query(queries, q);
+        if !query_fits(counts, x, q, end, project_entries, &marks) {
             return refuse(8, q);
         }
         mark_operands(&mut marks, query_operands(x));
@@ -199,10 +206,10 @@ fn check_queries(counts: Counts, project_entries: &[u16], split: usize, queries:
         q += 1;
     }
     check_end(
-        &marks,
         count - 1,
         split + end,
         split + project_entries.len() / 2,
+        &marks,
     )
 }
 
@@ -232,14 +239,12 @@ fn check_lists(
         relations: relations.len() / 2,
         comparisons: comparisons.len() / 5,
     };
-    check_queries(counts, &entries[split * 2..], split, queries)
+    check_queries(counts, split, &entries[split * 2..], queries)
 }
 
 // Checks 3 to 10.
 fn check_contents(
-    n: usize,
-    m: usize,
-    model: usize,
+    head: Head,
     expressions: &[u16],
     entries: &[u16],
     relations: &[u16],
@@ -247,30 +252,28 @@ fn check_contents(
     queries: &[u16],
 ) -> Verdict
     requires { ⌜ ListsReady (now entries) (now relations) (now queries) ⌝ }
-    ensures { λ r. ⌜ r ≡ contentsRest n m model (now (expressions .entry)) (now (entries .entry)) (now (relations .entry)) (now (comparisons .entry))
+    ensures { λ r. ⌜ r ≡ contentsRest (head .features) (head .attributes) (head .model) (now (expressions .entry)) (now (entries .entry)) (now (relations .entry)) (now (comparisons .entry))
         (now (queries .entry)) ⌝ }
 {
-    let v = check_expressions(n, expressions);
+    let v = check_expressions(head.features, expressions);
     if let Verdict::Refused(_) = v {
         return v;
     }
     let e = expressions.len() / 3;
-    let w = check_model(e, model);
+    let w = check_model_form(e, head.model);
     if let Verdict::Refused(_) = w {
         return w;
     }
-    let x = check_entries(m, e, entries);
+    let x = check_entries(head.attributes, e, entries);
     if let Verdict::Refused(_) = x {
         return x;
     }
-    check_lists(m, e, entries, relations, comparisons, queries)
+    check_lists(head.attributes, e, entries, relations, comparisons, queries)
 }
 
 // Checks 1 to 10.
 fn check_tables(
-    n: usize,
-    m: usize,
-    model: usize,
+    head: Head,
     expressions: &[u16],
     entries: &[u16],
     relations: &[u16],
@@ -278,10 +281,10 @@ fn check_tables(
     queries: &[u16],
 ) -> Verdict
     ensures { λ r. ⌜ r ≡ tablesCheck
-        (tablesOf n m model (now (expressions .entry)) (now (entries .entry)) (now (relations .entry)) (now (comparisons .entry)) (now (queries .entry))
+        (tablesUnder head (now (expressions .entry)) (now (entries .entry)) (now (relations .entry)) (now (comparisons .entry)) (now (queries .entry))
         []) ⌝ }
 {
-    let v = check_head(n, m);
+    let v = check_head(head.features, head.attributes);
     if let Verdict::Refused(_) = v {
         return v;
     }
@@ -289,24 +292,13 @@ fn check_tables(
     if let Verdict::Refused(_) = w {
         return w;
     }
-    check_contents(
-        n,
-        m,
-        model,
-        expressions,
-        entries,
-        relations,
-        comparisons,
-        queries,
-    )
+    check_contents(head, expressions, entries, relations, comparisons, queries)
 }
 
 // Checks 1 to 10, then 24. Where they accept, report's law `formed` gives a caller `Formed` of the tables in one line:
 // `formed _ (sym ensures ∙ accepted)`.
 pub fn check_forms(
-    n: usize,
-    m: usize,
-    model: usize,
+    head: Head,
     expressions: &[u16],
     entries: &[u16],
     relations: &[u16],
@@ -315,21 +307,12 @@ pub fn check_forms(
     kinds: &[u16],
 ) -> Verdict
     ensures { λ r. ⌜ r ≡ formCheck
-        (tablesOf n m model (now (expressions .entry)) (now (entries .entry)) (now (relations .entry)) (now (comparisons .entry)) (now (queries .entry))
+        (tablesUnder head (now (expressions .entry)) (now (entries .entry)) (now (relations .entry)) (now (comparisons .entry)) (now (queries .entry))
         (now (kinds .entry))) ⌝ }
 {
-    let v = check_tables(
-        n,
-        m,
-        model,
-        expressions,
-        entries,
-        relations,
-        comparisons,
-        queries,
-    );
+    let v = check_tables(head, expressions, entries, relations, comparisons, queries);
     if let Verdict::Refused(_) = v {
         return v;
     }
-    check_kinds(m, kinds, comparisons)
+    check_kinds(head.attributes, comparisons, kinds)
 }

@@ -1,35 +1,42 @@
--- An equal answer is passed on alike.
+-- An equal answer is passed on alike: told so, it is told as promised.
 use Prim.Native.Nat.{ℕ}
-use mathlib.Core.Path.{_≡_, sym, ap, _∙_}
+use mathlib.Core.Path.{_≡_, refl, sym, ap, _∙_}
 use mathlib.Core.List.{List}
 use Rattle.report.specs.Tables.{Tables}
 use Rattle.report.specs.declared.Verdict.{Verdict}
+use Rattle.checking.specs.Promises.{Checks}
 use Rattle.configuring.specs.Promises.{Configures}
 use Rattle.configuring.specs.declared.Configured.{Configured}
 use Rattle.finding.specs.Finding.{Finds}
 use Rattle.finding.specs.declared.FindAnswer.{FindAnswer}
-use Rattle.wall_page.specs.Page.{pageGives, pageAfter, PageWritten}
+use Rattle.wall_page.specs.Page.{PageWritten}
 use Rattle.wall_page.specs.declared.PageAnswer.{PageAnswer}
-use Rattle.gelvomas.specs.Answers.{answerNumber, answerWords, configureAnswer, configuredNumber, configuredWords}
-use Rattle.gelvomas.specs.Answers.{findAnswer, foundNumber, foundWords, pageNumber, pageWords}
+use Rattle.gelvomas.specs.Answers.{answerNumber, answerWords, CheckTold, configuredNumber, configuredWords, ConfigureTold}
+use Rattle.gelvomas.specs.Answers.{foundNumber, foundWords, FindTold, pageNumber, pageWords, PageTold}
 
-pub answered : {v w : Verdict} (lent : List ℕ) → v ≡ w → (answerNumber v ≡ answerNumber w) × (answerWords v lent ≡ answerWords w lent)
-answered lent e = (ap answerNumber e, ap (λ (x : Verdict). answerWords x lent) e)
+pub answered : {T : Tables} {lent words words′ rows : List ℕ} {number : ℕ} {v w : Verdict} → v ≡ w → Checks T lent v rows
+    → number ≡ answerNumber w → words′ ≡ answerWords w words → CheckTold T lent words number words′ rows
+answered {words = words} e k n t =
+    let f = sym e ∙ k .0 in
+    record { returned = n ∙ ap answerNumber f; told = t ∙ ap (λ (x : Verdict). answerWords x words) f; checks = (refl, k .1) }
 
 pub configure-answered : (T : Tables) (c : ℕ) (newEntries newRelations newComparisons newQueries : List ℕ) {r : Configured}
     {newEntries′ newRelations′ newComparisons′ newQueries′ : List ℕ}
     → Configures T c newEntries newRelations newComparisons newQueries r newEntries′ newRelations′ newComparisons′ newQueries′
-    → (configuredNumber r ≡ configuredNumber (configureAnswer T c newEntries newRelations newComparisons newQueries))
-    × ((configuredWords r ≡ configuredWords (configureAnswer T c newEntries newRelations newComparisons newQueries))
-    × Configures T c newEntries newRelations newComparisons newQueries
-    (configureAnswer T c newEntries newRelations newComparisons newQueries) newEntries′ newRelations′ newComparisons′ newQueries′)
-configure-answered T c newEntries newRelations newComparisons newQueries
-    k = (ap configuredNumber (k .answers), (ap configuredWords (k .answers), rw (k .answers) at k))
+    → {number : ℕ} {words : List ℕ} → number ≡ configuredNumber r → words ≡ configuredWords r
+    → ConfigureTold T c newEntries newRelations newComparisons newQueries number words newEntries′ newRelations′ newComparisons′ newQueries′
+configure-answered T c newEntries newRelations newComparisons newQueries k n t = record {
+  returned = n ∙ ap configuredNumber (k .answers);
+  told = t ∙ ap configuredWords (k .answers);
+  configures = rw (k .answers) at k;
+}
 
 pub find-answered : (T : Tables) (wanted : ℕ) {r s : FindAnswer} → r ≡ s → Finds T wanted r
-    → (foundNumber s ≡ foundNumber (findAnswer T wanted)) × (foundWords s ≡ foundWords (findAnswer T wanted))
-find-answered T wanted e k = let f = sym e ∙ k in (ap foundNumber f, ap foundWords f)
+    → {number : ℕ} {words : List ℕ} → number ≡ foundNumber s → words ≡ foundWords s → FindTold T wanted number words
+find-answered T wanted e k n t = let f = sym e ∙ k in record { returned = n ∙ ap foundNumber f; told = t ∙ ap foundWords f }
 
 pub page-answered : (T : Tables) (lent : List ℕ) {r s : PageAnswer} {bytes : List ℕ} → r ≡ s → PageWritten T lent r bytes
-    → (pageNumber s ≡ pageNumber (pageGives T lent)) × ((pageWords s ≡ pageWords (pageGives T lent)) × (bytes ≡ pageAfter T lent))
-page-answered T lent e k = let f = sym e ∙ k .answers in (ap pageNumber f, (ap pageWords f, k .stored))
+    → {number : ℕ} {words : List ℕ} → number ≡ pageNumber s → words ≡ pageWords s → PageTold T lent number words bytes
+page-answered T lent e k n t =
+    let f = sym e ∙ k .answers in
+    record { returned = n ∙ ap pageNumber f; told = t ∙ ap pageWords f; stored = k .stored }

@@ -1,5 +1,6 @@
--- How an answer becomes numbers for C.
+-- How an answer becomes numbers for C, and what the four C functions promise.
 use Prim.Native.Nat.{ℕ}
+use mathlib.Core.Path.{_≡_}
 use mathlib.Core.List.{List, [], _∷_}
 use lib.ListN.{length}
 use Rattle.report.specs.Tables.{Tables}
@@ -7,10 +8,12 @@ use Rattle.report.specs.Configuring.{configured}
 use Rattle.report.specs.Calls.{answer, checking, configuring}
 use Rattle.report.specs.declared.Refusal.{Refusal}
 use Rattle.report.specs.declared.Verdict.{Verdict}
-use Rattle.configuring.specs.Promises.{configuredAnswer}
+use Rattle.checking.specs.Promises.{Checks}
+use Rattle.configuring.specs.Promises.{configuredAnswer, Configures}
 use Rattle.configuring.specs.declared.Configured.{Configured}
 use Rattle.finding.specs.Finding.{finding, lowestWanted, foundAnswer}
 use Rattle.finding.specs.declared.FindAnswer.{FindAnswer}
+use Rattle.wall_page.specs.Page.{pageGives, pageAfter}
 use Rattle.wall_page.specs.declared.PageAnswer.{PageAnswer}
 
 -- number, place, item and configuration
@@ -33,6 +36,12 @@ abbrev pub answerWords : Verdict → List ℕ → List ℕ
 answerWords Verdict.Accepted lent = lent
 answerWords (Verdict.Refused r) lent = refusalWords r
 
+-- the promise of `gelvomas_check`, with these rows and four words lent: the number that is returned, and the words and the rows afterwards
+pub record CheckTold (T : Tables) (lent words : List ℕ) (number : ℕ) (words′ rows : List ℕ) : Type 0 where
+  pub returned : number ≡ answerNumber (checkAnswer T lent)
+  pub told : words′ ≡ answerWords (checkAnswer T lent) words
+  pub checks : Checks T lent (checkAnswer T lent) rows
+
 -- ---- configuring
 
 -- what configuring T at c answers, with these tables 1 to 4 lent for writing
@@ -49,6 +58,16 @@ configuredNumber (Configured.Refused r) = 1
 abbrev pub configuredWords : Configured → List ℕ
 configuredWords (Configured.Written entries relations comparisons queries) = entries ∷ relations ∷ comparisons ∷ queries ∷ []
 configuredWords (Configured.Refused r) = refusalWords r
+
+-- the promise of `gelvomas_configure`, at c, with these tables 1 to 4 lent for writing: the number that is returned, and the four words and the
+-- lent tables afterwards
+pub record ConfigureTold (T : Tables) (c : ℕ) (newEntries newRelations newComparisons newQueries : List ℕ) (number : ℕ)
+    (words newEntries′ newRelations′ newComparisons′ newQueries′ : List ℕ) : Type 0 where
+  pub returned : number ≡ configuredNumber (configureAnswer T c newEntries newRelations newComparisons newQueries)
+  pub told : words ≡ configuredWords (configureAnswer T c newEntries newRelations newComparisons newQueries)
+  pub configures :
+      Configures T c newEntries newRelations newComparisons newQueries
+      (configureAnswer T c newEntries newRelations newComparisons newQueries) newEntries′ newRelations′ newComparisons′ newQueries′
 
 -- ---- finding
 
@@ -68,6 +87,11 @@ foundWords (FindAnswer.At c) = c ∷ 0 ∷ 0 ∷ 0 ∷ []
 foundWords FindAnswer.None = 0 ∷ 0 ∷ 0 ∷ 0 ∷ []
 foundWords (FindAnswer.Refused r) = refusalWords r
 
+-- the promise of `gelvomas_find`, where these attributes are wanted: the number that is returned, and the four words afterwards
+pub record FindTold (T : Tables) (wanted number : ℕ) (words : List ℕ) : Type 0 where
+  pub returned : number ≡ foundNumber (findAnswer T wanted)
+  pub told : words ≡ foundWords (findAnswer T wanted)
+
 -- ---- the page
 
 -- the number that is returned
@@ -79,3 +103,9 @@ pageNumber (PageAnswer.Refused r) = 1
 abbrev pub pageWords : PageAnswer → List ℕ
 pageWords (PageAnswer.Lines lines) = lines ∷ 0 ∷ 0 ∷ 0 ∷ []
 pageWords (PageAnswer.Refused r) = refusalWords r
+
+-- the promise of `gelvomas_page`, with these bytes lent: the number that is returned, and the four words and the bytes afterwards
+pub record PageTold (T : Tables) (lent : List ℕ) (number : ℕ) (words bytes : List ℕ) : Type 0 where
+  pub returned : number ≡ pageNumber (pageGives T lent)
+  pub told : words ≡ pageWords (pageGives T lent)
+  pub stored : bytes ≡ pageAfter T lent

@@ -4,17 +4,14 @@ use configuring::Configured;
 use configuring::configure;
 use finding::FindAnswer;
 use finding::find;
+use report::Head;
 use report::Refusal;
 use report::Verdict;
 use wall_page::PageAnswer;
 use wall_page::write_page;
 ghost use mathlib.Core.Path.{_≡_};
-ghost use Rattle.report.specs.Tables.{tablesOf};
-ghost use Rattle.checking.specs.Promises.{Checks};
-ghost use Rattle.configuring.specs.Promises.{Configures};
-ghost use Rattle.gelvomas.specs.Answers.{refusalWords, checkAnswer, answerNumber, answerWords, configureAnswer, configuredNumber, configuredWords};
-ghost use Rattle.wall_page.specs.Page.{pageGives, pageAfter};
-ghost use Rattle.gelvomas.specs.Answers.{findAnswer, foundNumber, foundWords, pageNumber, pageWords};
+ghost use Rattle.report.specs.Expressions.{tablesOf};
+ghost use Rattle.gelvomas.specs.Answers.{refusalWords, CheckTold, ConfigureTold, FindTold, PageTold};
 
 // Number, place, item and configuration of a refusal; how many forms tables 1 to 4 have; a configuration, or a number of lines, and three words that
 // are 0; or, for none, four such words.
@@ -46,32 +43,17 @@ pub extern "C" fn gelvomas_check(
     refusal: &mut AnswerWords,
 ) -> u64
     ensures { λ r.
-        ⌜ r
-        ≡ answerNumber (checkAnswer
-        (tablesOf features attributes model (now (expressions .entry)) (now (entries .entry)) (now (relations .entry))
+        ⌜ CheckTold (tablesOf features attributes model (now (expressions .entry)) (now (entries .entry)) (now (relations .entry))
         (now (comparisons .entry)) (now (queries .entry)) (now (kinds .entry)))
-        (now (rows .entry))) ⌝ }
-    ensures { λ _.
-        ⌜ now (refusal .exit)
-        ≡ answerWords (checkAnswer
-        (tablesOf features attributes model (now (expressions .entry)) (now (entries .entry)) (now (relations .entry))
-        (now (comparisons .entry)) (now (queries .entry)) (now (kinds .entry)))
-        (now (rows .entry)))
-        (now (refusal .entry)) ⌝ }
-    ensures { λ _.
-        ⌜ Checks (tablesOf features attributes model (now (expressions .entry)) (now (entries .entry)) (now (relations .entry))
-        (now (comparisons .entry)) (now (queries .entry)) (now (kinds .entry)))
-        (now (rows .entry))
-        (checkAnswer
-        (tablesOf features attributes model (now (expressions .entry)) (now (entries .entry)) (now (relations .entry))
-        (now (comparisons .entry)) (now (queries .entry)) (now (kinds .entry)))
-        (now (rows .entry)))
-        (now (rows .exit)) ⌝ }
+        (now (rows .entry)) (now (refusal .entry)) r (now (refusal .exit)) (now (rows .exit)) ⌝ }
 {
+    let head = Head {
+        features: features as usize,
+        attributes: attributes as usize,
+        model: model as usize,
+    };
     let v = check(
-        features,
-        attributes,
-        model,
+        head,
         expressions,
         entries,
         relations,
@@ -108,38 +90,25 @@ pub extern "C" fn gelvomas_configure(
     answer: &mut AnswerWords,
 ) -> u64
     ensures { λ r.
-        ⌜ r
-        ≡ configuredNumber (configureAnswer
-        (tablesOf features attributes model (now (expressions .entry)) (now (entries .entry)) (now (relations .entry)) (now (comparisons .entry))
-        (now (queries .entry)) (now (kinds .entry)))
-        c (now («new_entries» .entry)) (now («new_relations» .entry)) (now («new_comparisons» .entry)) (now («new_queries» .entry))) ⌝ }
-    ensures { λ _.
-        ⌜ now (answer .exit)
-        ≡ configuredWords (configureAnswer
-        (tablesOf features attributes model (now (expressions .entry)) (now (entries .entry)) (now (relations .entry)) (now (comparisons .entry))
-        (now (queries .entry)) (now (kinds .entry)))
-        c (now («new_entries» .entry)) (now («new_relations» .entry)) (now («new_comparisons» .entry)) (now («new_queries» .entry))) ⌝ }
-    ensures { λ _.
-        ⌜ Configures (tablesOf features attributes model (now (expressions .entry)) (now (entries .entry)) (now (relations .entry))
+        ⌜ ConfigureTold (tablesOf features attributes model (now (expressions .entry)) (now (entries .entry)) (now (relations .entry))
         (now (comparisons .entry)) (now (queries .entry)) (now (kinds .entry)))
         c (now («new_entries» .entry)) (now («new_relations» .entry)) (now («new_comparisons» .entry)) (now («new_queries» .entry))
-        (configureAnswer
-        (tablesOf features attributes model (now (expressions .entry)) (now (entries .entry)) (now (relations .entry)) (now (comparisons .entry))
-        (now (queries .entry)) (now (kinds .entry)))
-        c (now («new_entries» .entry)) (now («new_relations» .entry)) (now («new_comparisons» .entry)) (now («new_queries» .entry)))
-        (now («new_entries» .exit)) (now («new_relations» .exit)) (now («new_comparisons» .exit)) (now («new_queries» .exit)) ⌝ }
+        r (now (answer .exit)) (now («new_entries» .exit)) (now («new_relations» .exit)) (now («new_comparisons» .exit)) (now («new_queries» .exit)) ⌝ }
 {
+    let head = Head {
+        features: features as usize,
+        attributes: attributes as usize,
+        model: model as usize,
+    };
     let made = configure(
-        features,
-        attributes,
-        model,
+        head,
+        c,
         expressions,
         entries,
         relations,
         comparisons,
         queries,
         kinds,
-        c,
         new_entries,
         new_relations,
         new_comparisons,
@@ -176,29 +145,24 @@ pub extern "C" fn gelvomas_find(
     answer: &mut AnswerWords,
 ) -> u64
     ensures { λ r.
-        ⌜ r
-        ≡ foundNumber (findAnswer
-        (tablesOf features attributes model (now (expressions .entry)) (now (entries .entry)) (now (relations .entry)) (now (comparisons .entry))
-        (now (queries .entry)) (now (kinds .entry)))
-        wanted) ⌝ }
-    ensures { λ _.
-        ⌜ now (answer .exit)
-        ≡ foundWords (findAnswer
-        (tablesOf features attributes model (now (expressions .entry)) (now (entries .entry)) (now (relations .entry)) (now (comparisons .entry))
-        (now (queries .entry)) (now (kinds .entry)))
-        wanted) ⌝ }
+        ⌜ FindTold (tablesOf features attributes model (now (expressions .entry)) (now (entries .entry)) (now (relations .entry))
+        (now (comparisons .entry)) (now (queries .entry)) (now (kinds .entry)))
+        wanted r (now (answer .exit)) ⌝ }
 {
+    let head = Head {
+        features: features as usize,
+        attributes: attributes as usize,
+        model: model as usize,
+    };
     let found = find(
-        features,
-        attributes,
-        model,
+        head,
+        wanted,
         expressions,
         entries,
         relations,
         comparisons,
         queries,
         kinds,
-        wanted,
     );
     match found {
         FindAnswer::At(c) => {
@@ -230,28 +194,17 @@ pub extern "C" fn gelvomas_page(
     answer: &mut AnswerWords,
 ) -> u64
     ensures { λ r.
-        ⌜ r
-        ≡ pageNumber (pageGives
-        (tablesOf features attributes model (now (expressions .entry)) (now (entries .entry)) (now (relations .entry)) (now (comparisons .entry))
-        (now (queries .entry)) (now (kinds .entry)))
-        (now (page .entry))) ⌝ }
-    ensures { λ _.
-        ⌜ now (answer .exit)
-        ≡ pageWords (pageGives
-        (tablesOf features attributes model (now (expressions .entry)) (now (entries .entry)) (now (relations .entry)) (now (comparisons .entry))
-        (now (queries .entry)) (now (kinds .entry)))
-        (now (page .entry))) ⌝ }
-    ensures { λ _.
-        ⌜ now (page .exit)
-        ≡ pageAfter
-        (tablesOf features attributes model (now (expressions .entry)) (now (entries .entry)) (now (relations .entry)) (now (comparisons .entry))
-        (now (queries .entry)) (now (kinds .entry)))
-        (now (page .entry)) ⌝ }
+        ⌜ PageTold (tablesOf features attributes model (now (expressions .entry)) (now (entries .entry)) (now (relations .entry))
+        (now (comparisons .entry)) (now (queries .entry)) (now (kinds .entry)))
+        (now (page .entry)) r (now (answer .exit)) (now (page .exit)) ⌝ }
 {
+    let head = Head {
+        features: features as usize,
+        attributes: attributes as usize,
+        model: model as usize,
+    };
     let written = write_page(
-        features,
-        attributes,
-        model,
+        head,
         expressions,
         entries,
         relations,

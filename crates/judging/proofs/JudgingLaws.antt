@@ -9,7 +9,7 @@ use lib.ListN.{length, take, drop, replicate, length-replicate}
 use lib.Pow.{pow-mono}
 use Rattle.sets.specs.Rows.{rowOf, rowIn, rowIsEmpty, within}
 use Rattle.sets.proofs.BitLaws.{shl-one}
-use Rattle.report.specs.Tables.{Tables, relationCount, queryCount, relationsEnd}
+use Rattle.report.specs.Tables.{Tables, expressionCount, relationCount, queryCount, relationsEnd}
 use Rattle.report.specs.Expressions.{configurations, permitted}
 use Rattle.report.specs.ColumnRows.{columnRows}
 use Rattle.report.specs.Configuring.{written}
@@ -19,23 +19,24 @@ use Rattle.report.specs.Checks.{modelCheck, schemaCheck, typingCheck, modelAndS
 use Rattle.report.specs.Calls.{Call, answer}
 use Rattle.report.specs.Formed.{Formed}
 use Rattle.report.specs.declared.Refusal.{Refusal}
+use Rattle.report.specs.declared.Head.{Head}
 use Rattle.report.specs.declared.Verdict.{Verdict}
 use Rattle.report.proofs.Formed.{formed}
 use Rattle.report.proofs.FormedFacts.{counts}
 use Rattle.report.proofs.VerdictLaws.{or-else-assoc, both-accepted, then-next, then-refused}
-use Rattle.report.proofs.FirstFault.{answer-run}
-use Rattle.conditions.specs.Conditions.{expressionRows, Conditioned, SchemaReads, ReachFilled}
-use Rattle.conditions.proofs.FillLaws.{filled}
-use Rattle.conditions.proofs.PermittedLaws.{model-check, model-room, model-row}
-use Rattle.conditions.proofs.PreparedLaws.{prepare}
+use Rattle.report.proofs.CallLaws.{answer-run}
+use Rattle.expression_rows.specs.ExpressionRows.{rowsOf, TruthFilled, SchemaReads, ReachFilled}
+use Rattle.expression_rows.proofs.FillLaws.{filled}
+use Rattle.expression_rows.proofs.PermittedLaws.{model-check, model-room, model-row}
+use Rattle.expression_rows.proofs.PreparedLaws.{prepare}
 use Rattle.reach.specs.Reach.{reachRows, ReachReads}
 use Rattle.reach.proofs.ReachRows.{reach-rows}
 use Rattle.forms.proofs.Chain.{stops, goes-on}
-use Rattle.fault_rows.specs.FaultRows.{Items}
-use Rattle.typing.specs.Typed.{TypingReads, Checked}
-use Rattle.judging.specs.Judging.{meaningCheck, reportCheck, earlyCheck, JudgeReads, JudgeReadable}
-use Rattle.judging.specs.Judging.{Judged, TablesJudgeable, TablesJudged, RowsLent, Typed}
-use Rattle.judging.specs.Judging.{SizeJudgeable, ColumnsJudgeable, ColumnsJudged, ColumnsTyped}
+use Rattle.expression_rows.specs.TypingReads.{Items, TypingReads}
+use Rattle.expression_rows.specs.declared.Scope.{Scope}
+use Rattle.typing.specs.Typed.{Checked}
+use Rattle.judging.specs.Judging.{meaningCheck, reportCheck, earlyCheck, JudgeReads, JudgeReadable, Judged, ColumnsReadable, ColumnsJudged}
+use Rattle.judging.specs.Judging.{TablesFillable, TablesFilled, TablesReadable, TablesJudged, ColumnsChecked, RowsLent, RowsChecked}
 
 -- ---- the answer of any call
 
@@ -60,7 +61,7 @@ module _ (T : Tables) (call : Call) (none : firstOf (call .beforeModel T) ≡ Ve
 
 -- ---- 12 to 14
 
-module _ {T : Tables} {conditions permits relationEntries relations : List ℕ} (R : SchemaReads T conditions permits relationEntries relations)
+module _ {T : Tables} {expressionRows permits relationEntries relations : List ℕ} (R : SchemaReads T expressionRows permits relationEntries relations)
     {v : Verdict} (model : v ≡ refuseIf (rowIsEmpty 16 permits) (refusal 12 0 0 0)) where
   own : v ≡ modelCheck T
   own = model ∙ model-check (R .formed) (R .permitting)
@@ -83,16 +84,16 @@ enough {T} F e f g =
       most = max-le (F .narrow) (let s = F .sized2 .fits in omega arith);
     }
 
-module _ {T : Tables} {n m model : ℕ} {conditions relationEntries projectEntries relations comparisons queries kinds : List ℕ}
-    (R : JudgeReads T n m model conditions relationEntries projectEntries relations comparisons queries kinds) where
-  pub few-features : n ≤ 10
+module _ {T : Tables} {head : Head} {expressionRows relationEntries projectEntries relations comparisons queries kinds : List ℕ}
+    (R : JudgeReads T head expressionRows relationEntries projectEntries relations comparisons queries kinds) where
+  pub few-features : head .features ≤ 10
   few-features = let f = R .prepared .formed .few in let e = R .features in omega arith
 
-  module _ {permits : List ℕ} (load : permits ≡ rowIn 16 conditions model) where
+  module _ {permits : List ℕ} (load : permits ≡ rowIn 16 expressionRows (head .model)) where
     permitting : permits ≡ rowOf 16 (permitted T)
-    permitting = load ∙ model-row (R .prepared .formed) (R .prepared .filled) (R .number)
+    permitting = load ∙ model-row (R .prepared .formed) (R .prepared .filled) (R .model)
 
-    pub schema-reads : SchemaReads T conditions permits relationEntries relations
+    pub schema-reads : SchemaReads T expressionRows permits relationEntries relations
     schema-reads = record {
       formed = R .prepared .formed;
       filled = R .prepared .filled;
@@ -101,27 +102,26 @@ module _ {T : Tables} {n m model : ℕ} {conditions relationEntries projectEntri
       relationsAre = R .prepared .relationsAre;
     }
 
-    pub reach-reads : ReachReads T queries conditions permits
+    pub reach-reads : ReachReads T queries expressionRows permits
     reach-reads = record { formed = R .prepared .formed; filled = R .prepared .filled; queriesAre = R .prepared .queriesAre; permitting = permitting }
 
     pub typing-reads : {words : ℕ} {reach full : List ℕ} {items : ℕ} → queryCount T * 16 ≤ words → reach ≡ reachRows T words
-        → full ≡ rowOf 16 (within n (λ c. true)) → items ≡ max m (length relations / 2)
-        → TypingReads T conditions full permits reach relationEntries projectEntries relations comparisons queries kinds items
-    typing-reads room reaching whole most = record {
-      reads = record {
-        prepared = R .prepared;
-        whole = whole ∙ ap (λ (k : ℕ). rowOf 16 (within k (λ c. true))) (R .features);
-        permitting = permitting;
-        reaching = reach-rows T room reaching;
-        kindsAre = R .kindsAre;
+        → full ≡ rowOf 16 (within (head .features) (λ c. true)) → items ≡ max (head .attributes) (length relations / 2) → {scope : Scope}
+        → scope .full .words ≡ full → scope .permitted .words ≡ permits → scope .items ≡ items
+        → TypingReads T scope expressionRows relationEntries projectEntries relations comparisons queries kinds reach
+    typing-reads room reaching whole most f p i = record {
+      scoped = record {
+        whole = f ∙ whole ∙ ap (λ (k : ℕ). rowOf 16 (within k (λ c. true))) (R .features);
+        permitting = p ∙ permitting;
+        bounded = enough (R .prepared .formed) (R .attributes) (ap (λ (t : List ℕ). length t / 2) (R .prepared .relationsAre)) (i ∙ most);
       };
-      enough = enough (R .prepared .formed) (R .attributes) (ap (λ (t : List ℕ). length t / 2) (R .prepared .relationsAre)) most;
+      report = record { prepared = R .prepared; kindsAre = R .kindsAre; reaching = reach-rows T room reaching };
     }
 
 -- there is room for the reach rows of all such tables
-pub reach-room : {T : Tables} {n m model : ℕ} {conditions relationEntries projectEntries relations comparisons queries kinds reach columns : List ℕ}
-    → JudgeReadable n m model conditions relationEntries projectEntries relations comparisons queries kinds reach columns
-    → JudgeReads T n m model conditions relationEntries projectEntries relations comparisons queries kinds → queryCount T * 16 ≤ length reach
+pub reach-room : {T : Tables} {head : Head} {expressionRows relationEntries projectEntries relations comparisons queries kinds reach columns : List ℕ}
+    → JudgeReadable head expressionRows relationEntries projectEntries relations comparisons queries kinds reach columns
+    → JudgeReads T head expressionRows relationEntries projectEntries relations comparisons queries kinds → queryCount T * 16 ≤ length reach
 reach-room A R = let l = A .forms in let e = ap length (sym (A .reads .prepared .queriesAre) ∙ R .prepared .queriesAre) in omega arith
 
 -- ---- 12 to 19 and 25
@@ -144,31 +144,122 @@ module _ {T : Tables} {v : Verdict} (early : v ≡ modelAndSchemaCheck T) (lentR
     shows = C .shows ∙ ap (λ (x : Verdict). after x (columnRows T) lentColumns) (sym f ∙ early);
   }
 
--- ---- whole tables
+-- ---- reach rows of its own
+
+-- `most` rows are enough for tables that have at most so many query forms
+pub own-reach : (most : ℕ) {head : Head} {expressionRows relationEntries projectEntries relations comparisons queries kinds columns : List ℕ}
+    → ColumnsReadable most head expressionRows relationEntries projectEntries relations comparisons queries kinds columns
+    → JudgeReadable head expressionRows relationEntries projectEntries relations comparisons queries kinds (replicate (most * 16) 0) columns
+own-reach most A =
+    let l = length-replicate {A = ℕ} (most * 16) 0 in
+    record {
+      tables = A .tables;
+      reads = A .reads;
+      forms = let f = A .few in let e = ap length (A .reads .prepared .queriesAre) in omega arith;
+      unreached = ap (λ (k : ℕ). replicate {A = ℕ} k 0) (sym l);
+      unshown = A .unshown;
+    }
+
+pub columns-judged : {T : Tables} {v : Verdict} {lentReach lentColumns reach columns : List ℕ} → Judged T v lentReach lentColumns reach columns
+    → ColumnsJudged T v lentColumns columns
+columns-judged J = record { answers = J .answers; shows = J .shows }
+
+-- tables with any number of query forms
+pub any-forms : {head : Head} {expressionRows relationEntries projectEntries relations comparisons queries kinds columns : List ℕ} {T : Tables}
+    → JudgeReads T head expressionRows relationEntries projectEntries relations comparisons queries kinds → columns ≡ replicate 1024 0
+    → ColumnsReadable 256 head expressionRows relationEntries projectEntries relations comparisons queries kinds columns
+any-forms {T} R unshown = record {
+  tables = T;
+  reads = R;
+  few = let m = counts (R .prepared .formed) .most4 in let e = ap length (R .prepared .queriesAre) in omega arith;
+  unshown = unshown;
+}
+
+-- ---- whole tables, with expression rows of its own
 
 module _ {T : Tables} (F : Formed T) where
   -- the tables, with the expression rows and table 1 in its parts
-  pub tables-read : {split : ℕ} → split ≡ relationsEnd T → {conditions : List ℕ} → Conditioned T conditions
-      → JudgeReads T (T .features) (T .attributes) (T .model) conditions (take (split * 2) (T .entries))
+  pub tables-read : {split : ℕ} → split ≡ relationsEnd T → {expressionRows : List ℕ} → TruthFilled T expressionRows → {head : Head}
+      → head .features ≡ T .features → head .attributes ≡ T .attributes → head .model ≡ T .model
+      → JudgeReads T head expressionRows (take (split * 2) (T .entries))
       (take (length (T .entries) - split * 2) (drop (split * 2) (T .entries))) (T .relations) (T .comparisons) (T .queries) (T .kinds)
-  tables-read is C = record { prepared = prepare F C is refl refl refl refl; features = refl; attributes = refl; number = refl; kindsAre = refl }
+  tables-read is C n m k = record { prepared = prepare F C is refl refl refl refl; features = n; attributes = m; model = k; kindsAre = refl }
 
-  -- rows enough for all tables are enough for these
-  pub rows-enough : {conditions reach columns : List ℕ} → RowsLent conditions reach columns → TablesJudgeable T conditions reach columns
-  rows-enough L = record {
-    formed = F;
-    expressions = let s = counts F .most0 in let l = L .expressions in omega arith;
+  -- tables with any number of expressions
+  pub any-tables : {columns : List ℕ} → columns ≡ replicate 1024 0 → TablesReadable 256 T columns
+  any-tables unshown = record { formed = F; few = counts F .most0; unshown = unshown }
+
+-- `most` rows are enough for tables that have at most so many expressions
+pub own-expressions : (most : ℕ) {T : Tables} {columns : List ℕ} → TablesReadable most T columns → TablesFillable T (replicate (most * 16) 0) columns
+own-expressions most A = record {
+  formed = A .formed;
+  room = let f = A .few in let l = length-replicate {A = ℕ} (most * 16) 0 in omega arith;
+  unshown = A .unshown;
+}
+
+module _ (most : ℕ) {T : Tables} {lentColumns : List ℕ} (A : TablesReadable most T lentColumns) {v : Verdict} {expressionRows columns : List ℕ}
+    (J : TablesFilled T v (replicate (most * 16) 0) lentColumns expressionRows columns) where
+  truth-filled : TruthFilled T expressionRows
+  truth-filled = filled (T .features) (T .truth) (expressionCount T) (replicate (most * 16) 0) (own-expressions most A .room) (J .fills)
+
+  -- the model has a row among the expressions
+  pub own-model : T .model * 16 + 16 ≤ length expressionRows
+  own-model = model-room (A .formed) truth-filled refl
+
+  pub own-judged : {permits : List ℕ} → permits ≡ rowIn 16 expressionRows (T .model) → TablesJudged T v permits lentColumns columns
+  own-judged load = record { judged = J .judged; permitting = load ∙ model-row (A .formed) truth-filled refl }
+
+-- the form checks, and then these
+module _ {T : Tables} {v : Verdict} (forms : v ≡ formCheck T) {lentColumns : List ℕ} where
+  -- a form check refuses
+  pub columns-refuse : {r : Refusal} → v ≡ Verdict.Refused r → {permits : List ℕ} → permits ≡ rowOf 16 (λ c. false)
+      → ColumnsChecked T v permits lentColumns lentColumns
+  columns-refuse {r} f none = record {
+    answers = stops (meaningCheck T) forms f;
+    permitting = none ∙ ap (λ (x : Verdict). after x (rowOf 16 (permitted T)) (rowOf 16 (λ c. false))) refused;
+    shows = ap (λ (x : Verdict). after x (columnRows T) lentColumns) (sym (then-refused (modelAndSchemaCheck T) (sym refused)));
+  }
+    where
+      refused : Verdict.Refused r ≡ formCheck T
+      refused = sym f ∙ forms
+
+  -- the rest is judged
+  pub columns-answer : v ≡ Verdict.Accepted → {w : Verdict} {permits columns : List ℕ} → TablesJudged T w permits lentColumns columns
+      → ColumnsChecked T w permits lentColumns columns
+  columns-answer f J = record {
+    answers = goes-on forms f (J .judged .answers);
+    permitting = J .permitting ∙ ap (λ (x : Verdict). after x (rowOf 16 (permitted T)) (rowOf 16 (λ c. false))) passed;
+    shows = J .judged .shows ∙ ap (λ (x : Verdict). after x (columnRows T) lentColumns) (sym (then-next (sym passed)));
+  }
+    where
+      passed : Verdict.Accepted ≡ formCheck T
+      passed = sym f ∙ forms
+
+-- ---- whole tables, with all rows lent
+
+-- rows enough for all tables are enough for these
+module _ {T : Tables} {expressionRows reach columns : List ℕ} (F : Formed T) (L : RowsLent expressionRows reach columns) where
+  pub rows-room : expressionCount T * 16 ≤ length expressionRows
+  rows-room = let s = counts F .most0 in let l = L .expressions in omega arith
+
+  pub rows-read : {head : Head} {filledRows relationEntries projectEntries relations comparisons queries kinds : List ℕ}
+      → JudgeReads T head filledRows relationEntries projectEntries relations comparisons queries kinds
+      → JudgeReadable head filledRows relationEntries projectEntries relations comparisons queries kinds reach columns
+  rows-read R = record {
+    tables = T;
+    reads = R;
     forms = let s = counts F .most4 in let l = L .forms in omega arith;
     unreached = L .unreached;
     unshown = L .unshown;
   }
 
-module _ {T : Tables} {v : Verdict} (forms : v ≡ formCheck T) {lentConditions lentReach lentColumns : List ℕ} where
+module _ {T : Tables} {v : Verdict} (forms : v ≡ formCheck T) {lentExpressionRows lentReach lentColumns : List ℕ} where
   -- a form check refuses
-  pub forms-refuse : {r : Refusal} → v ≡ Verdict.Refused r → Typed T v lentConditions lentReach lentColumns lentConditions lentReach lentColumns
+  pub forms-refuse : {r : Refusal} → v ≡ Verdict.Refused r
+      → RowsChecked T v lentExpressionRows lentReach lentColumns lentExpressionRows lentReach lentColumns
   forms-refuse {r} f = record {
     answers = stops (meaningCheck T) forms f;
-    fills = ap (λ (x : Verdict). after x (written (expressionRows (T .features) (T .expressions)) lentConditions) lentConditions) refused;
+    fills = ap (λ (x : Verdict). after x (written (rowsOf T) lentExpressionRows) lentExpressionRows) refused;
     reaching = ap (λ (x : Verdict). after x (reachRows T (length lentReach)) lentReach) early;
     shows = ap (λ (x : Verdict). after x (columnRows T) lentColumns) early;
   }
@@ -180,14 +271,14 @@ module _ {T : Tables} {v : Verdict} (forms : v ≡ formCheck T) {lentConditions 
       early = sym (then-refused (modelAndSchemaCheck T) (sym refused))
 
   -- the rest is judged
-  pub judging-answers : v ≡ Verdict.Accepted → {w : Verdict} {conditions reach columns : List ℕ}
-      → TablesJudged T w lentConditions lentReach lentColumns conditions reach columns
-      → Typed T w lentConditions lentReach lentColumns conditions reach columns
-  judging-answers f J = record {
-    answers = goes-on forms f (J .judged .answers);
-    fills = J .fills ∙ ap (λ (x : Verdict). after x (written (expressionRows (T .features) (T .expressions)) lentConditions) lentConditions) passed;
-    reaching = J .judged .reaching ∙ ap (λ (x : Verdict). after x (reachRows T (length lentReach)) lentReach) early;
-    shows = J .judged .shows ∙ ap (λ (x : Verdict). after x (columnRows T) lentColumns) early;
+  pub judging-answers : v ≡ Verdict.Accepted → {w : Verdict} {expressionRows reach columns : List ℕ}
+      → expressionRows ≡ written (rowsOf T) lentExpressionRows → Judged T w lentReach lentColumns reach columns
+      → RowsChecked T w lentExpressionRows lentReach lentColumns expressionRows reach columns
+  judging-answers f fills J = record {
+    answers = goes-on forms f (J .answers);
+    fills = fills ∙ ap (λ (x : Verdict). after x (written (rowsOf T) lentExpressionRows) lentExpressionRows) passed;
+    reaching = J .reaching ∙ ap (λ (x : Verdict). after x (reachRows T (length lentReach)) lentReach) early;
+    shows = J .shows ∙ ap (λ (x : Verdict). after x (columnRows T) lentColumns) early;
   }
     where
       passed : Verdict.Accepted ≡ formCheck T
@@ -195,69 +286,6 @@ module _ {T : Tables} {v : Verdict} (forms : v ≡ formCheck T) {lentConditions 
 
       early : modelAndSchemaCheck T ≡ earlyCheck T
       early = sym (then-next (sym passed))
-
--- ---- expression rows and reach rows of its own
-
--- `most` rows of each are enough for tables that have at most so many forms
-pub size-enough : (most : ℕ) {T : Tables} {columns : List ℕ} → SizeJudgeable most T columns
-    → TablesJudgeable T (replicate (most * 16) 0) (replicate (most * 16) 0) columns
-size-enough most A =
-    let l = length-replicate {A = ℕ} (most * 16) 0 in
-    record {
-      formed = A .formed;
-      expressions = let e = A .expressions in omega arith;
-      forms = let e = A .forms in omega arith;
-      unreached = ap (λ (k : ℕ). replicate {A = ℕ} k 0) (sym l);
-      unshown = A .unshown;
-    }
-
-module _ (most : ℕ) {T : Tables} {lentColumns : List ℕ} (A : SizeJudgeable most T lentColumns) {v : Verdict} {lentReach conditions reach columns : List ℕ}
-    (J : TablesJudged T v (replicate (most * 16) 0) lentReach lentColumns conditions reach columns) where
-  conditioned : Conditioned T conditions
-  conditioned = filled (T .features) (T .expressions) (replicate (most * 16) 0) (size-enough most A .expressions) (J .fills)
-
-  -- the model has a row among the expressions
-  pub own-model : T .model * 16 + 16 ≤ length conditions
-  own-model = model-room (A .formed) conditioned refl
-
-  pub own-judged : {permits : List ℕ} → permits ≡ rowIn 16 conditions (T .model) → ColumnsJudged T v permits lentColumns columns
-  own-judged load = record {
-    answers = J .judged .answers;
-    permitting = load ∙ model-row (A .formed) conditioned refl;
-    shows = J .judged .shows;
-  }
-
--- tables that are not small have as many forms as there can be, at most
-pub any-size : {T : Tables} {columns : List ℕ} → ColumnsJudgeable T columns → SizeJudgeable 256 T columns
-any-size A =
-    let n = counts (A .formed) in
-    record { formed = A .formed; expressions = n .most0; forms = n .most4; unshown = A .unshown }
-
--- the form checks, and then these
-module _ {T : Tables} {v : Verdict} (forms : v ≡ formCheck T) {lentColumns : List ℕ} where
-  -- a form check refuses
-  pub columns-refuse : {r : Refusal} → v ≡ Verdict.Refused r → {permits : List ℕ} → permits ≡ rowOf 16 (λ c. false)
-      → ColumnsTyped T v permits lentColumns lentColumns
-  columns-refuse {r} f none = record {
-    answers = stops (meaningCheck T) forms f;
-    permitting = none ∙ ap (λ (x : Verdict). after x (rowOf 16 (permitted T)) (rowOf 16 (λ c. false))) refused;
-    shows = ap (λ (x : Verdict). after x (columnRows T) lentColumns) (sym (then-refused (modelAndSchemaCheck T) (sym refused)));
-  }
-    where
-      refused : Verdict.Refused r ≡ formCheck T
-      refused = sym f ∙ forms
-
-  -- the rest is judged
-  pub columns-answer : v ≡ Verdict.Accepted → {w : Verdict} {permits columns : List ℕ} → ColumnsJudged T w permits lentColumns columns
-      → ColumnsTyped T w permits lentColumns columns
-  columns-answer f J = record {
-    answers = goes-on forms f (J .answers);
-    permitting = J .permitting ∙ ap (λ (x : Verdict). after x (rowOf 16 (permitted T)) (rowOf 16 (λ c. false))) passed;
-    shows = J .shows ∙ ap (λ (x : Verdict). after x (columnRows T) lentColumns) (sym (then-next (sym passed)));
-  }
-    where
-      passed : Verdict.Accepted ≡ formCheck T
-      passed = sym f ∙ forms
 
 -- ---- for the callers
 
@@ -270,19 +298,19 @@ module _ (T : Tables) {v : Verdict} (checked : v ≡ reportCheck T) (accepted : 
   early-passed = then-next (passed .0) ∙ both-accepted (modelAndSchemaCheck T) (typingCheck T) (passed .1) .0
 
 -- what a caller has of tables that pass: their rows
-pub record Rows (T : Tables) (conditions reach columns : List ℕ) : Type 0 where
+pub record Rows (T : Tables) (expressionRows reach columns : List ℕ) : Type 0 where
   pub formed : Formed T
-  pub filled : Conditioned T conditions
+  pub filled : TruthFilled T expressionRows
   pub reaching : ReachFilled T reach
   pub shows : columns ≡ columnRows T
 
-typed-rows : {T : Tables} {v : Verdict} {lentConditions lentReach lentColumns conditions reach columns : List ℕ}
-    → RowsLent lentConditions lentReach lentColumns → Typed T v lentConditions lentReach lentColumns conditions reach columns
-    → v ≡ Verdict.Accepted → Rows T conditions reach columns
-typed-rows {T} {v} {lentConditions} {lentReach} {lentColumns} L J e = record {
+checked-rows : {T : Tables} {v : Verdict} {lentExpressionRows lentReach lentColumns expressionRows reach columns : List ℕ}
+    → RowsLent lentExpressionRows lentReach lentColumns → RowsChecked T v lentExpressionRows lentReach lentColumns expressionRows reach columns
+    → v ≡ Verdict.Accepted → Rows T expressionRows reach columns
+checked-rows {T} {v} {lentExpressionRows} {lentReach} {lentColumns} L J e = record {
   formed = F;
-  filled = filled (T .features) (T .expressions) lentConditions (let s = counts F .most0 in let l = L .expressions in omega arith)
-      (J .fills ∙ ap (λ (x : Verdict). after x (written (expressionRows (T .features) (T .expressions)) lentConditions) lentConditions) forms);
+  filled = filled (T .features) (T .truth) (expressionCount T) lentExpressionRows (let s = counts F .most0 in let l = L .expressions in omega arith)
+      (J .fills ∙ ap (λ (x : Verdict). after x (written (rowsOf T) lentExpressionRows) lentExpressionRows) forms);
   reaching = reach-rows T (let s = counts F .most4 in let l = L .forms in omega arith)
       (J .reaching ∙ ap (λ (x : Verdict). after x (reachRows T (length lentReach)) lentReach) early);
   shows = J .shows ∙ ap (λ (x : Verdict). after x (columnRows T) lentColumns) early;
@@ -298,9 +326,9 @@ typed-rows {T} {v} {lentConditions} {lentReach} {lentColumns} L J e = record {
     early = early-passed T (J .answers) e
 
 -- with rows of the call's own, which are all 0 and have room for every table
-pub own-rows : {T : Tables} {v : Verdict} {conditions reach columns : List ℕ}
-    → Typed T v (replicate 4096 0) (replicate 4096 0) (replicate 1024 0) conditions reach columns → v ≡ Verdict.Accepted → Rows T conditions reach columns
-own-rows = typed-rows (record { expressions = le-refl 4096; forms = le-refl 4096; unreached = refl; unshown = refl })
+pub own-rows : {T : Tables} {v : Verdict} {expressionRows reach columns : List ℕ}
+    → RowsChecked T v (replicate 4096 0) (replicate 4096 0) (replicate 1024 0) expressionRows reach columns → v ≡ Verdict.Accepted → Rows T expressionRows reach columns
+own-rows = checked-rows (record { expressions = le-refl 4096; forms = le-refl 4096; unreached = refl; unshown = refl })
 
 -- what a caller has of tables that pass, where judging has rows of its own: the permitted configurations and the column rows
 pub record Columns (T : Tables) (permits columns : List ℕ) : Type 0 where
@@ -308,7 +336,7 @@ pub record Columns (T : Tables) (permits columns : List ℕ) : Type 0 where
   pub permitting : permits ≡ rowOf 16 (permitted T)
   pub shows : columns ≡ columnRows T
 
-pub own-columns : {T : Tables} {v : Verdict} {permits columns : List ℕ} → ColumnsTyped T v permits (replicate 1024 0) columns → v ≡ Verdict.Accepted
+pub own-columns : {T : Tables} {v : Verdict} {permits columns : List ℕ} → ColumnsChecked T v permits (replicate 1024 0) columns → v ≡ Verdict.Accepted
     → Columns T permits columns
 own-columns {T} J e = record {
   formed = formed T forms;

@@ -1,5 +1,5 @@
 -- What every call runs before its own checks: the answers, and what the rows lent to it hold afterwards.
-use Prim.Native.Nat.{ℕ, _*_, _≤_}
+use Prim.Native.Nat.{ℕ, _*_, _/_, _≤_}
 use mathlib.Core.Path.{_≡_}
 use mathlib.Core.Bool.{false}
 use mathlib.Core.List.{List}
@@ -13,8 +13,9 @@ use Rattle.report.specs.Verdicts.{orElse, after}
 use Rattle.report.specs.FormChecks.{formCheck}
 use Rattle.report.specs.Checks.{modelAndSchemaCheck, typingCheck}
 use Rattle.report.specs.Formed.{Formed}
+use Rattle.report.specs.declared.Head.{Head}
 use Rattle.report.specs.declared.Verdict.{Verdict}
-use Rattle.conditions.specs.Conditions.{expressionRows, Prepared}
+use Rattle.expression_rows.specs.ExpressionRows.{rowsOf, Prepared}
 use Rattle.reach.specs.Reach.{reachRows}
 
 module _ (T : Tables) where
@@ -30,22 +31,22 @@ module _ (T : Tables) where
   abbrev pub earlyCheck : Verdict
   earlyCheck = orElse (formCheck T) (modelAndSchemaCheck T)
 
--- ---- 12 to 19 and 25
+-- ---- 12 to 19 and 25, given expression rows
 
 -- the prepared tables and their head
-pub record JudgeReads (T : Tables) (n m model : ℕ) (conditions relationEntries projectEntries relations comparisons queries kinds : List ℕ)
+pub record JudgeReads (T : Tables) (head : Head) (expressionRows relationEntries projectEntries relations comparisons queries kinds : List ℕ)
     : Type 0 where
-  pub prepared : Prepared T conditions relationEntries projectEntries relations comparisons queries
-  pub features : n ≡ T .features
-  pub attributes : m ≡ T .attributes
-  pub number : model ≡ T .model
+  pub prepared : Prepared T expressionRows relationEntries projectEntries relations comparisons queries
+  pub features : head .features ≡ T .features
+  pub attributes : head .attributes ≡ T .attributes
+  pub model : head .model ≡ T .model
   pub kindsAre : kinds ≡ T .kinds
 
 -- there are such tables, and room for the reach rows and the column rows, all 0
-pub record JudgeReadable (n m model : ℕ) (conditions relationEntries projectEntries relations comparisons queries kinds reach columns : List ℕ)
+pub record JudgeReadable (head : Head) (expressionRows relationEntries projectEntries relations comparisons queries kinds reach columns : List ℕ)
     : Type 0 where
   pub tables : Tables
-  pub reads : JudgeReads tables n m model conditions relationEntries projectEntries relations comparisons queries kinds
+  pub reads : JudgeReads tables head expressionRows relationEntries projectEntries relations comparisons queries kinds
   pub forms : queryCount tables * 16 ≤ length reach
   pub unreached : reach ≡ replicate (length reach) 0
   pub unshown : columns ≡ replicate 1024 0
@@ -57,57 +58,59 @@ pub record Judged (T : Tables) (answer : Verdict) (lentReach lentColumns reach c
   pub reaching : reach ≡ after (modelAndSchemaCheck T) (reachRows T (length lentReach)) lentReach
   pub shows : columns ≡ after (modelAndSchemaCheck T) (columnRows T) lentColumns
 
--- ---- whole tables
-
--- tables that have passed the form checks, and rows for their expressions, their query forms and the attributes; the last two are all 0
-pub record TablesJudgeable (T : Tables) (conditions reach columns : List ℕ) : Type 0 where
-  pub formed : Formed T
-  pub expressions : expressionCount T * 16 ≤ length conditions
-  pub forms : queryCount T * 16 ≤ length reach
-  pub unreached : reach ≡ replicate (length reach) 0
+-- with reach rows of its own: there are such tables, with at most so many query forms, and room for the column rows, all 0
+pub record ColumnsReadable (most : ℕ) (head : Head) (expressionRows relationEntries projectEntries relations comparisons queries kinds columns : List ℕ)
+    : Type 0 where
+  pub tables : Tables
+  pub reads : JudgeReads tables head expressionRows relationEntries projectEntries relations comparisons queries kinds
+  pub few : length queries / 4 ≤ most
   pub unshown : columns ≡ replicate 1024 0
 
--- the same, with the expression rows
-pub record TablesJudged (T : Tables) (answer : Verdict) (lentConditions lentReach lentColumns conditions reach columns : List ℕ) : Type 0 where
-  pub fills : conditions ≡ written (expressionRows (T .features) (T .expressions)) lentConditions
-  pub judged : Judged T answer lentReach lentColumns reach columns
+-- the answer, and what the column rows lent hold afterwards
+pub record ColumnsJudged (T : Tables) (answer : Verdict) (lentColumns columns : List ℕ) : Type 0 where
+  pub answers : answer ≡ meaningCheck T
+  pub shows : columns ≡ after (modelAndSchemaCheck T) (columnRows T) lentColumns
+
+-- ---- whole tables
+
+-- tables that have passed the form checks, room for their expression rows, and for the column rows, all 0
+pub record TablesFillable (T : Tables) (expressionRows columns : List ℕ) : Type 0 where
+  pub formed : Formed T
+  pub room : expressionCount T * 16 ≤ length expressionRows
+  pub unshown : columns ≡ replicate 1024 0
+
+-- the answer, and what the rows lent hold afterwards: the expression rows, whatever the answer, and the column rows
+pub record TablesFilled (T : Tables) (answer : Verdict) (lentExpressionRows lentColumns expressionRows columns : List ℕ) : Type 0 where
+  pub fills : expressionRows ≡ written (rowsOf T) lentExpressionRows
+  pub judged : ColumnsJudged T answer lentColumns columns
+
+-- with expression rows of its own: tables that have passed the form checks and have at most so many expressions, and room for the column rows, all 0
+pub record TablesReadable (most : ℕ) (T : Tables) (columns : List ℕ) : Type 0 where
+  pub formed : Formed T
+  pub few : expressionCount T ≤ most
+  pub unshown : columns ≡ replicate 1024 0
+
+-- the answer, the permitted configurations, and what the column rows lent hold afterwards
+pub record TablesJudged (T : Tables) (answer : Verdict) (permits lentColumns columns : List ℕ) : Type 0 where
+  pub judged : ColumnsJudged T answer lentColumns columns
+  pub permitting : permits ≡ rowOf 16 (permitted T)
+
+-- the same of any tables: with no permitted configuration where the form checks refuse, and with the rows as they were where these or 12 to 14 do
+pub record ColumnsChecked (T : Tables) (answer : Verdict) (permits lentColumns columns : List ℕ) : Type 0 where
+  pub answers : answer ≡ reportCheck T
+  pub permitting : permits ≡ after (formCheck T) (rowOf 16 (permitted T)) (rowOf 16 (λ c. false))
+  pub shows : columns ≡ after (earlyCheck T) (columnRows T) lentColumns
 
 -- rows enough for all tables that pass the form checks
-pub record RowsLent (conditions reach columns : List ℕ) : Type 0 where
-  pub expressions : 4096 ≤ length conditions
+pub record RowsLent (expressionRows reach columns : List ℕ) : Type 0 where
+  pub expressions : 4096 ≤ length expressionRows
   pub forms : 4096 ≤ length reach
   pub unreached : reach ≡ replicate (length reach) 0
   pub unshown : columns ≡ replicate 1024 0
 
--- the same of any tables: where the form checks refuse, or 12 to 14, the rows that are not filled are as they were
-pub record Typed (T : Tables) (answer : Verdict) (lentConditions lentReach lentColumns conditions reach columns : List ℕ) : Type 0 where
+-- the same with all rows: where the form checks refuse, or 12 to 14, the rows that are not filled are as they were
+pub record RowsChecked (T : Tables) (answer : Verdict) (lentExpressionRows lentReach lentColumns expressionRows reach columns : List ℕ) : Type 0 where
   pub answers : answer ≡ reportCheck T
-  pub fills : conditions ≡ after (formCheck T) (written (expressionRows (T .features) (T .expressions)) lentConditions) lentConditions
+  pub fills : expressionRows ≡ after (formCheck T) (written (rowsOf T) lentExpressionRows) lentExpressionRows
   pub reaching : reach ≡ after (earlyCheck T) (reachRows T (length lentReach)) lentReach
-  pub shows : columns ≡ after (earlyCheck T) (columnRows T) lentColumns
-
--- ---- with expression rows and reach rows of its own, in two sizes
-
--- tables that have passed the form checks and have at most so many expressions and query forms, and rows for the attributes, all 0
-pub record SizeJudgeable (most : ℕ) (T : Tables) (columns : List ℕ) : Type 0 where
-  pub formed : Formed T
-  pub expressions : expressionCount T ≤ most
-  pub forms : queryCount T ≤ most
-  pub unshown : columns ≡ replicate 1024 0
-
--- the same of any size
-pub record ColumnsJudgeable (T : Tables) (columns : List ℕ) : Type 0 where
-  pub formed : Formed T
-  pub unshown : columns ≡ replicate 1024 0
-
--- the answer, the permitted configurations, and what the rows lent hold afterwards
-pub record ColumnsJudged (T : Tables) (answer : Verdict) (permits lentColumns columns : List ℕ) : Type 0 where
-  pub answers : answer ≡ meaningCheck T
-  pub permitting : permits ≡ rowOf 16 (permitted T)
-  pub shows : columns ≡ after (modelAndSchemaCheck T) (columnRows T) lentColumns
-
--- the same of any tables: with no permitted configuration where the form checks refuse, and with the rows as they were where these or 12 to 14 do
-pub record ColumnsTyped (T : Tables) (answer : Verdict) (permits lentColumns columns : List ℕ) : Type 0 where
-  pub answers : answer ≡ reportCheck T
-  pub permitting : permits ≡ after (formCheck T) (rowOf 16 (permitted T)) (rowOf 16 (λ c. false))
   pub shows : columns ≡ after (earlyCheck T) (columnRows T) lentColumns

@@ -1,11 +1,16 @@
-// What every call runs before its own: 1 to 10 and 24, the expression rows, 12 to 19 and 25, the reach rows and the column rows, into rows that
-// the caller lends, or the first two into rows of its own.
-use conditions::check_permitted;
-use conditions::check_schema;
-use conditions::fill_rows;
+// What every call runs before its own: 1 to 10 and 24, the expression rows, 12 to 19 and 25, the reach rows and the column rows. A name that ends in
+// `into_rows` says that the reach rows and the column rows are the caller's, who lends words for them; `into_columns`, that the column rows are, and the
+// function has reach rows of its own. Expression rows are given (`judge_into_rows`, `judge_into_columns`), the function's own (`judge_tables_into_columns`,
+// `check_into_columns`), or the caller's to be filled (`check_into_rows`).
+use expression_rows::Scope;
+use expression_rows::check_permitted;
+use expression_rows::check_schema;
+use expression_rows::fill_expression_rows;
 use forms::check_forms;
 use forms::relations_end;
 use reach::fill_reach;
+use report::Head;
+use report::Limits;
 use report::Verdict;
 use sets::AttributeSet;
 use sets::Row;
@@ -13,18 +18,22 @@ use typing::check_typing;
 ghost use mathlib.Core.Path.{_≡_};
 ghost use lib.ListN.{replicate};
 ghost use Prim.Native.Nat.{max};
-ghost use Rattle.report.specs.Tables.{Tables, tablesOf};
+ghost use Rattle.report.specs.Tables.{Tables};
+ghost use Rattle.report.specs.Expressions.{tablesUnder};
 ghost use Rattle.report.specs.Checks.{modelAndSchemaCheck};
-ghost use Rattle.conditions.specs.Conditions.{SchemaReads, SchemaReadable};
-ghost use Rattle.judging.specs.Judging.{JudgeReads, JudgeReadable, Judged, RowsLent, TablesJudgeable, TablesJudged, Typed};
-ghost use Rattle.judging.specs.Judging.{SizeJudgeable, ColumnsJudgeable, ColumnsJudged, ColumnsTyped};
+ghost use Rattle.expression_rows.specs.ExpressionRows.{SchemaReads, SchemaReadable};
+ghost use Rattle.judging.specs.Judging.{JudgeReads, JudgeReadable, Judged, ColumnsReadable, ColumnsJudged};
+ghost use Rattle.judging.specs.Judging.{TablesFillable, TablesFilled, TablesReadable, TablesJudged, ColumnsChecked, RowsLent, RowsChecked};
 
 // The words of the expression rows, of the reach rows and of the column rows, at most.
-pub const EXPRESSION_WORDS: usize = AttributeSet::MOST_EXPRESSIONS * Row::WORDS;
+pub const EXPRESSION_WORDS: usize = Limits::MOST_EXPRESSIONS * Row::WORDS;
 
-pub const REACH_WORDS: usize = AttributeSet::MOST_QUERIES * Row::WORDS;
+pub const REACH_WORDS: usize = Limits::MOST_QUERIES * Row::WORDS;
 
 pub const COLUMN_WORDS: usize = AttributeSet::MOST_ATTRIBUTES * Row::WORDS;
+
+// Those of the expression rows and of the reach rows of small tables.
+const SMALL_WORDS: usize = Limits::SMALL * Row::WORDS;
 
 // The larger of two numbers.
 fn larger(x: usize, y: usize) -> usize
@@ -37,31 +46,31 @@ fn larger(x: usize, y: usize) -> usize
 }
 
 // Checks 12 to 14, where these configurations are permitted.
-fn check_model(
+fn check_model_and_schema(
     permitted: Row,
-    conditions: &[u64],
+    expression_rows: &[u64],
     relation_entries: &[u16],
     relations: &[u16],
 ) -> Verdict
-    requires { ⌜ SchemaReadable (now conditions) (permitted .words) (now «relation_entries») (now relations) ⌝ }
+    requires { ⌜ SchemaReadable (now «expression_rows») (permitted .words) (now «relation_entries») (now relations) ⌝ }
     ensures { λ v.
-        ⌜ ((T : Tables) → SchemaReads T (now (conditions .entry)) (permitted .words) (now («relation_entries» .entry)) (now (relations .entry))
+        ⌜ ((T : Tables) → SchemaReads T (now («expression_rows» .entry)) (permitted .words) (now («relation_entries» .entry)) (now (relations .entry))
         → v ≡ modelAndSchemaCheck T) ⌝ }
 {
     let model_verdict = check_permitted(permitted);
     if let Verdict::Refused(_) = model_verdict {
         return model_verdict;
     }
-    check_schema(conditions, permitted, relation_entries, relations)
+    check_schema(permitted, expression_rows, relation_entries, relations)
 }
 
-// Checks 12 to 19 and 25 of tables that have passed 1 to 10 and 24, whose expression rows `conditions` starts with. Fills `reach` with the reach rows and
-// `columns` with the column rows, unless 12 to 14 refuse; before, both are all 0.
-pub fn judge(
-    n: usize,
-    m: usize,
-    model: usize,
-    conditions: &[u64],
+// ---- given expression rows
+
+// Checks 12 to 19 and 25 of tables that have passed the form checks, whose expression rows `expression_rows` starts with. Fills `reach` with the reach
+// rows and `columns` with the column rows, unless 12 to 14 refuse; before, both are all 0.
+pub fn judge_into_rows(
+    head: Head,
+    expression_rows: &[u64],
     relation_entries: &[u16],
     project_entries: &[u16],
     relations: &[u16],
@@ -71,76 +80,157 @@ pub fn judge(
     reach: &mut [u64],
     columns: &mut [u64],
 ) -> Verdict
-    requires { ⌜ JudgeReadable n m model (now conditions) (now «relation_entries») (now «project_entries») (now relations) (now comparisons)
+    requires { ⌜ JudgeReadable head (now «expression_rows») (now «relation_entries») (now «project_entries») (now relations) (now comparisons)
         (now queries) (now kinds) (now reach) (now columns) ⌝ }
     ensures { λ v.
         ⌜ ((T : Tables)
-        → JudgeReads T n m model (now (conditions .entry)) (now («relation_entries» .entry)) (now («project_entries» .entry))
+        → JudgeReads T head (now («expression_rows» .entry)) (now («relation_entries» .entry)) (now («project_entries» .entry))
         (now (relations .entry)) (now (comparisons .entry)) (now (queries .entry)) (now (kinds .entry))
         → Judged T v (now (reach .entry)) (now (columns .entry)) (now (reach .exit)) (now (columns .exit))) ⌝ }
 {
-    let permitted = Row::load(conditions, model);
-    let schema = check_model(permitted, conditions, relation_entries, relations);
+    let permitted = Row::load(expression_rows, head.model);
+    let schema = check_model_and_schema(permitted, expression_rows, relation_entries, relations);
     if let Verdict::Refused(_) = schema {
         return schema;
     }
-    fill_reach(queries, conditions, permitted, &mut *reach);
+    fill_reach(permitted, expression_rows, queries, &mut *reach);
+    let scope = Scope {
+        full: Row::full(head.features),
+        permitted: permitted,
+        items: larger(head.attributes, relations.len() / 2),
+    };
     check_typing(
+        scope,
+        expression_rows,
         relation_entries,
         project_entries,
         relations,
         comparisons,
         queries,
         kinds,
-        conditions,
-        Row::full(n),
-        permitted,
-        larger(m, relations.len() / 2),
         &*reach,
         columns,
     )
 }
 
-// The same of whole tables: fills `conditions` with the expression rows, splits table 1 where the lists of the relations end, and judges.
-fn judge_tables(
-    n: usize,
-    m: usize,
-    model: usize,
-    expressions: &[u16],
-    entries: &[u16],
+// The same with reach rows of its own, of tables with few query forms.
+fn judge_few_queries(
+    head: Head,
+    expression_rows: &[u64],
+    relation_entries: &[u16],
+    project_entries: &[u16],
     relations: &[u16],
     comparisons: &[u16],
     queries: &[u16],
     kinds: &[u16],
-    conditions: &mut [u64],
-    reach: &mut [u64],
     columns: &mut [u64],
 ) -> Verdict
-    requires { ⌜ TablesJudgeable (tablesOf n m model (now expressions) (now entries) (now relations) (now comparisons) (now queries) (now kinds))
-        (now conditions) (now reach) (now columns) ⌝ }
+    requires { ⌜ ColumnsReadable 16 head (now «expression_rows») (now «relation_entries») (now «project_entries») (now relations) (now comparisons)
+        (now queries) (now kinds) (now columns) ⌝ }
     ensures { λ v.
-        ⌜ TablesJudged
-        (tablesOf n m model (now (expressions .entry)) (now (entries .entry)) (now (relations .entry)) (now (comparisons .entry))
-        (now (queries .entry)) (now (kinds .entry)))
-        v (now (conditions .entry)) (now (reach .entry)) (now (columns .entry)) (now (conditions .exit)) (now (reach .exit)) (now (columns .exit)) ⌝ }
+        ⌜ ((T : Tables)
+        → JudgeReads T head (now («expression_rows» .entry)) (now («relation_entries» .entry)) (now («project_entries» .entry))
+        (now (relations .entry)) (now (comparisons .entry)) (now (queries .entry)) (now (kinds .entry))
+        → ColumnsJudged T v (now (columns .entry)) (now (columns .exit))) ⌝ }
 {
-    fill_rows(n, expressions, &mut *conditions);
-    let split = relations_end(relations) * 2;
-    judge(
-        n,
-        m,
-        model,
-        &*conditions,
-        &entries[..split],
-        &entries[split..],
+    let mut reach = [0; SMALL_WORDS];
+    judge_into_rows(
+        head,
+        expression_rows,
+        relation_entries,
+        project_entries,
         relations,
         comparisons,
         queries,
         kinds,
-        reach,
+        &mut reach,
         columns,
     )
 }
+
+// The same of tables with any number of query forms.
+fn judge_many_queries(
+    head: Head,
+    expression_rows: &[u64],
+    relation_entries: &[u16],
+    project_entries: &[u16],
+    relations: &[u16],
+    comparisons: &[u16],
+    queries: &[u16],
+    kinds: &[u16],
+    columns: &mut [u64],
+) -> Verdict
+    requires { ⌜ ColumnsReadable 256 head (now «expression_rows») (now «relation_entries») (now «project_entries») (now relations) (now comparisons)
+        (now queries) (now kinds) (now columns) ⌝ }
+    ensures { λ v.
+        ⌜ ((T : Tables)
+        → JudgeReads T head (now («expression_rows» .entry)) (now («relation_entries» .entry)) (now («project_entries» .entry))
+        (now (relations .entry)) (now (comparisons .entry)) (now (queries .entry)) (now (kinds .entry))
+        → ColumnsJudged T v (now (columns .entry)) (now (columns .exit))) ⌝ }
+{
+    let mut reach = [0; REACH_WORDS];
+    judge_into_rows(
+        head,
+        expression_rows,
+        relation_entries,
+        project_entries,
+        relations,
+        comparisons,
+        queries,
+        kinds,
+        &mut reach,
+        columns,
+    )
+}
+
+// Checks 12 to 19 and 25 of tables that have passed the form checks, whose expression rows `expression_rows` starts with. Fills `columns`, which is all 0,
+// with the column rows, unless 12 to 14 refuse.
+pub fn judge_into_columns(
+    head: Head,
+    expression_rows: &[u64],
+    relation_entries: &[u16],
+    project_entries: &[u16],
+    relations: &[u16],
+    comparisons: &[u16],
+    queries: &[u16],
+    kinds: &[u16],
+    columns: &mut [u64],
+) -> Verdict
+    requires { ⌜ ColumnsReadable 256 head (now «expression_rows») (now «relation_entries») (now «project_entries») (now relations) (now comparisons)
+        (now queries) (now kinds) (now columns) ⌝ }
+    ensures { λ v.
+        ⌜ ((T : Tables)
+        → JudgeReads T head (now («expression_rows» .entry)) (now («relation_entries» .entry)) (now («project_entries» .entry))
+        (now (relations .entry)) (now (comparisons .entry)) (now (queries .entry)) (now (kinds .entry))
+        → ColumnsJudged T v (now (columns .entry)) (now (columns .exit))) ⌝ }
+{
+    if queries.len() / 4 <= Limits::SMALL {
+        return judge_few_queries(
+            head,
+            expression_rows,
+            relation_entries,
+            project_entries,
+            relations,
+            comparisons,
+            queries,
+            kinds,
+            columns,
+        );
+    }
+    judge_many_queries(
+        head,
+        expression_rows,
+        relation_entries,
+        project_entries,
+        relations,
+        comparisons,
+        queries,
+        kinds,
+        columns,
+    )
+}
+
+// ---- whole tables
 
 // The answer of the checks, and the permitted configurations.
 pub struct Judgement {
@@ -148,14 +238,43 @@ pub struct Judgement {
     pub permitted: Row,
 }
 
-// The words of the expression rows and of the reach rows of small tables.
-const SMALL_WORDS: usize = AttributeSet::SMALL * Row::WORDS;
+// Fills `expression_rows` with the expression rows of whole tables, splits table 1 where the lists of the relations end, and judges.
+fn fill_and_judge(
+    head: Head,
+    expressions: &[u16],
+    entries: &[u16],
+    relations: &[u16],
+    comparisons: &[u16],
+    queries: &[u16],
+    kinds: &[u16],
+    expression_rows: &mut [u64],
+    columns: &mut [u64],
+) -> Verdict
+    requires { ⌜ TablesFillable (tablesUnder head (now expressions) (now entries) (now relations) (now comparisons) (now queries) (now kinds)) (now «expression_rows») (now columns) ⌝ }
+    ensures { λ v.
+        ⌜ TablesFilled
+        (tablesUnder head (now (expressions .entry)) (now (entries .entry)) (now (relations .entry)) (now (comparisons .entry))
+        (now (queries .entry)) (now (kinds .entry)))
+        v (now («expression_rows» .entry)) (now (columns .entry)) (now («expression_rows» .exit)) (now (columns .exit)) ⌝ }
+{
+    fill_expression_rows(head.features, expressions, &mut *expression_rows);
+    let split = relations_end(relations) * 2;
+    judge_into_columns(
+        head,
+        &*expression_rows,
+        &entries[..split],
+        &entries[split..],
+        relations,
+        comparisons,
+        queries,
+        kinds,
+        columns,
+    )
+}
 
-// Judges small tables, with expression rows and reach rows of its own.
-fn judge_small(
-    n: usize,
-    m: usize,
-    model: usize,
+// The same with expression rows of its own, of tables with few expressions.
+fn judge_few_expressions(
+    head: Head,
     expressions: &[u16],
     entries: &[u16],
     relations: &[u16],
@@ -164,42 +283,34 @@ fn judge_small(
     kinds: &[u16],
     columns: &mut [u64],
 ) -> Judgement
-    requires { ⌜ SizeJudgeable 16
-        (tablesOf n m model (now expressions) (now entries) (now relations) (now comparisons) (now queries) (now kinds))
-        (now columns) ⌝ }
+    requires { ⌜ TablesReadable 16 (tablesUnder head (now expressions) (now entries) (now relations) (now comparisons) (now queries) (now kinds)) (now columns) ⌝ }
     ensures { λ j.
-        ⌜ ColumnsJudged
-        (tablesOf n m model (now (expressions .entry)) (now (entries .entry)) (now (relations .entry)) (now (comparisons .entry))
+        ⌜ TablesJudged
+        (tablesUnder head (now (expressions .entry)) (now (entries .entry)) (now (relations .entry)) (now (comparisons .entry))
         (now (queries .entry)) (now (kinds .entry)))
         (j .verdict) (j .permitted .words) (now (columns .entry)) (now (columns .exit)) ⌝ }
 {
-    let mut conditions = [0; SMALL_WORDS];
-    let mut reach = [0; SMALL_WORDS];
-    let verdict = judge_tables(
-        n,
-        m,
-        model,
+    let mut expression_rows = [0; SMALL_WORDS];
+    let verdict = fill_and_judge(
+        head,
         expressions,
         entries,
         relations,
         comparisons,
         queries,
         kinds,
-        &mut conditions,
-        &mut reach,
+        &mut expression_rows,
         columns,
     );
     Judgement {
         verdict: verdict,
-        permitted: Row::load(&conditions, model),
+        permitted: Row::load(&expression_rows, head.model),
     }
 }
 
-// Judges tables of any size, with expression rows and reach rows of its own.
-fn judge_large(
-    n: usize,
-    m: usize,
-    model: usize,
+// The same of tables with any number of expressions.
+fn judge_many_expressions(
+    head: Head,
     expressions: &[u16],
     entries: &[u16],
     relations: &[u16],
@@ -208,42 +319,34 @@ fn judge_large(
     kinds: &[u16],
     columns: &mut [u64],
 ) -> Judgement
-    requires { ⌜ SizeJudgeable 256
-        (tablesOf n m model (now expressions) (now entries) (now relations) (now comparisons) (now queries) (now kinds))
-        (now columns) ⌝ }
+    requires { ⌜ TablesReadable 256 (tablesUnder head (now expressions) (now entries) (now relations) (now comparisons) (now queries) (now kinds)) (now columns) ⌝ }
     ensures { λ j.
-        ⌜ ColumnsJudged
-        (tablesOf n m model (now (expressions .entry)) (now (entries .entry)) (now (relations .entry)) (now (comparisons .entry))
+        ⌜ TablesJudged
+        (tablesUnder head (now (expressions .entry)) (now (entries .entry)) (now (relations .entry)) (now (comparisons .entry))
         (now (queries .entry)) (now (kinds .entry)))
         (j .verdict) (j .permitted .words) (now (columns .entry)) (now (columns .exit)) ⌝ }
 {
-    let mut conditions = [0; EXPRESSION_WORDS];
-    let mut reach = [0; REACH_WORDS];
-    let verdict = judge_tables(
-        n,
-        m,
-        model,
+    let mut expression_rows = [0; EXPRESSION_WORDS];
+    let verdict = fill_and_judge(
+        head,
         expressions,
         entries,
         relations,
         comparisons,
         queries,
         kinds,
-        &mut conditions,
-        &mut reach,
+        &mut expression_rows,
         columns,
     );
     Judgement {
         verdict: verdict,
-        permitted: Row::load(&conditions, model),
+        permitted: Row::load(&expression_rows, head.model),
     }
 }
 
-// Checks 12 to 19 and 25 of tables that have passed 1 to 10 and 24. Fills `columns`, which is all 0, with the column rows, unless 12 to 14 refuse.
-pub fn judge_columns(
-    n: usize,
-    m: usize,
-    model: usize,
+// Checks 12 to 19 and 25 of whole tables that have passed the form checks. Fills `columns`, which is all 0, with the column rows, unless 12 to 14 refuse.
+pub fn judge_tables_into_columns(
+    head: Head,
     expressions: &[u16],
     entries: &[u16],
     relations: &[u16],
@@ -252,20 +355,16 @@ pub fn judge_columns(
     kinds: &[u16],
     columns: &mut [u64],
 ) -> Judgement
-    requires { ⌜ ColumnsJudgeable
-        (tablesOf n m model (now expressions) (now entries) (now relations) (now comparisons) (now queries) (now kinds))
-        (now columns) ⌝ }
+    requires { ⌜ TablesReadable 256 (tablesUnder head (now expressions) (now entries) (now relations) (now comparisons) (now queries) (now kinds)) (now columns) ⌝ }
     ensures { λ j.
-        ⌜ ColumnsJudged
-        (tablesOf n m model (now (expressions .entry)) (now (entries .entry)) (now (relations .entry)) (now (comparisons .entry))
+        ⌜ TablesJudged
+        (tablesUnder head (now (expressions .entry)) (now (entries .entry)) (now (relations .entry)) (now (comparisons .entry))
         (now (queries .entry)) (now (kinds .entry)))
         (j .verdict) (j .permitted .words) (now (columns .entry)) (now (columns .exit)) ⌝ }
 {
-    if expressions.len() / 3 <= AttributeSet::SMALL && queries.len() / 4 <= AttributeSet::SMALL {
-        return judge_small(
-            n,
-            m,
-            model,
+    if expressions.len() / 3 <= Limits::SMALL {
+        return judge_few_expressions(
+            head,
             expressions,
             entries,
             relations,
@@ -275,10 +374,8 @@ pub fn judge_columns(
             columns,
         );
     }
-    judge_large(
-        n,
-        m,
-        model,
+    judge_many_expressions(
+        head,
         expressions,
         entries,
         relations,
@@ -291,10 +388,8 @@ pub fn judge_columns(
 
 // Checks 1 to 10, 24, 12 to 19 and 25. Fills `columns`, which is all 0, with the column rows, unless 1 to 10, 24 or 12 to 14 refuse. No configuration is
 // permitted where 1 to 10 or 24 refuse.
-pub fn typed_columns(
-    n: usize,
-    m: usize,
-    model: usize,
+pub fn check_into_columns(
+    head: Head,
     expressions: &[u16],
     entries: &[u16],
     relations: &[u16],
@@ -305,15 +400,13 @@ pub fn typed_columns(
 ) -> Judgement
     requires { ⌜ now columns ≡ replicate 1024 0 ⌝ }
     ensures { λ j.
-        ⌜ ColumnsTyped
-        (tablesOf n m model (now (expressions .entry)) (now (entries .entry)) (now (relations .entry)) (now (comparisons .entry))
+        ⌜ ColumnsChecked
+        (tablesUnder head (now (expressions .entry)) (now (entries .entry)) (now (relations .entry)) (now (comparisons .entry))
         (now (queries .entry)) (now (kinds .entry)))
         (j .verdict) (j .permitted .words) (now (columns .entry)) (now (columns .exit)) ⌝ }
 {
     let form = check_forms(
-        n,
-        m,
-        model,
+        head,
         expressions,
         entries,
         relations,
@@ -327,10 +420,8 @@ pub fn typed_columns(
             permitted: Row::empty(),
         };
     }
-    judge_columns(
-        n,
-        m,
-        model,
+    judge_tables_into_columns(
+        head,
         expressions,
         entries,
         relations,
@@ -341,32 +432,29 @@ pub fn typed_columns(
     )
 }
 
-// Checks 1 to 10, 24, 12 to 19 and 25, with the rows that they fill.
-pub fn typed(
-    n: usize,
-    m: usize,
-    model: usize,
+// The same with all rows in words that the caller lends: fills `expression_rows` with the expression rows too.
+pub fn check_into_rows(
+    head: Head,
     expressions: &[u16],
     entries: &[u16],
     relations: &[u16],
     comparisons: &[u16],
     queries: &[u16],
     kinds: &[u16],
-    conditions: &mut [u64],
+    expression_rows: &mut [u64],
     reach: &mut [u64],
     columns: &mut [u64],
 ) -> Verdict
-    requires { ⌜ RowsLent (now conditions) (now reach) (now columns) ⌝ }
+    requires { ⌜ RowsLent (now «expression_rows») (now reach) (now columns) ⌝ }
     ensures { λ v.
-        ⌜ Typed
-        (tablesOf n m model (now (expressions .entry)) (now (entries .entry)) (now (relations .entry)) (now (comparisons .entry))
+        ⌜ RowsChecked
+        (tablesUnder head (now (expressions .entry)) (now (entries .entry)) (now (relations .entry)) (now (comparisons .entry))
         (now (queries .entry)) (now (kinds .entry)))
-        v (now (conditions .entry)) (now (reach .entry)) (now (columns .entry)) (now (conditions .exit)) (now (reach .exit)) (now (columns .exit)) ⌝ }
+        v (now («expression_rows» .entry)) (now (reach .entry)) (now (columns .entry)) (now («expression_rows» .exit)) (now (reach .exit))
+        (now (columns .exit)) ⌝ }
 {
     let form = check_forms(
-        n,
-        m,
-        model,
+        head,
         expressions,
         entries,
         relations,
@@ -377,17 +465,17 @@ pub fn typed(
     if let Verdict::Refused(_) = form {
         return form;
     }
-    judge_tables(
-        n,
-        m,
-        model,
-        expressions,
-        entries,
+    fill_expression_rows(head.features, expressions, &mut *expression_rows);
+    let end = relations_end(relations) * 2;
+    judge_into_rows(
+        head,
+        &*expression_rows,
+        &entries[..end],
+        &entries[end..],
         relations,
         comparisons,
         queries,
         kinds,
-        conditions,
         reach,
         columns,
     )

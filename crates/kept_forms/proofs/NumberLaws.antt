@@ -42,12 +42,12 @@ plain-operands (Operands.Both a b) h = refl
 plain-operands (Operands.Choice e a b) h = absurd (miss plainKinds 3 tt h)
 
 -- that of a choice is the number of the alternative that it takes
-module _ {T : Tables} {conditions : List ℕ} {c : ℕ} {numbers : List ℕ} {to : Operands} (R : TargetReads T conditions c numbers to) {e a b : ℕ}
+module _ {T : Tables} {expressionRows : List ℕ} {c : ℕ} {numbers : List ℕ} {to : Operands} (R : TargetReads T expressionRows c numbers to) {e a b : ℕ}
     (w : to ≡ Operands.Choice e a b) where
-  pub choice-rowed : (e * 16 + 16 ≤ length conditions) × (c < 1024)
+  pub choice-rowed : (e * 16 + 16 ≤ length expressionRows) × (c < 1024)
   choice-rowed = rowed (R .reads) (R .lower e a b w .0)
 
-  module _ {k : ℕ} (p : k ≡ cond (rowBit (rowIn 16 conditions e) c) a b) where
+  module _ {k : ℕ} (p : k ≡ cond (rowBit (rowIn 16 expressionRows e) c) a b) where
     pub choice-in : k < length numbers
     choice-in = let l = R .lower e a b w in taken-in (R .reads) (l .0) (l .1, l .2) p
 
@@ -57,19 +57,19 @@ module _ {T : Tables} {conditions : List ℕ} {c : ℕ} {numbers : List ℕ} {to
         rw w (ap (λ (j : ℕ). getD numbers j 0) (taken-is (R .reads) (l .0) (l .1, l .2) p))
 
 -- form k of a table of T refers to these forms, where `target` says where references to the forms of the table lead
-pub record FormTo (T : Tables) (conditions : List ℕ) (c : ℕ) (target : ℕ → ℕ) (k : ℕ) (to : Operands) : Type 0 where
-  pub reads : AtReads T conditions c
+pub record FormTo (T : Tables) (expressionRows : List ℕ) (c : ℕ) (target : ℕ → ℕ) (k : ℕ) (to : Operands) : Type 0 where
+  pub reads : AtReads T expressionRows c
   pub few : k < 256
   pub below : OperandsBelow k to
-  pub conditioned : (e a b : ℕ) → to ≡ Operands.Choice e a b → e < expressionCount T
+  pub expressionIn : (e a b : ℕ) → to ≡ Operands.Choice e a b → e < expressionCount T
   pub leads : target k ≡ targetOf T c target k to
 
-module _ {T : Tables} {conditions : List ℕ} {c : ℕ} {target : ℕ → ℕ} {k : ℕ} {to : Operands} (F : FormTo T conditions c target k to) where
+module _ {T : Tables} {expressionRows : List ℕ} {c : ℕ} {target : ℕ → ℕ} {k : ℕ} {to : Operands} (F : FormTo T expressionRows c target k to) where
   -- its number can be read, where the forms below it have numbers
-  target-reads : {numbers : List ℕ} → k ≤ length numbers → TargetReads T conditions c numbers to
+  target-reads : {numbers : List ℕ} → k ≤ length numbers → TargetReads T expressionRows c numbers to
   target-reads m = record {
     reads = F .reads;
-    lower = λ e a b w. let l = rw w at (F .below) in (F .conditioned e a b w, omega arith, omega arith);
+    lower = λ e a b w. let l = rw w at (F .below) in (F .expressionIn e a b w, omega arith, omega arith);
   }
 
   -- and is its new number, where `number` has those of the forms below it, and `count` of these are kept
@@ -105,12 +105,12 @@ module _ {Reads : Tables → Type 0} {target : Tables → ℕ → ℕ} {keep : T
     numbering-few {T} R = omega (arith, S .counted T R, count-le (keep T) k)
 
     -- the next form
-    module _ (room : n ≤ length lent) (h : k < n) {conditions : List ℕ} {c : ℕ} {to : Operands}
-        (F : (T : Tables) → Reads T → FormTo T conditions c (target T) k to) where
-      next-reads : {T : Tables} → Reads T → TargetReads T conditions c numbers to
+    module _ (room : n ≤ length lent) (h : k < n) {expressionRows : List ℕ} {c : ℕ} {to : Operands}
+        (F : (T : Tables) → Reads T → FormTo T expressionRows c (target T) k to) where
+      next-reads : {T : Tables} → Reads T → TargetReads T expressionRows c numbers to
       next-reads {T} R = target-reads (F T R) (let p = filling-place (S .filling) room h in omega arith)
 
-      pub numbering-read : {T : Tables} → Reads T → TargetReadable conditions c numbers count to
+      pub numbering-read : {T : Tables} → Reads T → TargetReadable expressionRows c numbers count to
       numbering-read {T} R = record {
         tables = T;
         reads = next-reads R;
@@ -118,7 +118,7 @@ module _ {Reads : Tables → Type 0} {target : Tables → ℕ → ℕ} {keep : T
       }
 
       pub numbering-more : {v s : ℕ}
-          → ((T : Tables) → TargetReads T conditions c numbers to → v ≡ targetOf T c (λ j. getD numbers j 0) count to)
+          → ((T : Tables) → TargetReads T expressionRows c numbers to → v ≡ targetOf T c (λ j. getD numbers j 0) count to)
           → ((T : Tables) → Reads T → s ≡ cond (keep T k) 1 0) → Numbering Reads target keep n lent (set numbers k v) (count + s) (k + 1)
       numbering-more e p = record {
         filling =
@@ -138,12 +138,12 @@ module _ {comparisons t : List ℕ} (is : comparisons ≡ t) (f : ℕ) where
   pub comparison-is : {x : Comparison} → x ≡ comparison comparisons f → x ≡ comparison t f
   comparison-is e = e ∙ ap (λ (l : List ℕ). comparison l f) is
 
-module _ {T : Tables} {conditions comparisons : List ℕ} {c : ℕ} (R : ComparisonReads T conditions comparisons c) {f : ℕ}
+module _ {T : Tables} {expressionRows comparisons : List ℕ} {c : ℕ} (R : ComparisonReads T expressionRows comparisons c) {f : ℕ}
     (h : f < length comparisons / 5) {x : Comparison} (e : x ≡ comparison comparisons f) {to : Operands} (o : to ≡ comparisonOperands x) where
   comparison-refers : to ≡ comparisonOperands (comparison (T .comparisons) f)
   comparison-refers = o ∙ ap comparisonOperands (comparison-is (R .comparisonsAre) f e)
 
-  pub comparison-to : FormTo T conditions c (comparisonTarget T c) f to
+  pub comparison-to : FormTo T expressionRows c (comparisonTarget T c) f to
   comparison-to =
       let F = R .reads .formed in
       let k = comparison-in (R .comparisonsAre) f h in
@@ -151,7 +151,7 @@ module _ {T : Tables} {conditions comparisons : List ℕ} {c : ℕ} (R : Compari
         reads = R .reads;
         few = let m = F .sized3 .fits in omega arith;
         below = rw comparison-refers (comparison-operands F f k);
-        conditioned = λ e a b w. (rw (choice-comparison (comparison (T .comparisons) f) (sym comparison-refers ∙ w)) at (comparison-at F f k)) .0;
+        expressionIn = λ e a b w. (rw (choice-comparison (comparison (T .comparisons) f) (sym comparison-refers ∙ w)) at (comparison-at F f k)) .0;
         leads = comparison-target-in F c f k ∙ ap (targetOf T c (comparisonTarget T c) f) (sym comparison-refers);
       }
 
@@ -160,13 +160,13 @@ module _ {T : Tables} {conditions comparisons : List ℕ} {c : ℕ} (R : Compari
   comparison-counts p = p ∙ ap (λ (y : Operands). cond (not (isChoice y)) 1 0) comparison-refers
 
 -- the comparisons below f are numbered
-abbrev pub ComparisonNumbering : (conditions comparisons : List ℕ) (c : ℕ) (lent numbers : List ℕ) (count f : ℕ) → Type 0
-ComparisonNumbering conditions comparisons c =
-    Numbering (λ T. ComparisonReads T conditions comparisons c) (λ T. comparisonTarget T c) (λ T. comparisonKept T c) (length comparisons / 5)
+abbrev pub ComparisonNumbering : (expressionRows comparisons : List ℕ) (c : ℕ) (lent numbers : List ℕ) (count f : ℕ) → Type 0
+ComparisonNumbering expressionRows comparisons c =
+    Numbering (λ T. ComparisonReads T expressionRows comparisons c) (λ T. comparisonTarget T c) (λ T. comparisonKept T c) (length comparisons / 5)
 
 -- ---- the query forms
 
-module _ {T : Tables} {conditions reach queries : List ℕ} {c : ℕ} (R : QueryReads T conditions reach queries c) {q : ℕ}
+module _ {T : Tables} {expressionRows reach queries : List ℕ} {c : ℕ} (R : QueryReads T expressionRows reach queries c) {q : ℕ}
     (h : q < length queries / 4) where
   pub query-in : q < queryCount T
   query-in = rw (R .queriesAre) at h
@@ -186,7 +186,7 @@ module _ {T : Tables} {conditions reach queries : List ℕ} {c : ℕ} (R : Query
       query-refers : to ≡ queryOperands (query (T .queries) q)
       query-refers = o ∙ ap queryOperands query-is
 
-      pub query-to : FormTo T conditions c (queryTarget T c) q to
+      pub query-to : FormTo T expressionRows c (queryTarget T c) q to
       query-to =
           let F = R .reads .formed in
           let k = query-in in
@@ -194,7 +194,7 @@ module _ {T : Tables} {conditions reach queries : List ℕ} {c : ℕ} (R : Query
             reads = R .reads;
             few = let m = F .sized4 .fits in omega arith;
             below = rw query-refers (query-operands F q k);
-            conditioned = λ e a b w. (rw (choice-query (query (T .queries) q) (sym query-refers ∙ w)) at (query-at F q k)) .0;
+            expressionIn = λ e a b w. (rw (choice-query (query (T .queries) q) (sym query-refers ∙ w)) at (query-at F q k)) .0;
             leads = query-target-in F c q k ∙ ap (targetOf T c (queryTarget T c) q) (sym query-refers);
           }
 
@@ -203,6 +203,6 @@ module _ {T : Tables} {conditions reach queries : List ℕ} {c : ℕ} (R : Query
       query-counts r p = p ∙ ap₂ (λ (t : Bool) (y : Operands). cond (t && not (isChoice y)) 1 0) (r ∙ reached-at) query-refers
 
 -- the query forms below q are numbered
-abbrev pub QueryNumbering : (conditions reach queries : List ℕ) (c : ℕ) (lent numbers : List ℕ) (count q : ℕ) → Type 0
-QueryNumbering conditions reach queries c =
-    Numbering (λ T. QueryReads T conditions reach queries c) (λ T. queryTarget T c) (λ T. queryKept T c) (length queries / 4)
+abbrev pub QueryNumbering : (expressionRows reach queries : List ℕ) (c : ℕ) (lent numbers : List ℕ) (count q : ℕ) → Type 0
+QueryNumbering expressionRows reach queries c =
+    Numbering (λ T. QueryReads T expressionRows reach queries c) (λ T. queryTarget T c) (λ T. queryKept T c) (length queries / 4)

@@ -9,7 +9,7 @@ use lib.ListN.{length, getD}
 use Rattle.sets.specs.Lists.{concat}
 use Rattle.sets.specs.Rows.{rowBit, rowIn}
 use Rattle.sets.specs.Writing.{WrittenAt}
-use Rattle.sets.proofs.WritingLaws.{same-written, same-room}
+use Rattle.sets.proofs.WritingLaws.{same-written, same-room, kept-room}
 use Rattle.report.specs.Tables.{Tables, query, comparisonCount, projectLength, projectedBefore, relationsEnd, projectStart}
 use Rattle.report.specs.Typing.{reached}
 use Rattle.report.specs.Operands.{queryOperands, isChoice}
@@ -19,33 +19,33 @@ use Rattle.report.specs.declared.Query.{Query}
 use Rattle.report.proofs.FormedFacts.{query-at}
 use Rattle.at_configuration.specs.AtConfiguration.{ListReads, ListReadable, PresentReads, PresentReadable}
 use Rattle.at_configuration.proofs.ListLaws.{form-lower, form-list}
-use Rattle.kept_lists.proofs.StepLaws.{Keeping, keeping-none, keeping-room, keeping-more, keeping-all, keeping-length}
+use Rattle.kept_lists.proofs.BlockLaws.{Keeping, keeping-none, keeping-room, keeping-more, keeping-all, keeping-length}
 use Rattle.kept_forms.specs.Numbering.{queryForms, QueryFormReads, QueryFormWritable}
-use Rattle.kept_forms.specs.FormWords.{queryWords, FormReads, SomeForm}
+use Rattle.kept_forms.specs.FormWords.{queryWords, FormReads, QueryWritable}
 use Rattle.kept_forms.proofs.NumberLaws.{query-in, query-is, reached-at}
 
 -- ---- what the words of one form are made of can be read
 
-module _ {T : Tables} {q : ℕ} {conditions entries relations : List ℕ} {c start : ℕ} {x : Query}
-    (A : FormReads T q conditions entries relations c start x) where
-  pub relation-reads : PresentReads T conditions relations c
+module _ {T : Tables} {q : ℕ} {expressionRows entries relations : List ℕ} {c start : ℕ} {x : Query}
+    (A : FormReads T q expressionRows entries relations c start x) where
+  pub relation-reads : PresentReads T expressionRows relations c
   relation-reads = record { reads = A .at .reads; relationsAre = A .relationsAre }
 
-  pub project-reads : {n b : ℕ} → x ≡ Query.Project n b → ListReads T (relationsEnd T) conditions entries c start n
+  pub project-reads : {n b : ℕ} → x ≡ Query.Project n b → ListReads T (relationsEnd T) expressionRows entries c start n
   project-reads e = form-list (A .at) (sym (ap projectLength e))
 
-module _ {keep : Bool} {conditions entries relations : List ℕ} {c start : ℕ} {comparisonNumbers queryNumbers : List ℕ} {x : Query} {out : List ℕ}
+module _ {expressionRows entries relations : List ℕ} {c start : ℕ} {comparisonNumbers queryNumbers : List ℕ} {x : Query} {out : List ℕ}
     {at : ℕ}
-    (A : SomeForm keep conditions entries relations c start comparisonNumbers queryNumbers x out at) where
-  pub some-relation : {a : ℕ} → x ≡ Query.Relation a → PresentReadable conditions relations c a
-  some-relation e = record {
+    (A : QueryWritable expressionRows entries relations c start comparisonNumbers queryNumbers x out at) where
+  pub relation-readable : {a : ℕ} → x ≡ Query.Relation a → PresentReadable expressionRows relations c a
+  relation-readable e = record {
     tables = A .tables;
     reads = relation-reads (A .reads);
     few = let l = rw e at (form-lower (A .reads .at)) in omega arith;
   }
 
-  pub some-project : {n b : ℕ} → x ≡ Query.Project n b → ListReadable conditions entries c start n
-  some-project e = record { tables = A .tables; offset = relationsEnd (A .tables); reads = project-reads (A .reads) e }
+  pub project-readable : {n b : ℕ} → x ≡ Query.Project n b → ListReadable expressionRows entries c start n
+  project-readable e = record { tables = A .tables; offset = relationsEnd (A .tables); reads = project-reads (A .reads) e }
 
 -- the same words, the second under another name
 pub same-second : {kind a a′ b p : ℕ} {o o′ : List ℕ} {at : ℕ} → a ≡ a′ → WrittenAt (kind ∷ a ∷ b ∷ 0 ∷ []) o at o′ p
@@ -80,8 +80,8 @@ module _ (T : Tables) (c : ℕ) where
     query-words true (Query.Union a b) l = pair 6 (l .first .lower) (l .second .lower)
     query-words true (Query.Intersection a b) l = pair 7 (l .first .lower) (l .second .lower)
 
-module _ {T : Tables} {conditions reach entries relations queries : List ℕ} {c : ℕ} {comparisonNumbers queryNumbers : List ℕ}
-    (R : QueryFormReads T conditions reach entries relations queries c comparisonNumbers queryNumbers) where
+module _ {T : Tables} {expressionRows reach entries relations queries : List ℕ} {c : ℕ} {comparisonNumbers queryNumbers : List ℕ}
+    (R : QueryFormReads T expressionRows reach entries relations queries c comparisonNumbers queryNumbers) where
   -- what all query forms write, one after another
   query-text : queryForms T c ≡ concat (length queries / 4) (queryPart T c)
   unfolding queryForms
@@ -91,7 +91,7 @@ module _ {T : Tables} {conditions reach entries relations queries : List ℕ} {c
     here : start ≡ projectedBefore (T .queries) q
     here = starts ∙ ap (λ (t : List ℕ). projectedBefore t q) (R .reads .queriesAre)
 
-    form-reads : FormReads T q conditions entries relations c start x
+    form-reads : FormReads T q expressionRows entries relations c start x
     form-reads = record {
       at = record {
         reads = R .reads .reads;
@@ -116,41 +116,42 @@ module _ {T : Tables} {conditions reach entries relations queries : List ℕ} {c
 -- ---- the loop over the query forms
 
 -- what those below q write stands at the front, up to p, and the list of the next project starts at `start`
-pub record QueryWriting (conditions reach entries relations queries : List ℕ) (c : ℕ) (comparisonNumbers queryNumbers first out : List ℕ)
+pub record QueryWriting (expressionRows reach entries relations queries : List ℕ) (c : ℕ) (comparisonNumbers queryNumbers first out : List ℕ)
     (q start p : ℕ) : Type 0 where
-  pub keeping : Keeping (λ T. QueryFormReads T conditions reach entries relations queries c comparisonNumbers queryNumbers) (λ T. queryPart T c)
+  pub keeping : Keeping (λ T. QueryFormReads T expressionRows reach entries relations queries c comparisonNumbers queryNumbers) (λ T. queryPart T c)
       (length queries / 4) first 0 out q p
   pub starts : start ≡ projectedBefore queries q
 
-module _ {conditions reach entries relations queries : List ℕ} {c : ℕ} {comparisonNumbers queryNumbers first : List ℕ} where
-  pub query-forms-none : QueryWriting conditions reach entries relations queries c comparisonNumbers queryNumbers first first 0 0 0
+module _ {expressionRows reach entries relations queries : List ℕ} {c : ℕ} {comparisonNumbers queryNumbers first : List ℕ} where
+  pub query-forms-none : QueryWriting expressionRows reach entries relations queries c comparisonNumbers queryNumbers first first 0 0 0
   query-forms-none = record { keeping = keeping-none; starts = refl }
 
   module _ {out : List ℕ} {q start p : ℕ}
-      (S : QueryWriting conditions reach entries relations queries c comparisonNumbers queryNumbers first out q start p) where
+      (S : QueryWriting expressionRows reach entries relations queries c comparisonNumbers queryNumbers first out q start p) where
     module _ (h : q < length queries / 4) {x : Query} (e : x ≡ query queries q) where
-      pub query-forms-small : QueryFormWritable conditions reach entries relations queries c comparisonNumbers queryNumbers first
+      pub query-forms-small : QueryFormWritable expressionRows reach entries relations queries c comparisonNumbers queryNumbers first
           → start + projectLength x ≤ length entries / 2
       query-forms-small A = form-list (form-reads (A .reads) (S .starts) h e .at) refl .lies
 
       module _ {b : Bool} (r : b ≡ rowBit (rowIn 16 reach q) c) where
-        pub query-forms-read : QueryFormWritable conditions reach entries relations queries c comparisonNumbers queryNumbers first
-            → SomeForm b conditions entries relations c start comparisonNumbers queryNumbers x out p
-        query-forms-read A = record {
+        pub query-forms-read : QueryFormWritable expressionRows reach entries relations queries c comparisonNumbers queryNumbers first → b ≡ true
+            → QueryWritable expressionRows entries relations c start comparisonNumbers queryNumbers x out p
+        query-forms-read A f = record {
           tables = A .tables;
           form = q;
           reads = form-reads (A .reads) (S .starts) h e;
           compared = A .reads .comparisonsNumbered .room;
           below = let m = A .reads .queriesNumbered .room in let k = query-in (A .reads .reads) h in omega arith;
           room =
-              same-room (part-is (A .reads) (S .starts) h e r)
-              (keeping-room (S .keeping) (A .reads) (same-room (query-text (A .reads)) (A .room)) h);
+              kept-room _ f
+              (same-room (part-is (A .reads) (S .starts) h e r)
+              (keeping-room (S .keeping) (A .reads) (same-room (query-text (A .reads)) (A .room)) h));
         }
 
         pub query-forms-more : {o : List ℕ} {n s : ℕ}
-            → ((T : Tables) (k : ℕ) → FormReads T k conditions entries relations c start x
+            → ((T : Tables) (k : ℕ) → FormReads T k expressionRows entries relations c start x
             → WrittenAt (cond b (queryWords T c start comparisonNumbers queryNumbers x) []) out p o n)
-            → s ≡ projectLength x → QueryWriting conditions reach entries relations queries c comparisonNumbers queryNumbers first o (q + 1)
+            → s ≡ projectLength x → QueryWriting expressionRows reach entries relations queries c comparisonNumbers queryNumbers first o (q + 1)
             (start + s) n
         query-forms-more w y = record {
           keeping =
@@ -158,11 +159,11 @@ module _ {conditions reach entries relations queries : List ℕ} {c : ℕ} {comp
           starts = ap₂ _+_ (S .starts) (y ∙ ap projectLength e) ∙ ap (projectedBefore queries) (sym (add-one q));
         }
 
-    pub query-forms-long : QueryFormWritable conditions reach entries relations queries c comparisonNumbers queryNumbers first
+    pub query-forms-long : QueryFormWritable expressionRows reach entries relations queries c comparisonNumbers queryNumbers first
         → length out ≡ length first
     query-forms-long A = keeping-length (S .keeping) (A .reads)
 
     pub query-forms-all : length queries / 4 ≤ q → (T : Tables)
-        → QueryFormReads T conditions reach entries relations queries c comparisonNumbers queryNumbers
+        → QueryFormReads T expressionRows reach entries relations queries c comparisonNumbers queryNumbers
         → WrittenAt (queryForms T c) first 0 out p
     query-forms-all h T R = same-written (query-text R) (keeping-all (S .keeping) h T R)

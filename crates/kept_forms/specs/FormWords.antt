@@ -1,7 +1,6 @@
 -- What the private functions do: the number of one form, and its words with the new numbers. proofs/ ties these to the definitions.
 use Prim.Native.Nat.{ℕ, _+_, _<_, _≤_}
 use mathlib.Core.Path.{_≡_}
-use mathlib.Core.Bool.{Bool, cond}
 use mathlib.Core.List.{List, [], _∷_}
 use lib.ListN.{length, getD}
 use Rattle.sets.specs.Writing.{Room}
@@ -16,13 +15,13 @@ use Rattle.at_configuration.specs.AtConfiguration.{AtReads, FormAt}
 -- ---- the number of one form
 
 -- a form of tables T that refers to these forms: of a choice the expression is one of T, and the alternatives have numbers
-pub record TargetReads (T : Tables) (conditions : List ℕ) (c : ℕ) (numbers : List ℕ) (to : Operands) : Type 0 where
-  pub reads : AtReads T conditions c
+pub record TargetReads (T : Tables) (expressionRows : List ℕ) (c : ℕ) (numbers : List ℕ) (to : Operands) : Type 0 where
+  pub reads : AtReads T expressionRows c
   pub lower : (e a b : ℕ) → to ≡ Operands.Choice e a b → (e < expressionCount T) × (a < length numbers) × (b < length numbers)
 
-pub record TargetReadable (conditions : List ℕ) (c : ℕ) (numbers : List ℕ) (kept : ℕ) (to : Operands) : Type 0 where
+pub record TargetReadable (expressionRows : List ℕ) (c : ℕ) (numbers : List ℕ) (kept : ℕ) (to : Operands) : Type 0 where
   pub tables : Tables
-  pub reads : TargetReads tables conditions c numbers to
+  pub reads : TargetReads tables expressionRows c numbers to
   pub few : kept < 65536
 
 -- ---- the words of one comparison
@@ -87,17 +86,17 @@ pub record QueryPairWritable (queryNumbers : List ℕ) (kind a b : ℕ) (out : L
   pub room : Room (kind ∷ getD queryNumbers a 0 ∷ getD queryNumbers b 0 ∷ 0 ∷ []) out at
 
 -- besides the form and the project forms' entries, table 2
-pub record FormReads (T : Tables) (q : ℕ) (conditions entries relations : List ℕ) (c start : ℕ) (x : Query) : Type 0 where
-  pub at : FormAt T q conditions entries c start x
+pub record FormReads (T : Tables) (q : ℕ) (expressionRows entries relations : List ℕ) (c start : ℕ) (x : Query) : Type 0 where
+  pub at : FormAt T q expressionRows entries c start x
   pub relationsAre : relations ≡ T .relations
 
--- the comparisons, and the forms below it, have numbers, and there is room for its words if it is kept
-pub record SomeForm (keep : Bool) (conditions entries relations : List ℕ) (c start : ℕ) (comparisonNumbers queryNumbers : List ℕ) (x : Query)
+-- the comparisons, and the forms below it, have numbers, and there is room for its words
+pub record QueryWritable (expressionRows entries relations : List ℕ) (c start : ℕ) (comparisonNumbers queryNumbers : List ℕ) (x : Query)
     (out : List ℕ) (at : ℕ)
     : Type 0 where
   pub tables : Tables
   pub form : ℕ
-  pub reads : FormReads tables form conditions entries relations c start x
+  pub reads : FormReads tables form expressionRows entries relations c start x
   pub compared : comparisonCount tables ≤ length comparisonNumbers
   pub below : form ≤ length queryNumbers
-  pub room : Room (cond keep (queryWords tables c start comparisonNumbers queryNumbers x) []) out at
+  pub room : Room (queryWords tables c start comparisonNumbers queryNumbers x) out at

@@ -8,7 +8,7 @@ use Rattle.sets.specs.Writing.{Room}
 use Rattle.report.specs.Tables.{Tables, comparison, query, comparisonCount, queryCount, entriesOfProjects}
 use Rattle.report.specs.Configuring.{comparisonKept, queryKept, newComparison, newQuery, comparisonFormOf, queryFormOf}
 use Rattle.report.specs.Formed.{Formed}
-use Rattle.conditions.specs.Conditions.{ReachFilled}
+use Rattle.expression_rows.specs.ExpressionRows.{ReachFilled}
 use Rattle.at_configuration.specs.AtConfiguration.{AtReads}
 
 -- ---- what is written, of tables T at configuration c: parts of `configured`
@@ -35,27 +35,27 @@ pub record ComparisonFormWritable (comparisons numbers out : List ℕ) : Type 0 
   pub room : Room (comparisonForms tables configuration) out 0
 
 -- table 4, at a configuration, with the configurations that reach each form
-pub record QueryReads (T : Tables) (conditions reach queries : List ℕ) (c : ℕ) : Type 0 where
-  pub reads : AtReads T conditions c
+pub record QueryReads (T : Tables) (expressionRows reach queries : List ℕ) (c : ℕ) : Type 0 where
+  pub reads : AtReads T expressionRows c
   pub reaching : ReachFilled T reach
   pub queriesAre : queries ≡ T .queries
 
-pub record QueryNumberable (conditions reach queries : List ℕ) (c : ℕ) (numbers : List ℕ) : Type 0 where
+pub record QueryNumberable (expressionRows reach queries : List ℕ) (c : ℕ) (numbers : List ℕ) : Type 0 where
   pub tables : Tables
-  pub reads : QueryReads tables conditions reach queries c
+  pub reads : QueryReads tables expressionRows reach queries c
   pub room : length queries / 4 ≤ length numbers
 
 -- besides, the project forms' entries, table 2 and the new numbers
-pub record QueryFormReads (T : Tables) (conditions reach entries relations queries : List ℕ) (c : ℕ)
+pub record QueryFormReads (T : Tables) (expressionRows reach entries relations queries : List ℕ) (c : ℕ)
     (comparisonNumbers queryNumbers : List ℕ) : Type 0 where
-  pub reads : QueryReads T conditions reach queries c
+  pub reads : QueryReads T expressionRows reach queries c
   pub entriesAre : entries ≡ entriesOfProjects T
   pub relationsAre : relations ≡ T .relations
   pub comparisonsNumbered : NumbersAre (comparisonCount T) (newComparison T c) comparisonNumbers
   pub queriesNumbered : NumbersAre (queryCount T) (newQuery T c) queryNumbers
 
-pub record QueryFormWritable (conditions reach entries relations queries : List ℕ) (c : ℕ)
+pub record QueryFormWritable (expressionRows reach entries relations queries : List ℕ) (c : ℕ)
     (comparisonNumbers queryNumbers out : List ℕ) : Type 0 where
   pub tables : Tables
-  pub reads : QueryFormReads tables conditions reach entries relations queries c comparisonNumbers queryNumbers
+  pub reads : QueryFormReads tables expressionRows reach entries relations queries c comparisonNumbers queryNumbers
   pub room : Room (queryForms tables c) out 0

@@ -1,10 +1,10 @@
 // What configuring keeps of comparisons and queries at one configuration, with their new numbers, written into lent tables.
 use at_configuration::holds_at;
 use at_configuration::taken_at;
-use decoders::comparison_at;
 use decoders::comparison_operands;
+use decoders::decode_comparison;
+use decoders::decode_query;
 use decoders::project_length;
-use decoders::query_at;
 use decoders::query_operands;
 use kept_lists::kept_length;
 use kept_lists::new_relation;
@@ -12,7 +12,7 @@ use report::Comparison;
 use report::Operands;
 use report::Query;
 ghost use mathlib.Core.Path.{_≡_};
-ghost use mathlib.Core.Bool.{true, _&&_, cond, not};
+ghost use mathlib.Core.Bool.{_&&_, cond, not};
 ghost use mathlib.Core.List.{[], _∷_};
 ghost use Prim.Native.Nat.{ℕ, _+_};
 ghost use lib.ListN.{getD};
@@ -27,19 +27,19 @@ ghost use Rattle.kept_forms.specs.Numbering.{comparisonForms, QueryReads
 ghost use Rattle.kept_forms.specs.Numbering.{ComparisonFormReads, ComparisonFormWritable};
 ghost use Rattle.kept_forms.specs.Numbering.{queryForms, QueryFormReads, QueryFormWritable};
 ghost use Rattle.kept_forms.specs.FormWords.{AtomWritable, BothWritable, ComparisonWritable};
-ghost use Rattle.kept_forms.specs.FormWords.{OverWritable, QueryPairWritable, queryWords, FormReads, SomeForm};
+ghost use Rattle.kept_forms.specs.FormWords.{OverWritable, QueryPairWritable, queryWords, FormReads, QueryWritable};
 ghost use Rattle.kept_forms.specs.FormWords.{TargetReads, TargetReadable, comparisonWords};
 
 // The new number of what a form that refers to these forms leads to at c, where `kept` forms below it are kept and `numbers` has those of lower ones.
-fn form_number(to: Operands, conditions: &[u64], c: usize, numbers: &[u16], kept: usize) -> u16
-    requires { ⌜ TargetReadable (now conditions) c (now numbers) kept to ⌝ }
+fn form_number(to: Operands, c: usize, kept: usize, expression_rows: &[u64], numbers: &[u16]) -> u16
+    requires { ⌜ TargetReadable (now «expression_rows») c (now numbers) kept to ⌝ }
     ensures { λ r.
-        ⌜ ((T : Tables) → TargetReads T (now (conditions .entry)) c (now (numbers .entry)) to
+        ⌜ ((T : Tables) → TargetReads T (now («expression_rows» .entry)) c (now (numbers .entry)) to
         → r ≡ targetOf T c (λ k. getD (now (numbers .entry)) k 0) kept to) ⌝ }
 {
     let own = kept as u16;
     if let Operands::Choice(e, a, b) = to {
-        let taken = numbers[taken_at(conditions, c, e, a, b)];
+        let taken = numbers[taken_at(c, e, a, b, expression_rows)];
         return taken;
     }
     own
@@ -56,18 +56,23 @@ fn kept_if(reached: bool, to: Operands) -> usize
 }
 
 // The new number of what each comparison leads to at c, into `numbers`: a choice has that of the alternative it takes.
-pub fn number_comparisons(comparisons: &[u16], conditions: &[u64], c: usize, numbers: &mut [u16])
-    requires { ⌜ ComparisonNumberable (now conditions) (now comparisons) c (now numbers) ⌝ }
+pub fn number_comparisons(
+    c: usize,
+    expression_rows: &[u64],
+    comparisons: &[u16],
+    numbers: &mut [u16],
+)
+    requires { ⌜ ComparisonNumberable (now «expression_rows») (now comparisons) c (now numbers) ⌝ }
     ensures { λ _.
-        ⌜ ((T : Tables) → ComparisonReads T (now (conditions .entry)) (now (comparisons .entry)) c
+        ⌜ ((T : Tables) → ComparisonReads T (now («expression_rows» .entry)) (now (comparisons .entry)) c
         → now (numbers .exit) ≡ written (table (comparisonCount T) (newComparison T c)) (now (numbers .entry))) ⌝ }
 {
     let count = comparisons.len() / 5;
     let mut kept = 0;
     let mut f = 0;
     while f < count {
-        let to = comparison_operands(comparison_at(comparisons, f));
-        let n = form_number(to, conditions, c, &*numbers, kept);
+        let to = comparison_operands(decode_comparison(comparisons, f));
+        let n = form_number(to, c, kept, expression_rows, &*numbers);
         numbers[f] = n;
         kept += kept_if(true, to);
         f += 1;
@@ -76,23 +81,23 @@ pub fn number_comparisons(comparisons: &[u16], conditions: &[u64], c: usize, num
 
 // The new number of what each query form leads to at c, into `numbers`: a choice has that of the alternative it takes.
 pub fn number_queries(
-    queries: &[u16],
-    conditions: &[u64],
-    reach: &[u64],
     c: usize,
+    expression_rows: &[u64],
+    queries: &[u16],
+    reach: &[u64],
     numbers: &mut [u16],
 )
-    requires { ⌜ QueryNumberable (now conditions) (now reach) (now queries) c (now numbers) ⌝ }
+    requires { ⌜ QueryNumberable (now «expression_rows») (now reach) (now queries) c (now numbers) ⌝ }
     ensures { λ _.
-        ⌜ ((T : Tables) → QueryReads T (now (conditions .entry)) (now (reach .entry)) (now (queries .entry)) c
+        ⌜ ((T : Tables) → QueryReads T (now («expression_rows» .entry)) (now (reach .entry)) (now (queries .entry)) c
         → now (numbers .exit) ≡ written (table (queryCount T) (newQuery T c)) (now (numbers .entry))) ⌝ }
 {
     let count = queries.len() / 4;
     let mut kept = 0;
     let mut q = 0;
     while q < count {
-        let to = query_operands(query_at(queries, q));
-        let n = form_number(to, conditions, c, &*numbers, kept);
+        let to = query_operands(decode_query(queries, q));
+        let n = form_number(to, c, kept, expression_rows, &*numbers);
         numbers[q] = n;
         kept += kept_if(holds_at(reach, q, c), to);
         q += 1;
@@ -167,7 +172,7 @@ pub fn write_comparisons(comparisons: &[u16], numbers: &[u16], out: &mut [u16]) 
     let mut p = 0;
     let mut f = 0;
     while f < count {
-        let x = comparison_at(comparisons, f);
+        let x = decode_comparison(comparisons, f);
         p = write_comparison(x, numbers, &mut *out, p);
         f += 1;
     }
@@ -175,21 +180,27 @@ pub fn write_comparisons(comparisons: &[u16], numbers: &[u16], out: &mut [u16]) 
 }
 
 // The new number of relation a, as a word.
-fn relation_word(relations: &[u16], conditions: &[u64], c: usize, a: usize) -> u16
-    requires { ⌜ PresentReadable (now conditions) (now relations) c a ⌝ }
-    ensures { λ r. ⌜ ((T : Tables) → PresentReads T (now (conditions .entry)) (now (relations .entry)) c → r ≡ newRelation T c a) ⌝ }
+fn relation_word(c: usize, a: usize, expression_rows: &[u64], relations: &[u16]) -> u16
+    requires { ⌜ PresentReadable (now «expression_rows») (now relations) c a ⌝ }
+    ensures { λ r. ⌜ ((T : Tables) → PresentReads T (now («expression_rows» .entry)) (now (relations .entry)) c → r ≡ newRelation T c a) ⌝ }
 {
-    new_relation(relations, conditions, c, a) as u16
+    new_relation(c, a, expression_rows, relations) as u16
 }
 
 // How many of the `count` entries from `start` on hold at c, as a word.
-fn length_word(entries: &[u16], conditions: &[u64], c: usize, start: usize, count: usize) -> u16
-    requires { ⌜ ListReadable (now conditions) (now entries) c start count ⌝ }
+fn length_word(
+    c: usize,
+    start: usize,
+    count: usize,
+    expression_rows: &[u64],
+    entries: &[u16],
+) -> u16
+    requires { ⌜ ListReadable (now «expression_rows») (now entries) c start count ⌝ }
     ensures { λ r.
-        ⌜ ((T : Tables) (offset : ℕ) → ListReads T offset (now (conditions .entry)) (now (entries .entry)) c start count
+        ⌜ ((T : Tables) (offset : ℕ) → ListReads T offset (now («expression_rows» .entry)) (now (entries .entry)) c start count
         → r ≡ keptLength T c (offset + start) count) ⌝ }
 {
-    kept_length(entries, conditions, c, start, count) as u16
+    kept_length(c, start, count, expression_rows, entries) as u16
 }
 
 // Writes a query form of the kind, with two words.
@@ -228,30 +239,36 @@ fn put_pair(
 // Writes a query form that is no choice, with the new numbers of what it refers to; a project's list starts at `start`.
 fn write_query(
     x: Query,
-    project_entries: &[u16],
-    relations: &[u16],
-    conditions: &[u64],
     c: usize,
     start: usize,
+    expression_rows: &[u64],
+    project_entries: &[u16],
+    relations: &[u16],
     comparison_numbers: &[u16],
     query_numbers: &[u16],
     out: &mut [u16],
     at: usize,
 ) -> usize
-    requires { ⌜ SomeForm true (now conditions) (now «project_entries») (now relations) c start (now «comparison_numbers») (now «query_numbers») x
+    requires { ⌜ QueryWritable (now «expression_rows») (now «project_entries») (now relations) c start (now «comparison_numbers») (now «query_numbers») x
         (now out) at ⌝ }
     ensures { λ r.
-        ⌜ ((T : Tables) (q : ℕ) → FormReads T q (now (conditions .entry)) (now («project_entries» .entry)) (now (relations .entry)) c start x
+        ⌜ ((T : Tables) (q : ℕ) → FormReads T q (now («expression_rows» .entry)) (now («project_entries» .entry)) (now (relations .entry)) c start x
         → WrittenAt (queryWords T c start (now («comparison_numbers» .entry)) (now («query_numbers» .entry)) x) (now (out .entry)) at
         (now (out .exit)) r) ⌝ }
 {
     match x {
         Query::Malformed => at,
         Query::Empty => put_query(out, at, 0, 0, 0),
-        Query::Relation(a) => put_query(out, at, 1, relation_word(relations, conditions, c, a), 0),
+        Query::Relation(a) => put_query(
+            out,
+            at,
+            1,
+            relation_word(c, a, expression_rows, relations),
+            0,
+        ),
         Query::Select(a, b) => put_over(out, at, 2, comparison_numbers[a], query_numbers, b),
         Query::Project(n, b) => {
-            let kept = length_word(project_entries, conditions, c, start, n);
+            let kept = length_word(c, start, n, expression_rows, project_entries);
             put_over(out, at, 3, kept, query_numbers, b)
         }
         Query::Choice(_, _, _) => at,
@@ -261,62 +278,23 @@ fn write_query(
     }
 }
 
-// Writes the same, if c reaches it.
-fn write_reached(
-    reached: bool,
-    x: Query,
-    project_entries: &[u16],
-    relations: &[u16],
-    conditions: &[u64],
-    c: usize,
-    start: usize,
-    comparison_numbers: &[u16],
-    query_numbers: &[u16],
-    out: &mut [u16],
-    at: usize,
-) -> usize
-    requires { ⌜ SomeForm reached (now conditions) (now «project_entries») (now relations) c start (now «comparison_numbers») (now «query_numbers») x
-        (now out) at ⌝ }
-    ensures { λ r.
-        ⌜ ((T : Tables) (q : ℕ) → FormReads T q (now (conditions .entry)) (now («project_entries» .entry)) (now (relations .entry)) c start x
-        → WrittenAt (cond reached (queryWords T c start (now («comparison_numbers» .entry)) (now («query_numbers» .entry)) x) [])
-        (now (out .entry)) at
-        (now (out .exit)) r) ⌝ }
-{
-    if reached {
-        return write_query(
-            x,
-            project_entries,
-            relations,
-            conditions,
-            c,
-            start,
-            comparison_numbers,
-            query_numbers,
-            out,
-            at,
-        );
-    }
-    at
-}
-
 // Writes the query forms that are no choice and that c reaches.
 pub fn write_queries(
+    c: usize,
+    expression_rows: &[u64],
     project_entries: &[u16],
     relations: &[u16],
     queries: &[u16],
-    conditions: &[u64],
     reach: &[u64],
-    c: usize,
     comparison_numbers: &[u16],
     query_numbers: &[u16],
     out: &mut [u16],
 ) -> usize
-    requires { ⌜ QueryFormWritable (now conditions) (now reach) (now «project_entries») (now relations) (now queries) c (now «comparison_numbers»)
+    requires { ⌜ QueryFormWritable (now «expression_rows») (now reach) (now «project_entries») (now relations) (now queries) c (now «comparison_numbers»)
         (now «query_numbers») (now out) ⌝ }
     ensures { λ r.
         ⌜ ((T : Tables)
-        → QueryFormReads T (now (conditions .entry)) (now (reach .entry)) (now («project_entries» .entry)) (now (relations .entry))
+        → QueryFormReads T (now («expression_rows» .entry)) (now (reach .entry)) (now («project_entries» .entry)) (now (relations .entry))
         (now (queries .entry)) c
         (now («comparison_numbers» .entry)) (now («query_numbers» .entry))
         → WrittenAt (queryForms T c) (now (out .entry)) 0 (now (out .exit)) r) ⌝ }
@@ -326,21 +304,21 @@ pub fn write_queries(
     let mut p = 0;
     let mut q = 0;
     while q < count {
-        let x = query_at(queries, q);
-        let reached = holds_at(reach, q, c);
-        p = write_reached(
-            reached,
-            x,
-            project_entries,
-            relations,
-            conditions,
-            c,
-            start,
-            comparison_numbers,
-            query_numbers,
-            &mut *out,
-            p,
-        );
+        let x = decode_query(queries, q);
+        if holds_at(reach, q, c) {
+            p = write_query(
+                x,
+                c,
+                start,
+                expression_rows,
+                project_entries,
+                relations,
+                comparison_numbers,
+                query_numbers,
+                &mut *out,
+                p,
+            );
+        }
         start += project_length(x);
         q += 1;
     }

@@ -10,11 +10,11 @@ use Rattle.report.specs.Tables.{Tables}
 use Rattle.at_configuration.specs.AtConfiguration.{PresentReadable}
 
 -- table 2 is short, and where the relations below r can be asked for, so can those below i + 1
-pub relations-few : {conditions relations : List ℕ} {c r : ℕ} → PresentReadable conditions relations c r → r ≤ 32
+pub relations-few : {expressionRows relations : List ℕ} {c r : ℕ} → PresentReadable expressionRows relations c r → r ≤ 32
 relations-few A = let l = A .few in let m = A .reads .reads .formed .sized2 .fits in omega arith
 
-pub some-relation : {conditions relations : List ℕ} {c r : ℕ} → PresentReadable conditions relations c r → (i : ℕ) → i < r
-    → PresentReadable conditions relations c (i + 1)
+pub some-relation : {expressionRows relations : List ℕ} {c r : ℕ} → PresentReadable expressionRows relations c r → (i : ℕ) → i < r
+    → PresentReadable expressionRows relations c (i + 1)
 some-relation A i h = record { tables = A .tables; reads = A .reads; few = let l = A .few in omega arith }
 
 -- ---- a loop that counts, of the numbers below n, those at which the test of all tables that are read holds

@@ -19,8 +19,8 @@ use Rattle.at_configuration.specs.AtConfiguration.{ListReads, FormAt}
 use Rattle.at_configuration.proofs.HoldLaws.{reach-row, reach-has}
 use Rattle.at_configuration.proofs.ListLaws.{form-list}
 use Rattle.kept_lists.specs.Keeping.{projectLists, ProjectReads, ProjectWritable}
-use Rattle.kept_lists.specs.Steps.{listIf, projectListAt, ListIfWritable}
-use Rattle.kept_lists.proofs.StepLaws.{Keeping, keeping-none, keeping-room, keeping-more, keeping-all}
+use Rattle.kept_lists.specs.Blocks.{listIf, projectListAt, ListIfWritable}
+use Rattle.kept_lists.proofs.BlockLaws.{Keeping, keeping-none, keeping-room, keeping-more, keeping-all}
 
 -- A form that is no project lists no entries, so a reached form writes the list of its entries whatever its kind
 listed-as : (T : Tables) (c q : ℕ) (b : Bool) (y : Query)
@@ -34,7 +34,7 @@ listed-as T c q true y = go (view (queryOperands y))
 
 -- ---- what is read of one form
 
-module _ {T : Tables} {conditions reach entries queries : List ℕ} {c : ℕ} (R : ProjectReads T conditions reach entries queries c) where
+module _ {T : Tables} {expressionRows reach entries queries : List ℕ} {c : ℕ} (R : ProjectReads T expressionRows reach entries queries c) where
   -- all the lists
   all-lists : projectLists T c ≡ concat (length queries / 4) (projectListAt T c)
   unfolding projectLists
@@ -45,7 +45,7 @@ module _ {T : Tables} {conditions reach entries queries : List ℕ} {c : ℕ} (R
     in-table = rw (R .queriesAre) at h
 
     module _ {start : ℕ} (s : start ≡ projectedBefore queries q) {x : Query} (f : x ≡ query queries q) where
-      form-at : FormAt T q conditions entries c start x
+      form-at : FormAt T q expressionRows entries c start x
       form-at = record {
         reads = R .reads;
         entriesAre = R .entriesAre;
@@ -66,26 +66,26 @@ module _ {T : Tables} {conditions reach entries queries : List ℕ} {c : ℕ} (R
 -- ---- the loop
 
 -- the lists of the forms below q are written, and that of the next project starts at `start`
-pub record Projecting (conditions reach entries queries : List ℕ) (c : ℕ) (lent : List ℕ) (at : ℕ) (out : List ℕ) (q start p : ℕ) : Type 0 where
-  pub kept : Keeping (λ T. ProjectReads T conditions reach entries queries c) (λ T. projectListAt T c) (length queries / 4) lent at out q p
+pub record Projecting (expressionRows reach entries queries : List ℕ) (c : ℕ) (lent : List ℕ) (at : ℕ) (out : List ℕ) (q start p : ℕ) : Type 0 where
+  pub kept : Keeping (λ T. ProjectReads T expressionRows reach entries queries c) (λ T. projectListAt T c) (length queries / 4) lent at out q p
   pub starts : start ≡ projectedBefore queries q
 
-pub projecting-none : {conditions reach entries queries : List ℕ} {c : ℕ} {lent : List ℕ} {at : ℕ}
-    → Projecting conditions reach entries queries c lent at lent 0 0 at
+pub projecting-none : {expressionRows reach entries queries : List ℕ} {c : ℕ} {lent : List ℕ} {at : ℕ}
+    → Projecting expressionRows reach entries queries c lent at lent 0 0 at
 projecting-none = record { kept = keeping-none; starts = refl }
 
-module _ {conditions reach entries queries : List ℕ} {c : ℕ} {lent : List ℕ} {at : ℕ} {q : ℕ} where
-  pub projecting-rowed : ProjectWritable conditions reach entries queries c lent at → q < length queries / 4 → (q * 16 + 16 ≤ length reach)
+module _ {expressionRows reach entries queries : List ℕ} {c : ℕ} {lent : List ℕ} {at : ℕ} {q : ℕ} where
+  pub projecting-rowed : ProjectWritable expressionRows reach entries queries c lent at → q < length queries / 4 → (q * 16 + 16 ≤ length reach)
       × (c < 1024)
   projecting-rowed A h = reach-row (A .reads .reads) (A .reads .reaching) (in-table (A .reads) h)
 
-  module _ {out : List ℕ} {start p : ℕ} (S : Projecting conditions reach entries queries c lent at out q start p) where
+  module _ {out : List ℕ} {start p : ℕ} (S : Projecting expressionRows reach entries queries c lent at out q start p) where
     module _ (h : q < length queries / 4) {x : Query} (f : x ≡ query queries q) {n : ℕ} (e : n ≡ projectLength x) where
-      pub projecting-small : ProjectWritable conditions reach entries queries c lent at → start + n ≤ length entries / 2
+      pub projecting-small : ProjectWritable expressionRows reach entries queries c lent at → start + n ≤ length entries / 2
       projecting-small A = form-list (form-at (A .reads) h (S .starts) f) e .lies
 
       module _ {b : Bool} (r : b ≡ rowBit (rowIn 16 reach q) c) where
-        pub projecting-room : ProjectWritable conditions reach entries queries c lent at → ListIfWritable b conditions entries c start n out p
+        pub projecting-room : ProjectWritable expressionRows reach entries queries c lent at → ListIfWritable b expressionRows entries c start n out p
         projecting-room A =
             let R = A .reads in
             record {
@@ -96,9 +96,9 @@ module _ {conditions reach entries queries : List ℕ} {c : ℕ} {lent : List �
             }
 
         pub projecting-more : {o : List ℕ} {k : ℕ}
-            → ((T : Tables) (offset : ℕ) → ListReads T offset conditions entries c start n
+            → ((T : Tables) (offset : ℕ) → ListReads T offset expressionRows entries c start n
             → WrittenAt (listIf b T c (offset + start) n) out p o k)
-            → Projecting conditions reach entries queries c lent at o (q + 1) (start + n) k
+            → Projecting expressionRows reach entries queries c lent at o (q + 1) (start + n) k
         projecting-more w = record {
           kept =
               keeping-more (S .kept) h
@@ -106,6 +106,6 @@ module _ {conditions reach entries queries : List ℕ} {c : ℕ} {lent : List �
           starts = ap₂ _+_ (S .starts) (e ∙ ap projectLength f) ∙ ap (projectedBefore queries) (sym (add-one q));
         }
 
-    pub projecting-all : length queries / 4 ≤ q → (T : Tables) → ProjectReads T conditions reach entries queries c
+    pub projecting-all : length queries / 4 ≤ q → (T : Tables) → ProjectReads T expressionRows reach entries queries c
         → WrittenAt (projectLists T c) lent at out p
     projecting-all h T R = same-written (all-lists R) (keeping-all (S .kept) h T R)

@@ -17,12 +17,12 @@ use Rattle.report.specs.Configuring.{entryKept, keptLength}
 use Rattle.at_configuration.specs.AtConfiguration.{ListReads, ListReadable, PresentReads, PresentReadable, RelationReads}
 use Rattle.at_configuration.proofs.ListLaws.{reads-present, starts-at, is-long, relation-list}
 use Rattle.kept_lists.specs.Keeping.{relationLists, relationForms, KeptRelationWritable}
-use Rattle.kept_lists.specs.Steps.{pairIf, listIf, relationListAt, relationFormAt, WordPairWritable, ListIfWritable}
-use Rattle.kept_lists.proofs.StepLaws.{Keeping, keeping-none, keeping-room, keeping-more, keeping-all}
+use Rattle.kept_lists.specs.Blocks.{pairIf, listIf, relationListAt, relationFormAt, WordPairWritable, ListIfWritable}
+use Rattle.kept_lists.proofs.BlockLaws.{Keeping, keeping-none, keeping-room, keeping-more, keeping-all}
 
 -- ---- what is read of one relation
 
-module _ {T : Tables} {conditions entries relations : List ℕ} {c : ℕ} (R : RelationReads T conditions entries relations c) where
+module _ {T : Tables} {expressionRows entries relations : List ℕ} {c : ℕ} (R : RelationReads T expressionRows entries relations c) where
   -- all the lists, and all the forms
   all-lists : relationLists T c ≡ concat (length relations / 2) (relationListAt T c)
   unfolding relationLists
@@ -46,42 +46,42 @@ module _ {T : Tables} {conditions entries relations : List ℕ} {c : ℕ} (R : R
 -- ---- the loops
 
 -- what f makes of the relations below r is written, and the list of r starts at `start`
-pub record Relating (f : Tables → ℕ → ℕ → List ℕ) (conditions entries relations : List ℕ) (c : ℕ) (first out : List ℕ) (r start p : ℕ) : Type 0 where
-  pub kept : Keeping (λ T. RelationReads T conditions entries relations c) (λ T. f T c) (length relations / 2) first 0 out r p
+pub record Relating (f : Tables → ℕ → ℕ → List ℕ) (expressionRows entries relations : List ℕ) (c : ℕ) (first out : List ℕ) (r start p : ℕ) : Type 0 where
+  pub kept : Keeping (λ T. RelationReads T expressionRows entries relations c) (λ T. f T c) (length relations / 2) first 0 out r p
   pub starts : start ≡ relationStart relations r
 
-pub relating-none : {f : Tables → ℕ → ℕ → List ℕ} {conditions entries relations : List ℕ} {c : ℕ} {first : List ℕ}
-    → Relating f conditions entries relations c first first 0 0 0
+pub relating-none : {f : Tables → ℕ → ℕ → List ℕ} {expressionRows entries relations : List ℕ} {c : ℕ} {first : List ℕ}
+    → Relating f expressionRows entries relations c first first 0 0 0
 relating-none = record { kept = keeping-none; starts = refl }
 
 -- relation r can be asked for
-pub relating-present : {f : Tables → ℕ → List ℕ} {conditions entries relations : List ℕ} {c : ℕ} {first : List ℕ} {r : ℕ}
-    → KeptRelationWritable f conditions entries relations c first 0 → r < length relations / 2 → PresentReadable conditions relations c (r + 1)
+pub relating-present : {f : Tables → ℕ → List ℕ} {expressionRows entries relations : List ℕ} {c : ℕ} {first : List ℕ} {r : ℕ}
+    → KeptRelationWritable f expressionRows entries relations c first 0 → r < length relations / 2 → PresentReadable expressionRows relations c (r + 1)
 relating-present A h = record { tables = A .tables; reads = reads-present (A .reads); few = let l = rw (A .reads .relationsAre) at h in omega arith }
 
-module _ {f : Tables → ℕ → ℕ → List ℕ} {conditions entries relations : List ℕ} {c : ℕ} {first out : List ℕ} {r start p : ℕ}
-    (S : Relating f conditions entries relations c first out r start p) (h : r < length relations / 2) {n : ℕ}
+module _ {f : Tables → ℕ → ℕ → List ℕ} {expressionRows entries relations : List ℕ} {c : ℕ} {first out : List ℕ} {r start p : ℕ}
+    (S : Relating f expressionRows entries relations c first out r start p) (h : r < length relations / 2) {n : ℕ}
     (e : IsWord (relationLength relations r) n) where
-  pub relating-small : {g : Tables → ℕ → List ℕ} → KeptRelationWritable g conditions entries relations c first 0
+  pub relating-small : {g : Tables → ℕ → List ℕ} → KeptRelationWritable g expressionRows entries relations c first 0
       → start + n ≤ length entries / 2
   relating-small A = relation-list (A .reads) (S .starts) h (e .same) .lies
 
-  pub relating-list : {g : Tables → ℕ → List ℕ} → KeptRelationWritable g conditions entries relations c first 0
-      → ListReadable conditions entries c start n
+  pub relating-list : {g : Tables → ℕ → List ℕ} → KeptRelationWritable g expressionRows entries relations c first 0
+      → ListReadable expressionRows entries c start n
   relating-list A = record { tables = A .tables; offset = 0; reads = relation-list (A .reads) (S .starts) h (e .same) }
 
-  relating-more : {o : List ℕ} {q : ℕ} → ((T : Tables) → RelationReads T conditions entries relations c → WrittenAt (f T c r) out p o q)
-      → Relating f conditions entries relations c first o (r + 1) (start + n) q
+  relating-more : {o : List ℕ} {q : ℕ} → ((T : Tables) → RelationReads T expressionRows entries relations c → WrittenAt (f T c r) out p o q)
+      → Relating f expressionRows entries relations c first o (r + 1) (start + n) q
   relating-more w = record {
     kept = keeping-more (S .kept) h w;
     starts = ap₂ _+_ (S .starts) (e .same) ∙ ap (relationStart relations) (sym (add-one r));
   }
 
-module _ {conditions entries relations : List ℕ} {c : ℕ} {first out : List ℕ} {r start p : ℕ} (h : r < length relations / 2) {n : ℕ}
-    (e : IsWord (relationLength relations r) n) {b : Bool} (q : (T : Tables) → PresentReads T conditions relations c → b ≡ present T c r) where
+module _ {expressionRows entries relations : List ℕ} {c : ℕ} {first out : List ℕ} {r start p : ℕ} (h : r < length relations / 2) {n : ℕ}
+    (e : IsWord (relationLength relations r) n) {b : Bool} (q : (T : Tables) → PresentReads T expressionRows relations c → b ≡ present T c r) where
   -- the lists
-  module _ (S : Relating relationListAt conditions entries relations c first out r start p) where
-    pub lists-room : KeptRelationWritable relationLists conditions entries relations c first 0 → ListIfWritable b conditions entries c start n out p
+  module _ (S : Relating relationListAt expressionRows entries relations c first out r start p) where
+    pub lists-room : KeptRelationWritable relationLists expressionRows entries relations c first 0 → ListIfWritable b expressionRows entries c start n out p
     lists-room A =
         let R = A .reads in
         record {
@@ -94,19 +94,19 @@ module _ {conditions entries relations : List ℕ} {c : ℕ} {first out : List �
         }
 
     pub lists-more : {o : List ℕ} {k : ℕ}
-        → ((T : Tables) (offset : ℕ) → ListReads T offset conditions entries c start n → WrittenAt (listIf b T c (offset + start) n) out p o k)
-        → Relating relationListAt conditions entries relations c first o (r + 1) (start + n) k
+        → ((T : Tables) (offset : ℕ) → ListReads T offset expressionRows entries c start n → WrittenAt (listIf b T c (offset + start) n) out p o k)
+        → Relating relationListAt expressionRows entries relations c first o (r + 1) (start + n) k
     lists-more w =
         relating-more S h e
         (λ T R. same-written (list-text R (S .starts) h (e .same) (q T (reads-present R))) (w T 0 (relation-list R (S .starts) h (e .same))))
 
   -- the forms
-  module _ (S : Relating relationFormAt conditions entries relations c first out r start p) {m : ℕ}
-      (l : (T : Tables) (offset : ℕ) → ListReads T offset conditions entries c start n → m ≡ keptLength T c (offset + start) n) where
-    text : {T : Tables} → RelationReads T conditions entries relations c → relationFormAt T c r ≡ pairIf b 0 m
+  module _ (S : Relating relationFormAt expressionRows entries relations c first out r start p) {m : ℕ}
+      (l : (T : Tables) (offset : ℕ) → ListReads T offset expressionRows entries c start n → m ≡ keptLength T c (offset + start) n) where
+    text : {T : Tables} → RelationReads T expressionRows entries relations c → relationFormAt T c r ≡ pairIf b 0 m
     text {T} R = form-text R (S .starts) h (e .same) (q T (reads-present R)) (l T 0 (relation-list R (S .starts) h (e .same)))
 
-    pub forms-room : KeptRelationWritable relationForms conditions entries relations c first 0 → WordPairWritable b 0 m out p
+    pub forms-room : KeptRelationWritable relationForms expressionRows entries relations c first 0 → WordPairWritable b 0 m out p
     forms-room A =
         let R = A .reads in
         record {
@@ -120,13 +120,13 @@ module _ {conditions entries relations : List ℕ} {c : ℕ} {first out : List �
         }
 
     pub forms-more : {o : List ℕ} {k : ℕ} → WrittenAt (pairIf b 0 m) out p o k
-        → Relating relationFormAt conditions entries relations c first o (r + 1) (start + n) k
+        → Relating relationFormAt expressionRows entries relations c first o (r + 1) (start + n) k
     forms-more w = relating-more S h e (λ T R. same-written (text R) w)
 
-module _ {conditions entries relations : List ℕ} {c : ℕ} {first out : List ℕ} {r start p : ℕ} (h : length relations / 2 ≤ r) (T : Tables)
-    (R : RelationReads T conditions entries relations c) where
-  pub lists-all : Relating relationListAt conditions entries relations c first out r start p → WrittenAt (relationLists T c) first 0 out p
+module _ {expressionRows entries relations : List ℕ} {c : ℕ} {first out : List ℕ} {r start p : ℕ} (h : length relations / 2 ≤ r) (T : Tables)
+    (R : RelationReads T expressionRows entries relations c) where
+  pub lists-all : Relating relationListAt expressionRows entries relations c first out r start p → WrittenAt (relationLists T c) first 0 out p
   lists-all S = same-written (all-lists R) (keeping-all (S .kept) h T R)
 
-  pub forms-all : Relating relationFormAt conditions entries relations c first out r start p → WrittenAt (relationForms T c) first 0 out p
+  pub forms-all : Relating relationFormAt expressionRows entries relations c first out r start p → WrittenAt (relationForms T c) first 0 out p
   forms-all S = same-written (all-forms R) (keeping-all (S .kept) h T R)

@@ -7,7 +7,7 @@ use Rattle.sets.specs.Writing.{Room}
 use Rattle.report.specs.Tables.{Tables, query, relationCount, queryCount, entriesOfProjects}
 use Rattle.report.specs.Typing.{present}
 use Rattle.report.specs.Configuring.{queryKept, keptList, relationList, projectListOf, relationForm}
-use Rattle.conditions.specs.Conditions.{ReachFilled}
+use Rattle.expression_rows.specs.ExpressionRows.{ReachFilled}
 use Rattle.at_configuration.specs.AtConfiguration.{AtReads, ListReads, RelationReads}
 
 -- ---- what is written, of tables T at configuration c: parts of `configured`
@@ -28,26 +28,26 @@ module _ (T : Tables) (c : ℕ) where
 -- ---- what each function reads of tables T; `..Writable`: there are such tables, and room for what is written
 
 -- a list, with room for its kept entries
-pub record KeptListWritable (conditions entries : List ℕ) (c start count : ℕ) (out : List ℕ) (at : ℕ) : Type 0 where
+pub record KeptListWritable (expressionRows entries : List ℕ) (c start count : ℕ) (out : List ℕ) (at : ℕ) : Type 0 where
   pub tables : Tables
   pub offset : ℕ
-  pub reads : ListReads tables offset conditions entries c start count
+  pub reads : ListReads tables offset expressionRows entries c start count
   pub room : Room (keptList tables c (offset + start) count) out at
 
 -- the relations' entries and table 2, with room for the text that f makes of them
-pub record KeptRelationWritable (f : Tables → ℕ → List ℕ) (conditions entries relations : List ℕ) (c : ℕ) (out : List ℕ) (at : ℕ) : Type 0 where
+pub record KeptRelationWritable (f : Tables → ℕ → List ℕ) (expressionRows entries relations : List ℕ) (c : ℕ) (out : List ℕ) (at : ℕ) : Type 0 where
   pub tables : Tables
-  pub reads : RelationReads tables conditions entries relations c
+  pub reads : RelationReads tables expressionRows entries relations c
   pub room : Room (f tables c) out at
 
 -- the project forms' entries and table 4, with the configurations that reach each form
-pub record ProjectReads (T : Tables) (conditions reach entries queries : List ℕ) (c : ℕ) : Type 0 where
-  pub reads : AtReads T conditions c
+pub record ProjectReads (T : Tables) (expressionRows reach entries queries : List ℕ) (c : ℕ) : Type 0 where
+  pub reads : AtReads T expressionRows c
   pub reaching : ReachFilled T reach
   pub entriesAre : entries ≡ entriesOfProjects T
   pub queriesAre : queries ≡ T .queries
 
-pub record ProjectWritable (conditions reach entries queries : List ℕ) (c : ℕ) (out : List ℕ) (at : ℕ) : Type 0 where
+pub record ProjectWritable (expressionRows reach entries queries : List ℕ) (c : ℕ) (out : List ℕ) (at : ℕ) : Type 0 where
   pub tables : Tables
-  pub reads : ProjectReads tables conditions reach entries queries c
+  pub reads : ProjectReads tables expressionRows reach entries queries c
   pub room : Room (projectLists tables c) out at

@@ -3,9 +3,9 @@ use at_configuration::entry_holds;
 use at_configuration::holds_at;
 use at_configuration::is_present;
 use at_configuration::joined_at;
+use decoders::decode_query;
 use decoders::entry_attribute;
 use decoders::project_length;
-use decoders::query_at;
 use decoders::relation_length;
 use sets::AttributeSet;
 ghost use mathlib.Core.Path.{_≡_};
@@ -17,22 +17,22 @@ ghost use Rattle.report.specs.Configuring.{keptLength, keptList, newRelation};
 ghost use Rattle.at_configuration.specs.AtConfiguration.{ListReads, ListReadable, PresentReads, PresentReadable, RelationReads};
 ghost use Rattle.kept_lists.specs.Keeping.{relationLists, projectLists, relationForms, KeptListWritable, KeptRelationWritable};
 ghost use Rattle.kept_lists.specs.Keeping.{ProjectReads, ProjectWritable};
-ghost use Rattle.kept_lists.specs.Steps.{pairIf, listIf, WordPairWritable, ListIfWritable};
+ghost use Rattle.kept_lists.specs.Blocks.{pairIf, listIf, WordPairWritable, ListIfWritable};
 
 // How many of the `count` entries from `start` on are kept at c: as many as their joined set has attributes.
 pub fn kept_length(
-    entries: &[u16],
-    conditions: &[u64],
     c: usize,
     start: usize,
     count: usize,
+    expression_rows: &[u64],
+    entries: &[u16],
 ) -> usize
-    requires { ⌜ ListReadable (now conditions) (now entries) c start count ⌝ }
+    requires { ⌜ ListReadable (now «expression_rows») (now entries) c start count ⌝ }
     ensures { λ r.
-        ⌜ ((T : Tables) (offset : ℕ) → ListReads T offset (now (conditions .entry)) (now (entries .entry)) c start count
+        ⌜ ((T : Tables) (offset : ℕ) → ListReads T offset (now («expression_rows» .entry)) (now (entries .entry)) c start count
         → r ≡ keptLength T c (offset + start) count) ⌝ }
 {
-    joined_at(entries, conditions, c, start, count).count()
+    joined_at(c, start, count, expression_rows, entries).count()
 }
 
 // Writes x and y, if they are kept.
@@ -51,17 +51,17 @@ fn write_pair(keep: bool, x: usize, y: usize, out: &mut [u16], at: usize) -> usi
 // Writes of the `count` entries from `start` on each attribute's first that holds at c, its expression made 0. `kept` has the attributes that are
 // written.
 fn write_list(
-    entries: &[u16],
-    conditions: &[u64],
     c: usize,
     start: usize,
     count: usize,
+    expression_rows: &[u64],
+    entries: &[u16],
     out: &mut [u16],
     at: usize,
 ) -> usize
-    requires { ⌜ KeptListWritable (now conditions) (now entries) c start count (now out) at ⌝ }
+    requires { ⌜ KeptListWritable (now «expression_rows») (now entries) c start count (now out) at ⌝ }
     ensures { λ r.
-        ⌜ ((T : Tables) (offset : ℕ) → ListReads T offset (now (conditions .entry)) (now (entries .entry)) c start count
+        ⌜ ((T : Tables) (offset : ℕ) → ListReads T offset (now («expression_rows» .entry)) (now (entries .entry)) c start count
         → WrittenAt (keptList T c (offset + start) count) (now (out .entry)) at (now (out .exit)) r) ⌝ }
 {
     let mut kept = AttributeSet::empty();
@@ -69,7 +69,7 @@ fn write_list(
     let mut i = 0;
     while i < count {
         let a = entry_attribute(entries, start + i);
-        let holds = entry_holds(entries, conditions, c, start, i);
+        let holds = entry_holds(c, start, i, expression_rows, entries);
         p = write_pair(holds & !kept.has(a), a, 0, &mut *out, p);
         kept = kept.with_if(a, holds);
         i += 1;
@@ -80,21 +80,21 @@ fn write_list(
 // Writes that list, if it is kept.
 fn write_list_if(
     keep: bool,
-    entries: &[u16],
-    conditions: &[u64],
     c: usize,
     start: usize,
     count: usize,
+    expression_rows: &[u64],
+    entries: &[u16],
     out: &mut [u16],
     at: usize,
 ) -> usize
-    requires { ⌜ ListIfWritable keep (now conditions) (now entries) c start count (now out) at ⌝ }
+    requires { ⌜ ListIfWritable keep (now «expression_rows») (now entries) c start count (now out) at ⌝ }
     ensures { λ r.
-        ⌜ ((T : Tables) (offset : ℕ) → ListReads T offset (now (conditions .entry)) (now (entries .entry)) c start count
+        ⌜ ((T : Tables) (offset : ℕ) → ListReads T offset (now («expression_rows» .entry)) (now (entries .entry)) c start count
         → WrittenAt (listIf keep T c (offset + start) count) (now (out .entry)) at (now (out .exit)) r) ⌝ }
 {
     if keep {
-        return write_list(entries, conditions, c, start, count, out, at);
+        return write_list(c, start, count, expression_rows, entries, out, at);
     }
     at
 }
@@ -111,14 +111,14 @@ fn more_if(n: usize, test: bool) -> usize
 }
 
 // The new number of relation r: how many below it are present at c.
-pub fn new_relation(relations: &[u16], conditions: &[u64], c: usize, r: usize) -> usize
-    requires { ⌜ PresentReadable (now conditions) (now relations) c r ⌝ }
-    ensures { λ k. ⌜ ((T : Tables) → PresentReads T (now (conditions .entry)) (now (relations .entry)) c → k ≡ newRelation T c r) ⌝ }
+pub fn new_relation(c: usize, r: usize, expression_rows: &[u64], relations: &[u16]) -> usize
+    requires { ⌜ PresentReadable (now «expression_rows») (now relations) c r ⌝ }
+    ensures { λ k. ⌜ ((T : Tables) → PresentReads T (now («expression_rows» .entry)) (now (relations .entry)) c → k ≡ newRelation T c r) ⌝ }
 {
     let mut kept = 0;
     let mut i = 0;
     while i < r {
-        let present = is_present(relations, conditions, c, i);
+        let present = is_present(c, i, expression_rows, relations);
         kept = more_if(kept, present);
         i += 1;
     }
@@ -127,15 +127,15 @@ pub fn new_relation(relations: &[u16], conditions: &[u64], c: usize, r: usize) -
 
 // Writes the lists of the relations that are present at c.
 pub fn write_relation_lists(
+    c: usize,
+    expression_rows: &[u64],
     relation_entries: &[u16],
     relations: &[u16],
-    conditions: &[u64],
-    c: usize,
     out: &mut [u16],
 ) -> usize
-    requires { ⌜ KeptRelationWritable relationLists (now conditions) (now «relation_entries») (now relations) c (now out) 0 ⌝ }
+    requires { ⌜ KeptRelationWritable relationLists (now «expression_rows») (now «relation_entries») (now relations) c (now out) 0 ⌝ }
     ensures { λ r.
-        ⌜ ((T : Tables) → RelationReads T (now (conditions .entry)) (now («relation_entries» .entry)) (now (relations .entry)) c
+        ⌜ ((T : Tables) → RelationReads T (now («expression_rows» .entry)) (now («relation_entries» .entry)) (now (relations .entry)) c
         → WrittenAt (relationLists T c) (now (out .entry)) 0 (now (out .exit)) r) ⌝ }
 {
     let count = relations.len() / 2;
@@ -144,14 +144,14 @@ pub fn write_relation_lists(
     let mut r = 0;
     while r < count {
         let n = relation_length(relations, r);
-        let present = is_present(relations, conditions, c, r);
+        let present = is_present(c, r, expression_rows, relations);
         p = write_list_if(
             present,
-            relation_entries,
-            conditions,
             c,
             start,
             n,
+            expression_rows,
+            relation_entries,
             &mut *out,
             p,
         );
@@ -163,15 +163,15 @@ pub fn write_relation_lists(
 
 // Writes the relations that are present at c: expression 0, and how many of its entries are kept.
 pub fn write_relation_forms(
+    c: usize,
+    expression_rows: &[u64],
     relation_entries: &[u16],
     relations: &[u16],
-    conditions: &[u64],
-    c: usize,
     out: &mut [u16],
 ) -> usize
-    requires { ⌜ KeptRelationWritable relationForms (now conditions) (now «relation_entries») (now relations) c (now out) 0 ⌝ }
+    requires { ⌜ KeptRelationWritable relationForms (now «expression_rows») (now «relation_entries») (now relations) c (now out) 0 ⌝ }
     ensures { λ r.
-        ⌜ ((T : Tables) → RelationReads T (now (conditions .entry)) (now («relation_entries» .entry)) (now (relations .entry)) c
+        ⌜ ((T : Tables) → RelationReads T (now («expression_rows» .entry)) (now («relation_entries» .entry)) (now (relations .entry)) c
         → WrittenAt (relationForms T c) (now (out .entry)) 0 (now (out .exit)) r) ⌝ }
 {
     let count = relations.len() / 2;
@@ -180,8 +180,8 @@ pub fn write_relation_forms(
     let mut r = 0;
     while r < count {
         let n = relation_length(relations, r);
-        let present = is_present(relations, conditions, c, r);
-        let kept = kept_length(relation_entries, conditions, c, start, n);
+        let present = is_present(c, r, expression_rows, relations);
+        let kept = kept_length(c, start, n, expression_rows, relation_entries);
         p = write_pair(present, 0, kept, &mut *out, p);
         start += n;
         r += 1;
@@ -191,17 +191,17 @@ pub fn write_relation_forms(
 
 // Writes the lists of the project forms that c reaches. Another form has no entries, so its list is written as none.
 pub fn write_project_lists(
+    c: usize,
+    expression_rows: &[u64],
     project_entries: &[u16],
     queries: &[u16],
-    conditions: &[u64],
     reach: &[u64],
-    c: usize,
     out: &mut [u16],
     at: usize,
 ) -> usize
-    requires { ⌜ ProjectWritable (now conditions) (now reach) (now «project_entries») (now queries) c (now out) at ⌝ }
+    requires { ⌜ ProjectWritable (now «expression_rows») (now reach) (now «project_entries») (now queries) c (now out) at ⌝ }
     ensures { λ r.
-        ⌜ ((T : Tables) → ProjectReads T (now (conditions .entry)) (now (reach .entry)) (now («project_entries» .entry)) (now (queries .entry)) c
+        ⌜ ((T : Tables) → ProjectReads T (now («expression_rows» .entry)) (now (reach .entry)) (now («project_entries» .entry)) (now (queries .entry)) c
         → WrittenAt (projectLists T c) (now (out .entry)) at (now (out .exit)) r) ⌝ }
 {
     let count = queries.len() / 4;
@@ -209,16 +209,16 @@ pub fn write_project_lists(
     let mut p = at;
     let mut q = 0;
     while q < count {
-        let x = query_at(queries, q);
+        let x = decode_query(queries, q);
         let n = project_length(x);
         let reached = holds_at(reach, q, c);
         p = write_list_if(
             reached,
-            project_entries,
-            conditions,
             c,
             start,
             n,
+            expression_rows,
+            project_entries,
             &mut *out,
             p,
         );

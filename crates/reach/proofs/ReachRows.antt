@@ -12,7 +12,7 @@ use Rattle.report.specs.Expressions.{permitted}
 use Rattle.report.specs.Typing.{leads, reached}
 use Rattle.report.proofs.FormedFacts.{report-in}
 use Rattle.report.proofs.TypingLaws.{permitted-within}
-use Rattle.conditions.specs.Conditions.{ReachFilled}
+use Rattle.expression_rows.specs.ExpressionRows.{ReachFilled}
 use Rattle.reach.specs.Reach.{joined, reachRows, ReachReads, ReachReadable, WalkReads, WalkReady, Walked}
 use Rattle.reach.proofs.JoinLaws.{row-of}
 
@@ -22,8 +22,8 @@ fresh-none zero i = refl
 fresh-none (suc n) zero = refl
 fresh-none (suc n) (suc i) = fresh-none n i
 
-module _ {T : Tables} {queries conditions permits : List ℕ} (R : ReachReads T queries conditions permits) where
-  reads-permitted : WalkReads T queries conditions permits
+module _ {T : Tables} {queries expressionRows permits : List ℕ} (R : ReachReads T queries expressionRows permits) where
+  reads-permitted : WalkReads T queries expressionRows permits
   reads-permitted = record {
     formed = R .formed;
     filled = R .filled;
@@ -36,7 +36,7 @@ module _ {T : Tables} {queries conditions permits : List ℕ} (R : ReachReads T 
 
   -- over words that are all 0 the walk from the report leaves the reach rows
   pub walk-reached : (n : ℕ) {out after : List ℕ} → out ≡ replicate n 0
-      → Walked queries conditions (length queries / 4 - 1) permits out after → after ≡ reachRows T n
+      → Walked queries expressionRows (length queries / 4 - 1) permits out after → after ≡ reachRows T n
   unfolding reached reachRows joined
   walk-reached n {out} {after} clear W =
       W .rows T reads-permitted
@@ -47,8 +47,8 @@ module _ {T : Tables} {queries conditions permits : List ℕ} (R : ReachReads T 
       (ap (λ (r : List ℕ). rowBit r (i % 1024)) (R .permitting) ∙ rowBit-rowOf 16 (permitted T) (i % 1024) (omega arith)))
 
 -- the walk may start at the report
-pub ready-report : {queries conditions permits out : List ℕ} → ReachReadable queries conditions permits out
-    → WalkReady queries conditions permits out (length queries / 4 - 1)
+pub ready-report : {queries expressionRows permits out : List ℕ} → ReachReadable queries expressionRows permits out
+    → WalkReady queries expressionRows permits out (length queries / 4 - 1)
 ready-report A = record {
   tables = A .tables;
   reads = reads-permitted (A .reads);

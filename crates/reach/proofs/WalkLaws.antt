@@ -10,7 +10,6 @@ use Rattle.sets.specs.Rows.{rowBit, rowIntersect, rowMinus, rowIn, within}
 use Rattle.sets.proofs.RowLaws.{rowBit-rowOf, within-in, rowBit-intersect, rowBit-minus}
 use Rattle.report.specs.Tables.{Tables, query, queryCount, expressionCount}
 use Rattle.report.specs.Operands.{queryOperands}
-use Rattle.report.specs.Expressions.{holds}
 use Rattle.report.specs.Typing.{onward, leads}
 use Rattle.report.specs.Formed.{OperandsFree}
 use Rattle.report.specs.declared.Operands.{Operands}
@@ -22,24 +21,24 @@ use Rattle.reach.proofs.JoinLaws.{join-join, join-same}
 -- ---- what is read, at a lower form and with fewer configurations
 
 -- of a row that has no more configurations the walk reads the same
-reads-less : {T : Tables} {queries conditions reach : List ℕ} (less : List ℕ) → ((c : ℕ) → c < 1024 → rowBit less c ≡ true → rowBit reach c ≡ true)
-    → WalkReads T queries conditions reach → WalkReads T queries conditions less
+reads-less : {T : Tables} {queries expressionRows reach : List ℕ} (less : List ℕ) → ((c : ℕ) → c < 1024 → rowBit less c ≡ true → rowBit reach c ≡ true)
+    → WalkReads T queries expressionRows reach → WalkReads T queries expressionRows less
 reads-less less h S = record { formed = S .formed; filled = S .filled; queriesAre = S .queriesAre; among = λ c l e. S .among c l (h c l e) }
 
-module _ {T : Tables} {queries conditions reach : List ℕ} (less other : List ℕ) where
-  pub reads-intersect : less ≡ rowIntersect 16 reach other → WalkReads T queries conditions reach → WalkReads T queries conditions less
+module _ {T : Tables} {queries expressionRows reach : List ℕ} (less other : List ℕ) where
+  pub reads-intersect : less ≡ rowIntersect 16 reach other → WalkReads T queries expressionRows reach → WalkReads T queries expressionRows less
   reads-intersect e =
       reads-less less (λ c l g. and-eq-true-iff (rowBit reach c) (rowBit other c) .0
       (sym (ap (λ (r : List ℕ). rowBit r c) e ∙ rowBit-intersect 16 reach other c l) ∙ g) .0)
 
-  pub reads-minus : less ≡ rowMinus 16 reach other → WalkReads T queries conditions reach → WalkReads T queries conditions less
+  pub reads-minus : less ≡ rowMinus 16 reach other → WalkReads T queries expressionRows reach → WalkReads T queries expressionRows less
   reads-minus e =
       reads-less less (λ c l g. and-eq-true-iff (rowBit reach c) (not (rowBit other c)) .0
       (sym (ap (λ (r : List ℕ). rowBit r c) e ∙ rowBit-minus 16 reach other c l) ∙ g) .0)
 
 -- the walk may go on at a lower form
-pub ready-lower : {queries conditions reach out : List ℕ} {q : ℕ} (less after : List ℕ) (j : ℕ) → (K : WalkReady queries conditions reach out q)
-    → WalkReads (K .tables) queries conditions less → length after ≡ length out → j < q → WalkReady queries conditions less after j
+pub ready-lower : {queries expressionRows reach out : List ℕ} {q : ℕ} (less after : List ℕ) (j : ℕ) → (K : WalkReady queries expressionRows reach out q)
+    → WalkReads (K .tables) queries expressionRows less → length after ≡ length out → j < q → WalkReady queries expressionRows less after j
 ready-lower less after j K S e h = record {
   tables = K .tables;
   reads = S;
@@ -48,7 +47,7 @@ ready-lower less after j K S e h = record {
 }
 
 -- the form is one of table 4, and so of any tables that are read
-pub inside-words : {queries conditions reach out : List ℕ} {q : ℕ} → WalkReady queries conditions reach out q → q < length queries / 4
+pub inside-words : {queries expressionRows reach out : List ℕ} {q : ℕ} → WalkReady queries expressionRows reach out q → q < length queries / 4
 inside-words K = let l = K .inside in let e = ap length (K .reads .queriesAre) in omega arith
 
 -- ---- what the walk leaves
@@ -79,7 +78,7 @@ parts at b d true true t = refl
 parts at b d true false true = sym (or-last (at b))
 parts at b d true false false = refl
 
-module _ {T : Tables} {queries conditions reach : List ℕ} (S : WalkReads T queries conditions reach) (q : ℕ) (inside : q < length queries / 4) where
+module _ {T : Tables} {queries expressionRows reach : List ℕ} (S : WalkReads T queries expressionRows reach) (q : ℕ) (inside : q < length queries / 4) where
   inside-any : q < queryCount T
   inside-any = let e = ap length (S .queriesAre) in omega arith
 
@@ -124,11 +123,11 @@ module _ {T : Tables} {queries conditions reach : List ℕ} (S : WalkReads T que
         ∙ ap (λ (t : Bool). rowBit reach c && t) (sym (rule (Operands.Both a b) e c x)))
 
     -- a choice on expression e, whose row is `row`
-    module _ (e b d : ℕ) (is-choice : Operands.Choice e b d ≡ queryOperands (query queries q)) (row ins outs : List ℕ) (read : row ≡ rowIn 16 conditions e)
+    module _ (e b d : ℕ) (is-choice : Operands.Choice e b d ≡ queryOperands (query queries q)) (row ins outs : List ℕ) (read : row ≡ rowIn 16 expressionRows e)
         (in-is : ins ≡ rowIntersect 16 reach row) (out-is : outs ≡ rowMinus 16 reach row)
       where
         abbrev at : ℕ → Bool
-        at c = holds (T .expressions) c e
+        at c = T .truth c e
 
         row-bit : (c : ℕ) → c < 1024 → rowBit row c ≡ within (T .features) at c
         row-bit c l =

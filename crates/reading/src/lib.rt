@@ -61,7 +61,7 @@ fn more_digits(s: &[u8], v: usize, at: usize) -> Number
 }
 
 // The number at a position.
-pub fn number_at(s: &[u8], at: usize) -> Number
+pub fn scan_number(s: &[u8], at: usize) -> Number
     ensures { λ r. ⌜ r ≡ numberAt (now (s .entry)) at ⌝ }
 {
     if at < s.len() {
@@ -74,7 +74,7 @@ pub fn number_at(s: &[u8], at: usize) -> Number
 }
 
 // The word at a position.
-pub fn word_at(word: &[u8], s: &[u8], at: usize) -> Step
+pub fn scan_word(word: &[u8], s: &[u8], at: usize) -> Step
     ensures { λ r. ⌜ r ≡ wordAt (now (word .entry)) (now (s .entry)) at ⌝ }
 {
     let mut i = 0;
@@ -93,11 +93,11 @@ pub fn word_at(word: &[u8], s: &[u8], at: usize) -> Step
 }
 
 // A space, then a number.
-pub fn spaced_at(s: &[u8], at: usize) -> Number
+pub fn scan_spaced(s: &[u8], at: usize) -> Number
     ensures { λ r. ⌜ r ≡ spacedAt (now (s .entry)) at ⌝ }
 {
-    match word_at(b" ", s, at) {
-        Step::Next(p) => number_at(s, p),
+    match scan_word(b" ", s, at) {
+        Step::Next(p) => scan_number(s, p),
         Step::Stop(p) => Number::Broken(p),
     }
 }
@@ -110,7 +110,7 @@ fn read_numbers(s: &[u8], at: usize, count: usize, out: &mut [u16], to: usize) -
     if count == 0 {
         return Step::Next(at);
     }
-    match spaced_at(s, at) {
+    match scan_spaced(s, at) {
         Number::Broken(p) => Step::Stop(p),
         Number::Read(v, p) => {
             out[to] = v;
@@ -124,11 +124,11 @@ pub fn read_line(s: &[u8], word: &[u8], width: usize, at: usize, out: &mut [u16]
     requires { ⌜ to + width ≤ length (now out) ⌝ }
     ensures { λ r. ⌜ Stored (lineAt (now (s .entry)) (now (word .entry)) width at) r (now (out .entry)) to (now (out .exit)) ⌝ }
 {
-    match word_at(word, s, at) {
+    match scan_word(word, s, at) {
         Step::Stop(p) => Step::Stop(p),
         Step::Next(p) => match read_numbers(s, p, width, out, to) {
             Step::Stop(q) => Step::Stop(q),
-            Step::Next(q) => word_at(b")\n", s, q),
+            Step::Next(q) => scan_word(b")\n", s, q),
         },
     }
 }

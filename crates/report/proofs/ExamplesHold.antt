@@ -13,9 +13,10 @@ use Rattle.report.specs.Typing.{gathered, compares, setOf, leads, reache
 use Rattle.report.specs.ColumnRows.{hasColumn, columnRows}
 use Rattle.report.specs.Configuring.{comparisonTarget, queryTarget, entryKept, configured}
 use Rattle.report.specs.FormChecks.{formCheck, tablesCheck, kindsCheck, expressionsCheck, entriesCheck, relationsCheck, comparisonsCheck, queriesCheck, untakenCheck}
-use Rattle.report.specs.Verdicts.{_gives_, firstOf}
+use Rattle.report.specs.Verdicts.{_gives_, each, firstOf}
 use Rattle.report.specs.Checks.{typingCheck}
-use Rattle.report.specs.Calls.{answer}
+use Rattle.report.specs.Conditions.{formConditions}
+use Rattle.report.specs.Calls.{answerTo}
 use Rattle.report.specs.Text.{decimal, numbersIn}
 use Rattle.report.specs.HarbourFile.{linesOf, fileLines, fileOf}
 use Rattle.report.specs.Print.{print}
@@ -24,7 +25,7 @@ use Rattle.report.specs.Examples.{harbourExamples, repeatExamples, quayE
 
 -- to unfold this is to unfold all that an outcome is computed with
 unfoldable pub computed : Unit {0}
-unfolding bitsOf holds permitted gathered compares setOf leads reached joinedSet faults columnRows comparisonTarget queryTarget entryKept configured formCheck tablesCheck kindsCheck expressionsCheck entriesCheck relationsCheck comparisonsCheck queriesCheck untakenCheck typingCheck _gives_ firstOf answer decimal numbersIn linesOf fileLines fileOf print
+unfolding bitsOf holds permitted gathered compares setOf leads reached joinedSet faults columnRows comparisonTarget queryTarget entryKept configured formCheck tablesCheck kindsCheck expressionsCheck entriesCheck relationsCheck comparisonsCheck queriesCheck untakenCheck typingCheck _gives_ formConditions each firstOf answerTo decimal numbersIn linesOf fileLines fileOf print
 computed = tt
 
 -- ---- the column rows, each configuration's set worked out once

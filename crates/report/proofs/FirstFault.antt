@@ -1,5 +1,4 @@
--- "First fault first": the answer of any call is the first of its conditions that holds, in the order in which the checks run (specs/Conditions,
--- specs/Calls); it accepts exactly when none holds.
+-- The checks as lists of conditions (specs/Conditions): each answers the first of its conditions that holds, and accepts exactly when none holds.
 use Prim.Native.Nat.{ℕ, zero, suc, _+_, _-_, _^_, _≤_, _<_}
 use mathlib.Core.Path.{_≡_, refl, sym, ap, ap₂, _∙_, fun-ext}
 use mathlib.Core.Logic.{_↔_}
@@ -21,16 +20,14 @@ use Rattle.report.specs.Typing.{reached, faults, fails}
 use Rattle.report.specs.Verdicts.{refusal, refuseIf, refuseAt, orElse, firstFrom}
 use Rattle.report.specs.Verdicts.{Condition, _gives_, each, firstOf, condition, NoneHolds, Foremost}
 use Rattle.report.specs.FormChecks.{formCheck, tablesCheck, kindsCheck, lengthFits, lengthsCheck, expressionsCheck, entriesCheck, relationsCheck, comparisonsCheck, queriesCheck, untakenCheck}
-use Rattle.report.specs.Checks.{faultNumber, somewhere, absentEverywhere, apartEverywhere, modelCheck, relationCheck, schemaCheck, modelAndSchemaCheck, phaseAt, typingAt, typingCheck}
+use Rattle.report.specs.Checks.{faultNumber, somewhere, absentEverywhere, apartEverywhere, relationCheck, modelAndSchemaCheck, phaseAt, typingAt, typingCheck}
 use Rattle.report.specs.Conditions.{formConditions, relationConditions, schemaConditions, typingConditions}
-use Rattle.report.specs.Calls.{Call, conditions, beforeTyping, answer, Sound, permittedCondition, roomConditions, configuring}
+use Rattle.report.specs.Calls.{permittedCondition, roomConditions, configuring}
 use Rattle.report.specs.declared.Refusal.{Refusal}
 use Rattle.report.specs.declared.Verdict.{Verdict}
 use Rattle.sets.proofs.SearchLaws.{lowest-nothing, nothing-lowest, lowest-at}
 use Rattle.sets.proofs.BitLaws.{zero-bits, bit-none}
-use Rattle.report.proofs.Formed.{formed}
-use Rattle.report.proofs.SetLaws.{faults-narrow}
-use Rattle.report.proofs.VerdictLaws.{or-else-assoc, or-else-accepted, then-refused, both-accepted, accepted-both, if-accepted, accepted-if, accepted-not-refused}
+use Rattle.report.proofs.VerdictLaws.{or-else-assoc, or-else-accepted, both-accepted, accepted-both, if-accepted, accepted-if, accepted-not-refused}
 
 -- ---- the first of a list
 
@@ -105,7 +102,7 @@ module _ (T : Tables) where
   first-lengths : firstOf (each 5 (λ t. not (lengthFits (getD shapes t (shapeOf 1 0 0)) (length (getD (words T) t [])))) (λ t. refusal 2 t 0 0)) ≡ lengthsCheck T
   first-lengths = first-every 5 _ _
 
-  first-form : firstOf (formConditions T) ≡ formCheck T
+  pub first-form : firstOf (formConditions T) ≡ formCheck T
   unfolding formCheck tablesCheck kindsCheck formConditions expressionsCheck entriesCheck relationsCheck comparisonsCheck queriesCheck untakenCheck
   first-form = simp (first-append, first-one, first-lengths, first-each, or-else-assoc)
 
@@ -116,7 +113,7 @@ module _ (T : Tables) where
       (first-list (relationLength (T .relations) r) (relationStart (T .relations) r) (apartEverywhere T r)
       (λ i. refusal 14 r (entryAttribute (T .entries) i) 0))
 
-  first-schema : firstOf (schemaConditions T) ≡ modelAndSchemaCheck T
+  pub first-schema : firstOf (schemaConditions T) ≡ modelAndSchemaCheck T
   unfolding schemaConditions
   first-schema =
       first-append (not (somewhere T (λ c. true)) gives refusal 12 0 0 0) (concat (relationCount T) (relationConditions T))
@@ -157,39 +154,11 @@ module _ (T : Tables) (narrow : (c phase q : ℕ) → q < queryCount T → fault
   first-phases : (q : ℕ) → q < queryCount T → firstOf (concat 2 (phaseConditions q)) ≡ typingAt T q
   first-phases q h = first-concat 2 (phaseConditions q) ∙ first-same _ (phaseAt T q) 2 0 (λ phase l n. first-at q phase h)
 
-  first-typing : firstOf (typingConditions T) ≡ typingCheck T
+  pub first-typing : firstOf (typingConditions T) ≡ typingCheck T
   unfolding typingCheck typingConditions
   first-typing = first-concat (queryCount T) _ ∙ first-same _ (typingAt T) (queryCount T) 0 (λ q l h. first-phases q (omega arith))
 
--- ---- the answer of a call
-
--- its checks before typing, typing, and those after it
-first-call : (T : Tables) (call : Call)
-    → firstOf (conditions T call) ≡ orElse (beforeTyping T call) (orElse (firstOf (typingConditions T)) (firstOf (call .afterTyping T)))
-first-call T call = simp (first-append, first-form, first-schema, or-else-assoc)
-
--- the answer, check by check
-pub answer-run : (T : Tables) (call : Call)
-    → answer T call
-    ≡ orElse (formCheck T)
-    (orElse (firstOf (call .beforeModel T))
-    (orElse (modelCheck T) (orElse (schemaCheck T) (orElse (typingCheck T) (firstOf (call .afterTyping T))))))
-unfolding answer
-answer-run T call = simp or-else-assoc
-
--- the answer of a call is the first of its conditions that holds
-pub answer-first : (T : Tables) (call : Call) → answer T call ≡ firstOf (conditions T call)
-unfolding answer
-answer-first T call = go (formCheck T) refl
-  where
-    go : (v : Verdict) → formCheck T ≡ v → answer T call ≡ firstOf (conditions T call)
-    go Verdict.Accepted e =
-        ap (λ (v : Verdict). orElse (beforeTyping T call) (orElse v (firstOf (call .afterTyping T)))) (sym (first-typing T (faults-narrow (formed T e))))
-        ∙ sym (first-call T call)
-    go (Verdict.Refused r) e =
-        let before = then-refused {a = formCheck T} _ e in then-refused _ before ∙ sym (first-call T call ∙ then-refused _ before)
-
--- ---- and what 'first' says: the least in the order of the list
+-- ---- what 'first' says: the least in the order of the list
 
 -- what is known of the later conditions, where the first does not hold
 later : {x : Condition} {xs : List Condition} {r : Refusal} → x .holds ≡ false → Foremost xs r → Foremost (x ∷ xs) r
@@ -249,34 +218,6 @@ pub holds-none : (xs : List Condition) → NoneHolds xs → firstOf xs ≡ Verdi
 unfolding firstOf
 holds-none [] h = refl
 holds-none (x ∷ xs) h = accepted-both (accepted-if (x .gives) (h 0)) (holds-none xs (λ k. h (suc k)))
-
--- ---- "first fault first", for any call
-
--- a call refuses exactly by the first of the conditions that hold
-pub refused-foremost : (T : Tables) (call : Call) (r : Refusal) → (answer T call ≡ Verdict.Refused r) ↔ Foremost (conditions T call) r
-refused-foremost T call r = (
-  λ e. first-foremost (conditions T call) r (sym (answer-first T call) ∙ e),
-  λ f. answer-first T call ∙ foremost-first (conditions T call) r f,
-)
-
--- and accepts exactly where none holds
-pub accepted-none : (T : Tables) (call : Call) → (answer T call ≡ Verdict.Accepted) ↔ NoneHolds (conditions T call)
-accepted-none T call = (
-  λ e. none-holds (conditions T call) (sym (answer-first T call) ∙ e),
-  λ h. answer-first T call ∙ holds-none (conditions T call) h,
-)
-
--- ---- "sound in form and schema"
-
--- 1 to 10, 24 and 12 to 14 accept exactly the tables that are sound
-pub sound-accepted : (T : Tables) → Sound T ↔ (orElse (formCheck T) (modelAndSchemaCheck T) ≡ Verdict.Accepted)
-sound-accepted T = (λ s. sym early ∙ holds-none xs s, λ e. none-holds xs (early ∙ e))
-  where
-    xs : List Condition
-    xs = formConditions T ++ schemaConditions T
-
-    early : firstOf xs ≡ orElse (formCheck T) (modelAndSchemaCheck T)
-    early = first-append (formConditions T) (schemaConditions T) ∙ ap₂ orElse (first-form T) (first-schema T)
 
 -- ---- configuring's own conditions, one after another
 

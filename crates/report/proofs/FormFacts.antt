@@ -9,10 +9,10 @@ use lib.ListN.{length}
 use lib.Dec.{leb, ltb, eqb}
 use Rattle.sets.proofs.SearchLaws.{some-none}
 use Rattle.report.specs.Tables.{Tables, query, expressionCount, projectLength, projectStart}
-use Rattle.report.specs.Operands.{comparisonOperands, queryOperands, isAmong}
+use Rattle.report.specs.Operands.{comparisonOperands, queryOperands, isAmong, comparisonSides}
 use Rattle.report.specs.FormChecks.{rangeFits, expressionFits, comparisonFits, isOperand, takenBelow, free, freePair, listFits}
 use Rattle.report.specs.FormChecks.{queryFitsAt, queryFitsIn}
-use Rattle.report.specs.Formed.{ExpressionLower, ComparisonLower, OperandsBelow, Free, FreePair, OperandsFree, QueryLower}
+use Rattle.report.specs.Formed.{ExpressionLower, ComparisonLower, OperandsBelow, SidesBelow, Free, FreePair, OperandsFree, QueryLower}
 use Rattle.report.specs.declared.Expression.{Expression}
 use Rattle.report.specs.declared.Comparison.{Comparison}
 use Rattle.report.specs.declared.Query.{Query}
@@ -69,6 +69,18 @@ comparison-below m e f (Comparison.Not a) l = l
 comparison-below m e f (Comparison.And a b) l = l
 comparison-below m e f (Comparison.Or a b) l = l
 comparison-below m e f (Comparison.Choice a b d) l = (l .1, l .2)
+
+-- and the attributes on its sides are below the number of attributes
+pub sides-below : (m e f : ℕ) (x : Comparison) → ComparisonLower m e f x → SidesBelow m (comparisonSides x)
+sides-below m e f Comparison.Malformed l = tt
+sides-below m e f Comparison.Never l = tt
+sides-below m e f Comparison.Always l = tt
+sides-below m e f (Comparison.Constant o a b k) l = l .1
+sides-below m e f (Comparison.Attribute o a b) l = (l .1, l .2)
+sides-below m e f (Comparison.Not a) l = tt
+sides-below m e f (Comparison.And a b) l = tt
+sides-below m e f (Comparison.Or a b) l = tt
+sides-below m e f (Comparison.Choice a b d) l = tt
 
 -- ---- one list
 

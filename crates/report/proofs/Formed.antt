@@ -1,5 +1,5 @@
--- The form checks accept just the tables that are Formed (specs/Formed). Everything after the form checks relies on that record.
-use Prim.Native.Nat.{ℕ, zero, suc, _-_, _/_, _%_, _<_}
+-- The form checks accept just the tables that are Formed (specs/Formed) and have at most 512 entries. Everything after the form checks relies on that record.
+use Prim.Native.Nat.{ℕ, zero, suc, _-_, _/_, _%_, _<_, _≤_}
 use mathlib.Core.Path.{_≡_, ap, ap₂}
 use mathlib.Core.Bool.{Bool, true, _&&_, not, and-eq-true-iff}
 use mathlib.Core.List.{[]}
@@ -12,7 +12,7 @@ use Rattle.sets.proofs.SearchLaws.{lowest-nothing, nothing-lowest}
 use Rattle.report.specs.Tables.{Tables, Shape, shapeOf, shapes, words, expressionCount, entryCount, relationCount, comparisonCount, queryCount}
 use Rattle.report.specs.Verdicts.{refusal, refuseIf, refuseAt}
 use Rattle.report.specs.FormChecks.{lengthFits, expressionOk, entryOk, relationOk, comparisonOk, queryOk, kindOk, constantOk, takenBelow, listsEnd}
-use Rattle.report.specs.FormChecks.{lengthsCheck, expressionsCheck, entriesCheck, relationsCheck, comparisonsCheck, queriesCheck, untakenCheck, tablesCheck}
+use Rattle.report.specs.FormChecks.{headCheck, lengthsCheck, expressionsCheck, entriesCheck, relationsCheck, comparisonsCheck, queriesCheck, untakenCheck, tablesCheck}
 use Rattle.report.specs.FormChecks.{kindTableCheck, constantsCheck, kindsCheck, formCheck}
 use Rattle.report.specs.Formed.{Sized, Formed}
 use Rattle.report.specs.declared.Refusal.{Refusal}
@@ -47,6 +47,10 @@ module _ (r : ℕ → Refusal) (ok : ℕ → Bool) (n : ℕ) where
   pub fit-all : ((k : ℕ) → k < n → ok k ≡ true) → refuseAt r (lowest (λ k. not (ok k)) n) ≡ Verdict.Accepted
   fit-all h = ap (refuseAt r) (nothing-lowest (λ k. not (ok k)) n (λ k l. ap not (h k l)))
 
+-- table 1 of whole tables is within what is asked of any table 1
+wider : {n : ℕ} → Sized (shapeOf 2 0 512) n → Sized (shapeOf 2 0 1024) n
+wider z = record { whole = z .whole; enough = z .enough; fits = let f = z .fits in omega arith }
+
 module _ (T : Tables) where
   lengths-fit : lengthsCheck T ≡ Verdict.Accepted → (t : ℕ) → t < 5 → tableFits T t ≡ true
   lengths-fit e t h =
@@ -77,7 +81,7 @@ module _ (T : Tables) where
         few = ltb-false 10 (T .features) (if-accepted _ _ (limits .0));
         narrow = ltb-false 64 (T .attributes) (if-accepted _ _ (limits .1));
         sized0 = sized _ _ (lengths 0 (lit< tt));
-        sized1 = sized _ _ (lengths 1 (lit< tt));
+        sized1 = wider (sized _ _ (lengths 1 (lit< tt)));
         sized2 = sized _ _ (lengths 2 (lit< tt));
         sized3 = sized _ _ (lengths 3 (lit< tt));
         sized4 = sized _ _ (lengths 4 (lit< tt));
@@ -94,10 +98,19 @@ module _ (T : Tables) where
         constantsOk = all-fit _ (constantOk T) (comparisonCount T) (kinds .1);
       }
 
-  -- and all of them
-  pub formed-accepted : Formed T → formCheck T ≡ Verdict.Accepted
+  -- table 1 has at most 512 entries where they accept
+  pub few-entries : formCheck T ≡ Verdict.Accepted → entryCount T ≤ 512
+  unfolding formCheck tablesCheck
+  few-entries e =
+      let t = both-accepted (tablesCheck T) (kindsCheck (T .attributes) (T .kinds) (T .comparisons)) e .0 in
+      let h = both-accepted (headCheck (T .features) (T .attributes)) _ t .1 in
+      let l = both-accepted (lengthsCheck T) _ h .0 in
+      sized (shapeOf 2 0 512) _ (lengths-fit l 1 (lit< tt)) .fits
+
+  -- and all of them, if table 1 has at most 512 entries
+  pub formed-accepted : Formed T → entryCount T ≤ 512 → formCheck T ≡ Verdict.Accepted
   unfolding formCheck tablesCheck kindsCheck expressionsCheck entriesCheck relationsCheck comparisonsCheck queriesCheck untakenCheck
-  formed-accepted F =
+  formed-accepted F few =
       accepted-both
       (accepted-both
       (accepted-both (accepted-if _ (le-ltb 10 (T .features) (F .few))) (accepted-if _ (le-ltb 64 (T .attributes) (F .narrow))))
@@ -117,7 +130,7 @@ module _ (T : Tables) where
     where
       lengths : (t : ℕ) → t < 5 → tableFits T t ≡ true
       lengths zero h = sized-fits (F .sized0)
-      lengths (suc zero) h = sized-fits (F .sized1)
+      lengths (suc zero) h = sized-fits {s = shapeOf 2 0 512} (record { whole = F .sized1 .whole; enough = F .sized1 .enough; fits = few })
       lengths (suc (suc zero)) h = sized-fits (F .sized2)
       lengths (suc (suc (suc zero))) h = sized-fits (F .sized3)
       lengths (suc (suc (suc (suc zero)))) h = sized-fits (F .sized4)

@@ -13,11 +13,11 @@ use Rattle.sets.proofs.SearchLaws.{some-at}
 use Rattle.report.specs.Tables.{Tables, entryAttribute, entryExpression, relationExpression, relationLength, expression, comparison, query}
 use Rattle.report.specs.Tables.{expressionCount, entryCount, relationCount, comparisonCount, queryCount, report}
 use Rattle.report.specs.Tables.{relationStart, projectLength, projectedBefore, relationsEnd, projectStart}
-use Rattle.report.specs.Operands.{comparisonOperands, queryOperands}
+use Rattle.report.specs.Operands.{comparisonOperands, queryOperands, sidesIn}
 use Rattle.report.specs.FormChecks.{isOperand, listFits, listsEnd}
-use Rattle.report.specs.Formed.{Formed, ExpressionLower, ComparisonLower, OperandsBelow, Free, OperandsFree, QueryLower}
+use Rattle.report.specs.Formed.{Formed, ExpressionLower, ComparisonLower, OperandsBelow, SidesBelow, Free, OperandsFree, QueryLower}
 use Rattle.report.specs.declared.Query.{Query}
-use Rattle.report.proofs.FormFacts.{expression-lower, comparison-lower, comparison-below, list-inside, query-lower}
+use Rattle.report.proofs.FormFacts.{expression-lower, comparison-lower, comparison-below, sides-below, list-inside, query-lower}
 use Rattle.report.proofs.FormFacts.{operands-free, among-free, free-below, Listing, project, unlisted, listing}
 
 -- lists start one after another, those of the relations
@@ -35,7 +35,7 @@ pub record Counts (T : Tables) : Type 0 where
   pub someExpression : 1 ≤ expressionCount T
   pub someQuery : 1 ≤ queryCount T
   pub most0 : expressionCount T ≤ 256
-  pub most1 : entryCount T ≤ 512
+  pub most1 : entryCount T ≤ 1024
   pub most2 : relationCount T ≤ 32
   pub most3 : comparisonCount T ≤ 256
   pub most4 : queryCount T ≤ 256
@@ -86,6 +86,10 @@ module _ {T : Tables} (F : Formed T) where
 
   pub query-operands : (q : ℕ) → q < queryCount T → OperandsBelow q (queryOperands (query (T .queries) q))
   query-operands q h = free-below (expressionCount T) (T .queries) q (queryOperands (query (T .queries) q)) (operands-at q h)
+
+  -- the attributes on the sides of a comparison are attributes of the tables
+  pub comparison-sides : (f : ℕ) → f < comparisonCount T → SidesBelow (T .attributes) (sidesIn (T .comparisons) f)
+  comparison-sides f h = sides-below (T .attributes) (expressionCount T) f (comparison (T .comparisons) f) (comparison-at f h)
 
   -- ---- entries and relations
 

@@ -6,8 +6,8 @@ use mathlib.Core.Bool.{true, false, cond}
 use lib.Dec.{eqb}
 use mathlib.Core.List.{[], _∷_}
 use mathlib.Core.Option.{none, some}
-use Rattle.report.specs.Tables.{Tables, tablesOf, kindOf}
-use Rattle.report.specs.Expressions.{permitted}
+use Rattle.report.specs.Tables.{Tables, kindOf}
+use Rattle.report.specs.Expressions.{permitted, tablesOf}
 use Rattle.report.specs.Typing.{present, reached, fails}
 use Rattle.report.specs.PlainAlgebra.{PlainComparison, PlainQuery, Schema, Kinds, passes, columns}
 use Rattle.report.specs.ConfiguredReport.{plainComparisonAt, keptAttributes, plainQueryAt, configuredReport, configuredSchema}
@@ -18,10 +18,10 @@ use Rattle.report.specs.TypingFaults.{Broken, Named}
 use Rattle.report.specs.Examples.{h1, harbour, h1Expressions, h1Entries, h1Queries, guarded}
 use Rattle.report.specs.declared.Verdict.{Verdict}
 use Rattle.report.proofs.ExamplesHold.{computed}
-use Rattle.report.proofs.FirstFault.{sound-accepted}
+use Rattle.report.proofs.CallLaws.{sound-accepted, sound-formed}
 use Rattle.report.proofs.TreeLaws.{report-passes}
 use Rattle.report.proofs.TypingLaws.{permitted-within}
-use Rattle.report.proofs.Refusing.{sound-formed, check-gets, configure-gets, check-early, accepted-exactly}
+use Rattle.report.proofs.Refusing.{check-gets, configure-gets, check-early, accepted-exactly}
 use Rattle.report.proofs.Refusing.{checking-own, configuring-own, refused-broken, refused-named, never-refused}
 
 -- ---- plain trees, under a schema whose relation 0 has attributes 0 and 1
@@ -68,7 +68,7 @@ h1-passes c p =
     report-passes (sound-formed (h1 2) h1-sound) c p .1 (λ q phase. accepted-exactly (h1 2) h1-sound .0 h1-accepted c q phase (permitted-within (h1 2) c p))
 
 pub h1-never : (c r1 r2 r3 r4 : ℕ) → isTypingFault (answer (h1 2) (configuring c r1 r2 r3 r4)) ≡ false
-h1-never c r1 r2 r3 r4 = never-refused (h1 2) h1-sound (configuring-own c r1 r2 r3 r4) (configure-gets (h1 2) h1-sound c r1 r2 r3 r4) h1-passes
+h1-never c r1 r2 r3 r4 = never-refused (h1 2) (configuring-own c r1 r2 r3 r4) (configure-gets (h1 2) h1-sound c r1 r2 r3 r4) h1-passes
 
 -- ---- H2: sound, and refused for a typing fault by both calls; so its report breaks a rule somewhere: at 1, where the form named fails
 
@@ -87,13 +87,13 @@ h2-fault : isTypingFault (answer h2 (checking 1024)) ≡ true
 h2-fault = ap isTypingFault h2-refused
 
 pub h2-broken : Broken h2
-h2-broken = refused-broken h2 h2-sound (checking-own 1024) (check-gets h2 h2-sound 1024 .1 refl) .0 h2-fault
+h2-broken = refused-broken h2 (checking-own 1024) (check-gets h2 h2-sound 1024 .1 refl) .0 h2-fault
 
 pub h2-named : Named h2 (checking 1024)
-h2-named = refused-named h2 h2-sound (checking-own 1024) (check-gets h2 h2-sound 1024 .1 refl) h2-fault
+h2-named = refused-named h2 (checking-own 1024) (check-gets h2 h2-sound 1024 .1 refl) h2-fault
 
 pub h2-configure : (c r1 r2 r3 r4 : ℕ) → isTypingFault (answer h2 (configuring c r1 r2 r3 r4)) ≡ true
-h2-configure c r1 r2 r3 r4 = refused-broken h2 h2-sound (configuring-own c r1 r2 r3 r4) (configure-gets h2 h2-sound c r1 r2 r3 r4) .1 h2-broken
+h2-configure c r1 r2 r3 r4 = refused-broken h2 (configuring-own c r1 r2 r3 r4) (configure-gets h2 h2-sound c r1 r2 r3 r4) .1 h2-broken
 
 pub h2-fails : (fails h2 1 0 1 ≡ true) × (fails h2 0 0 1 ≡ false)
 unfolding computed

@@ -11,45 +11,45 @@ use lib.Dec.{eqb}
 use Rattle.sets.specs.Search.{First}
 use Rattle.sets.specs.Bits.{bit}
 use Rattle.sets.proofs.SearchLaws.{at-lowest}
-use Rattle.report.specs.Tables.{Tables, kindOf, comparison, comparisonCount}
+use Rattle.report.specs.Tables.{Tables, kindOf, comparisonCount}
+use Rattle.report.specs.Operands.{sidesIn}
 use Rattle.report.specs.Expressions.{permitted}
 use Rattle.report.specs.Typing.{faults}
 use Rattle.report.specs.PlainAlgebra.{passes}
 use Rattle.report.specs.ConfiguredReport.{configuredReport, configuredSchema}
 use Rattle.report.specs.Verdicts.{refusal, refuseIf, refuseAt}
 use Rattle.report.specs.FormChecks.{constantKind, kindOk, constantOk, kindsCheck, tablesCheck, formCheck}
-use Rattle.report.specs.Checks.{faultNumber, typingCheck, isEarly, isOfTyping, isTypingFault}
-use Rattle.report.specs.Calls.{Call, beforeTyping, answer, Sound, GetsAsFarAsTyping, OwnNumbers}
+use Rattle.report.specs.Checks.{faultNumber, isEarly, isOfTyping, isTypingFault}
+use Rattle.report.specs.Calls.{Call, beforeTypingTo, whole, answer, Sound, GetsAsFarAsTyping, OwnNumbers}
 use Rattle.report.specs.TypingFaults.{TypingFault}
 use Rattle.report.specs.Kinds.{Differing, KindFault}
 use Rattle.report.specs.declared.Query.{Query}
 use Rattle.report.specs.declared.Refusal.{Refusal}
 use Rattle.report.specs.declared.Verdict.{Verdict}
-use Rattle.report.proofs.VerdictLaws.{accepted-not-refused, both-accepted, then-next, then-refused, accepted-both, accepted-if}
-use Rattle.report.proofs.Formed.{formed, fit-all}
+use Rattle.report.proofs.VerdictLaws.{accepted-not-refused, then-next, then-refused, accepted-both, accepted-if}
+use Rattle.report.proofs.Formed.{fit-all}
 use Rattle.report.proofs.ReachLaws.{reached-in}
 use Rattle.report.proofs.TreeLaws.{reached-permitted, fails-where, report-passes}
 use Rattle.report.proofs.TypingLaws.{permitted-within, typing-accepted}
-use Rattle.report.proofs.Refusing.{rule-below, gets-sound, sound-formed, refused-early, refused-broken, refused-named}
+use Rattle.report.proofs.CallLaws.{given-gets, given-typed, gets-given, sound-formed, form-refused}
+use Rattle.report.proofs.Refusing.{rule-below, refused-early, refused-broken, refused-named}
 use Rattle.report.proofs.KindMembers.{fault-differing, fails-differing}
 
 -- ---- both sides have one kind, or the call refuses
 
 -- "Both sides must have one kind at every configuration that reaches them": where a call accepts, they have
 pub accepted-one-kind : (T : Tables) (call : Call) → answer T call ≡ Verdict.Accepted → (c q a g : ℕ) → Differing T c q a g → ⊥
-unfolding answer
 accepted-one-kind T call e c q a g d =
-    let all = both-accepted (beforeTyping T call) _ e in
-    let F = formed T (both-accepted (formCheck T) _ (all .0) .0) in
+    let F = sound-formed T (gets-given (whole T) call (given-gets (whole T) call e)) in
     let ok = reached-permitted T c q (d .reaches) in
-    let none = typing-accepted T .0 (both-accepted (typingCheck T) _ (all .1) .0) c q 1 (permitted-within T c ok) (reached-in F c ok q (d .reaches)) in
+    let none = typing-accepted T .0 (given-typed (whole T) call e) c q 1 (permitted-within T c ok) (reached-in F c ok q (d .reaches)) in
     fails-differing T c q .0 (none (omega arith)) a g d
 
 -- where they have not, every call that gets as far as typing refuses for a typing fault
 pub differing-refused : (T : Tables) → Sound T → {call : Call} → OwnNumbers call → GetsAsFarAsTyping T call → (c q a g : ℕ)
     → Differing T c q a g → isTypingFault (answer T call) ≡ true
 differing-refused T sound own gets c q a g d =
-    refused-broken T sound own gets .1 (c, ok, go (passes (kindOf T) (configuredSchema T c) (configuredReport T c)) refl)
+    refused-broken T own gets .1 (c, ok, go (passes (kindOf T) (configuredSchema T c) (configuredReport T c)) refl)
   where
     ok : permitted T c ≡ true
     ok = reached-permitted T c q (d .reaches)
@@ -88,7 +88,7 @@ module _ (T : Tables) (r : Refusal) (f : TypingFault T r) (second : f .phase ≡
 -- a call refuses by 25 for such a fault alone
 pub refused-25 : (T : Tables) {call : Call} → OwnNumbers call → (r : Refusal) → answer T call ≡ Verdict.Refused r → r .number ≡ 25 → KindFault T r
 refused-25 T {call} own r e is25 =
-    let n = refused-named T (gets-sound T call gets) own gets (ap isTypingFault e ∙ ap isOfTyping is25) in
+    let n = refused-named T own gets (ap isTypingFault e ∙ ap isOfTyping is25) in
     let same = one-refusal (n .answers) e in
     subst (KindFault T) same
     (kind-fault T (n .refuses) (n .fault)
@@ -99,9 +99,9 @@ refused-25 T {call} own r e is25 =
 
     -- 25 is no early number
     gets : GetsAsFarAsTyping T call
-    gets = go (beforeTyping T call) refl
+    gets = go (beforeTypingTo (whole T) call) refl
       where
-        go : (v : Verdict) → beforeTyping T call ≡ v → GetsAsFarAsTyping T call
+        go : (v : Verdict) → beforeTypingTo (whole T) call ≡ v → GetsAsFarAsTyping T call
         go Verdict.Accepted p = p
         go (Verdict.Refused s) p =
             let early = refused-early T own .1 (λ g. accepted-not-refused p g) in
@@ -111,8 +111,8 @@ refused-25 T {call} own r e is25 =
 
 module _ (T : Tables) (call : Call) (ten : tablesCheck T ≡ Verdict.Accepted) where
   refused-24 : {r : Refusal} → kindsCheck (T .attributes) (T .kinds) (T .comparisons) ≡ Verdict.Refused r → answer T call ≡ Verdict.Refused r
-  unfolding answer formCheck
-  refused-24 e = then-refused _ (then-refused _ (then-next ten ∙ e))
+  unfolding formCheck
+  refused-24 e = form-refused T call (then-next ten ∙ e)
 
   -- "24 kind table not m words (place 0)"
   pub kind-table-refused : length (T .kinds) ≢ T .attributes → answer T call ≡ Verdict.Refused (refusal 24 0 0 0)
@@ -139,7 +139,7 @@ module _ (T : Tables) (call : Call) (ten : tablesCheck T ≡ Verdict.Accepted) w
 
     -- "else one in a comparison (place the form)", whether a query names it or not
     pub constant-refused : ((a : ℕ) → a < T .attributes → kindOf T a ≤ 2) → (f : ℕ) → f < comparisonCount T
-        → 2 < constantKind (comparison (T .comparisons) f) → ((g : ℕ) → g < f → constantKind (comparison (T .comparisons) g) ≤ 2)
+        → 2 < constantKind (sidesIn (T .comparisons) f) → ((g : ℕ) → g < f → constantKind (sidesIn (T .comparisons) g) ≤ 2)
         → answer T call ≡ Verdict.Refused (refusal 24 f 0 0)
     unfolding kindsCheck
     constant-refused right f h over lower =

@@ -13,6 +13,7 @@ use Rattle.sets.proofs.SearchLaws.{nothing-lowest, lowest-same}
 use Rattle.sets.proofs.ListLaws.{kept-same}
 use Rattle.report.specs.Tables.{Tables, kindOf, word, allZero, comparisonOf, comparison}
 use Rattle.report.specs.Tables.{expressionCount, relationCount, comparisonCount, queryCount, relationsEnd}
+use Rattle.report.specs.Operands.{comparisonSides, sidesIn}
 use Rattle.report.specs.Expressions.{configurations, permitted}
 use Rattle.report.specs.Typing.{leads, reached, kindsDiffer, joinedSet, gathered, setOf, faults, fails}
 use Rattle.report.specs.ColumnRows.{columnRows}
@@ -26,9 +27,11 @@ use Rattle.report.specs.Repeats.{tablesCheckWith}
 use Rattle.report.specs.Kinds.{Differing, ConstantsAre0, AllKinds0, comparisonsCheckBefore, tablesCheckBefore, typingCheckBefore}
 use Rattle.report.specs.Kinds.{answerWithout, answerBeforeKinds, withKinds, NoSelect, KindFree, withKind0, comparisonsBefore}
 use Rattle.report.specs.declared.Comparison.{Comparison}
+use Rattle.report.specs.declared.Sides.{Sides}
 use Rattle.report.specs.declared.Verdict.{Verdict}
 use Rattle.report.proofs.VerdictLaws.{or-else-accepted, accepted-both, accepted-if}
 use Rattle.report.proofs.Formed.{fit-all}
+use Rattle.report.proofs.CallLaws.{answer-checks}
 use Rattle.report.proofs.KindMembers.{fails-differing}
 
 -- ---- where 24 finds nothing and kinds differ nowhere, the answer is the one without these two checks
@@ -47,9 +50,10 @@ module _ (T : Tables) where
 
   pub without-kinds : kindsCheck (T .attributes) (T .kinds) (T .comparisons) ≡ Verdict.Accepted → ((c q : ℕ) → fails T c 1 q ≡ false)
       → (call : Call) → answer T call ≡ answerWithout T (tablesCheck T) call
-  unfolding answer formCheck
+  unfolding formCheck
   without-kinds e f call =
-      ap₂
+      answer-checks T call
+      ∙ ap₂
       (λ (tables typing : Verdict).
       orElse (orElse tables (orElse (firstOf (call .beforeModel T)) (modelAndSchemaCheck T))) (orElse typing (firstOf (call .afterTyping T))))
       (ap (orElse (tablesCheck T)) e ∙ or-else-accepted (tablesCheck T)) (typing-before f)
@@ -85,7 +89,7 @@ module _ (T : Tables) (zeros : ConstantsAre0 T) where
       kept-same (comparisonCount T) {keep = comparisonKept T c} (λ f h. refl)
       (λ f h. ap (comparisonFormOf T c) (go (comparison (T .comparisons) f) (zeros f h)))
     where
-      go : (x : Comparison) → constantKind x ≡ 0 → x ≡ withKind0 x
+      go : (x : Comparison) → constantKind (comparisonSides x) ≡ 0 → x ≡ withKind0 x
       go Comparison.Malformed e = refl
       go Comparison.Never e = refl
       go Comparison.Always e = refl
@@ -99,11 +103,11 @@ module _ (T : Tables) (zeros : ConstantsAre0 T) where
 -- ---- all kinds 0
 
 -- the kind of a constant is a comparison's fifth word: where that is 0 so is the kind
-unused-kind : (t : Bool) (x : Comparison) → constantKind x ≡ 0 → constantKind (cond t x Comparison.Malformed) ≡ 0
+unused-kind : (t : Bool) (x : Comparison) → constantKind (comparisonSides x) ≡ 0 → constantKind (comparisonSides (cond t x Comparison.Malformed)) ≡ 0
 unused-kind true x e = e
 unused-kind false x e = refl
 
-fifth-word : (kind o a b : ℕ) → constantKind (comparisonOf kind o a b 0) ≡ 0
+fifth-word : (kind o a b : ℕ) → constantKind (comparisonSides (comparisonOf kind o a b 0)) ≡ 0
 fifth-word zero o a b = unused-kind (allZero (o ∷ a ∷ b ∷ 0 ∷ [])) Comparison.Never refl
 fifth-word (suc zero) o a b = unused-kind (allZero (o ∷ a ∷ b ∷ 0 ∷ [])) Comparison.Always refl
 fifth-word (suc (suc zero)) o a b = refl
@@ -115,16 +119,10 @@ fifth-word (suc (suc (suc (suc (suc (suc (suc zero))))))) o a b = unused-kind (a
 fifth-word (suc (suc (suc (suc (suc (suc (suc (suc kind)))))))) o a b = refl
 
 -- where all kinds are 0 both sides have one
-zero-kinds : (kind : ℕ → ℕ) → ((a : ℕ) → kind a ≡ 0) → (x : Comparison) → constantKind x ≡ 0 → kindsDiffer kind x ≡ false
-zero-kinds kind z Comparison.Malformed e = refl
-zero-kinds kind z Comparison.Never e = refl
-zero-kinds kind z Comparison.Always e = refl
-zero-kinds kind z (Comparison.Constant o a b k) e = ap₂ (λ (i j : ℕ). not (eqb i j)) (z a) e
-zero-kinds kind z (Comparison.Attribute o a b) e = ap₂ (λ (i j : ℕ). not (eqb i j)) (z a) (z b)
-zero-kinds kind z (Comparison.Not a) e = refl
-zero-kinds kind z (Comparison.And a b) e = refl
-zero-kinds kind z (Comparison.Or a b) e = refl
-zero-kinds kind z (Comparison.Choice a b d) e = refl
+zero-kinds : (kind : ℕ → ℕ) → ((a : ℕ) → kind a ≡ 0) → (s : Sides) → constantKind s ≡ 0 → kindsDiffer kind s ≡ false
+zero-kinds kind z (Sides.Constant a k) e = ap₂ (λ (i j : ℕ). not (eqb i j)) (z a) e
+zero-kinds kind z (Sides.Attributes a b) e = ap₂ (λ (i j : ℕ). not (eqb i j)) (z a) (z b)
+zero-kinds kind z Sides.Neither e = refl
 
 module _ {T : Tables} (K : AllKinds0 T) where
   attribute-0 : (a : ℕ) → kindOf T a ≡ 0
@@ -135,10 +133,10 @@ module _ {T : Tables} (K : AllKinds0 T) where
       go (no h) = List·getD-eq-default (replicate (T .attributes) 0) 0 (omega (arith, length-replicate {A = ℕ} (T .attributes) 0))
 
   -- past the table the fifth word is read as 0
-  constant-0 : (f : ℕ) → constantKind (comparison (T .comparisons) f) ≡ 0
+  constant-0 : (f : ℕ) → constantKind (sidesIn (T .comparisons) f) ≡ 0
   constant-0 f = go (decLt f (comparisonCount T))
     where
-      go : Dec (f < comparisonCount T) → constantKind (comparison (T .comparisons) f) ≡ 0
+      go : Dec (f < comparisonCount T) → constantKind (sidesIn (T .comparisons) f) ≡ 0
       go (yes h) = K .constants f h
       go (no h) =
           let t = T .comparisons in
@@ -157,19 +155,19 @@ module _ {T : Tables} (K : AllKinds0 T) where
   pub kinds-0-before : (call : Call) → answer T call ≡ answerBeforeKinds T call
   kinds-0-before =
       answer-before T (K .constants) all-kinds
-      (λ c q a g d. false≢true (sym (zero-kinds (kindOf T) attribute-0 (comparison (T .comparisons) g) (constant-0 g)) ∙ d .two))
+      (λ c q a g d. false≢true (sym (zero-kinds (kindOf T) attribute-0 (sidesIn (T .comparisons) g) (constant-0 g)) ∙ d .two))
 
 -- ---- nothing compared
 
 -- a table without words has no comparison whose sides have two kinds
 nothing-differs : {T : Tables} → T .comparisons ≡ [] → (c q a g : ℕ) → Differing T c q a g → ⊥
-nothing-differs {T} none c q a g d = false≢true (ap (λ (t : List ℕ). kindsDiffer (kindOf T) (comparison t g)) (sym none) ∙ d .two)
+nothing-differs {T} none c q a g d = false≢true (ap (λ (t : List ℕ). kindsDiffer (kindOf T) (sidesIn t g)) (sym none) ∙ d .two)
 
 -- "Where 24 finds nothing, a report with no comparisons is judged as before"
 pub no-comparisons-before : (T : Tables) → T .comparisons ≡ [] → kindsCheck (T .attributes) (T .kinds) (T .comparisons) ≡ Verdict.Accepted
     → (call : Call) → answer T call ≡ answerBeforeKinds T call
 no-comparisons-before T none e =
-    answer-before T (λ f h. ap (λ (t : List ℕ). constantKind (comparison t f)) none) e (nothing-differs none)
+    answer-before T (λ f h. ap (λ (t : List ℕ). constantKind (sidesIn t f)) none) e (nothing-differs none)
 
 -- and so is one without a select, where comparisons that no query names have kind 0
 pub no-select-before : (T : Tables) → NoSelect T → ConstantsAre0 T → kindsCheck (T .attributes) (T .kinds) (T .comparisons) ≡ Verdict.Accepted

@@ -10,12 +10,13 @@ use lib.Bits.{bitOr, or-zero-l, or-zero-r}
 use Rattle.sets.specs.Bits.{bit}
 use Rattle.sets.proofs.BitLaws.{bit-none, bit-pow, bit-or, bits-equal}
 use Rattle.report.specs.Tables.{Tables, kindOf, comparison, query}
-use Rattle.report.specs.Operands.{comparisonOperands}
+use Rattle.report.specs.Operands.{comparisonOperands, comparisonSides, sidesIn}
 use Rattle.report.specs.Typing.{taken, onward, reached, kindsDiffer, leftOf, clashOf, gatheredOf, gathered, compares, clashes, clashesIn, faults, fails}
 use Rattle.report.specs.Kinds.{Differing}
 use Rattle.report.specs.declared.Comparison.{Comparison}
 use Rattle.report.specs.declared.Query.{Query}
 use Rattle.report.specs.declared.Operands.{Operands}
+use Rattle.report.specs.declared.Sides.{Sides}
 use Rattle.report.proofs.ValueLaws.{value-related}
 use Rattle.report.proofs.PassingOn.{or-either, or-first, or-second, same-number}
 use Rattle.report.proofs.TreeLaws.{holds-where}
@@ -29,36 +30,31 @@ one-member : (a b : ℕ) → bit (2 ^ b) a ≡ true → 2 ^ b ≡ 2 ^ a
 one-member a b e = ap (λ (k : ℕ). 2 ^ k) (sym (eqb-true a b (sym (bit-pow b a) ∙ e)))
 
 -- a comparison has one left attribute, or none
-left-member : (a : ℕ) (x : Comparison) → bit (leftOf x) a ≡ true → leftOf x ≡ 2 ^ a
-left-member a Comparison.Malformed e = no-member a e
-left-member a Comparison.Never e = no-member a e
-left-member a Comparison.Always e = no-member a e
-left-member a (Comparison.Constant o b d k) e = one-member a b e
-left-member a (Comparison.Attribute o b d) e = one-member a b e
-left-member a (Comparison.Not b) e = no-member a e
-left-member a (Comparison.And b d) e = no-member a e
-left-member a (Comparison.Or b d) e = no-member a e
-left-member a (Comparison.Choice b d f) e = no-member a e
+left-member : (a : ℕ) (s : Sides) → bit (leftOf s) a ≡ true → leftOf s ≡ 2 ^ a
+left-member a (Sides.Constant b k) e = one-member a b e
+left-member a (Sides.Attributes b d) e = one-member a b e
+left-member a Sides.Neither e = no-member a e
 
 -- it is at fault where the sides have two kinds
-own-clash : (kind : ℕ → ℕ) (a : ℕ) (x : Comparison) → (bit (clashOf kind x) a ≡ true) ↔ ((kindsDiffer kind x ≡ true) × (leftOf x ≡ 2 ^ a))
-own-clash kind a x = (
-  λ e. forth (kindsDiffer kind x) e,
-  λ p. ap (λ (t : Bool). bit (cond t (leftOf x) 0) a) (p .0) ∙ ap (λ (s : ℕ). bit s a) (p .1) ∙ bit-pow a a ∙ same-number a,
+own-clash : (kind : ℕ → ℕ) (a : ℕ) (s : Sides) → (bit (clashOf kind s) a ≡ true) ↔ ((kindsDiffer kind s ≡ true) × (leftOf s ≡ 2 ^ a))
+own-clash kind a s = (
+  λ e. forth (kindsDiffer kind s) e,
+  λ p. ap (λ (t : Bool). bit (cond t (leftOf s) 0) a) (p .0) ∙ ap (λ (n : ℕ). bit n a) (p .1) ∙ bit-pow a a ∙ same-number a,
 )
   where
-    forth : (t : Bool) → bit (cond t (leftOf x) 0) a ≡ true → (t ≡ true) × (leftOf x ≡ 2 ^ a)
-    forth true e = (refl, left-member a x e)
+    forth : (t : Bool) → bit (cond t (leftOf s) 0) a ≡ true → (t ≡ true) × (leftOf s ≡ 2 ^ a)
+    forth true e = (refl, left-member a s e)
     forth false e = no-member a e
 
 -- one that refers to others compares nothing itself
 gathered-own : (T : Tables) (c : ℕ) (set kind : ℕ → ℕ) (x : Comparison)
-    → gatheredOf T c set (clashOf kind x) (comparisonOperands x) ≡ bitOr (clashOf kind x) (gatheredOf T c set 0 (comparisonOperands x))
+    → gatheredOf T c set (clashOf kind (comparisonSides x)) (comparisonOperands x)
+    ≡ bitOr (clashOf kind (comparisonSides x)) (gatheredOf T c set 0 (comparisonOperands x))
 gathered-own T c set kind Comparison.Malformed = sym (or-zero-l 0)
 gathered-own T c set kind Comparison.Never = sym (or-zero-l 0)
 gathered-own T c set kind Comparison.Always = sym (or-zero-l 0)
-gathered-own T c set kind (Comparison.Constant o a b k) = sym (or-zero-r (clashOf kind (Comparison.Constant o a b k)))
-gathered-own T c set kind (Comparison.Attribute o a b) = sym (or-zero-r (clashOf kind (Comparison.Attribute o a b)))
+gathered-own T c set kind (Comparison.Constant o a b k) = sym (or-zero-r (clashOf kind (Sides.Constant a k)))
+gathered-own T c set kind (Comparison.Attribute o a b) = sym (or-zero-r (clashOf kind (Sides.Attributes a b)))
 gathered-own T c set kind (Comparison.Not a) = sym (or-zero-l (set a))
 gathered-own T c set kind (Comparison.And a b) = sym (or-zero-l (bitOr (set a) (set b)))
 gathered-own T c set kind (Comparison.Or a b) = sym (or-zero-l (bitOr (set a) (set b)))
@@ -71,7 +67,7 @@ module _ (T : Tables) (c a : ℕ) where
   abbrev Clashing : ℕ → (ℕ → Bool) → Type 0
   Clashing s marked =
       (bit s a ≡ true)
-      ↔ ((g : ℕ) × (marked g ≡ true) × (kindsDiffer (kindOf T) (comparison (T .comparisons) g) ≡ true) × (leftOf (comparison (T .comparisons) g) ≡ 2 ^ a))
+      ↔ ((g : ℕ) × (marked g ≡ true) × (kindsDiffer (kindOf T) (sidesIn (T .comparisons) g) ≡ true) × (leftOf (sidesIn (T .comparisons) g) ≡ 2 ^ a))
 
   clashing-none : Clashing 0 (λ g. false)
   clashing-none = (λ e. no-member a e, λ p. absurd (false≢true (p .1)))
@@ -87,9 +83,9 @@ module _ (T : Tables) (c a : ℕ) where
         (or-either (u (p .0)) (v (p .0)) (p .1)),
   )
 
-  clashing-own : (f : ℕ) → Clashing (clashOf (kindOf T) (comparison (T .comparisons) f)) (λ g. eqb g f)
+  clashing-own : (f : ℕ) → Clashing (clashOf (kindOf T) (sidesIn (T .comparisons) f)) (λ g. eqb g f)
   clashing-own f =
-      let own = own-clash (kindOf T) a (comparison (T .comparisons) f) in (
+      let own = own-clash (kindOf T) a (sidesIn (T .comparisons) f) in (
         λ e. (f, same-number f, own .0 e .0, own .0 e .1),
         λ p. own .1 (rw (← eqb-true (p .0) f (p .1)) (p .2, p .3)),
       )
@@ -102,7 +98,7 @@ module _ (T : Tables) (c a : ℕ) where
   clashing-operands set marked h (Operands.Choice e b d) = h (taken T c e b d)
 
   clashing-step : (set : ℕ → ℕ) (marked : ℕ → ℕ → Bool) → ((k : ℕ) → Clashing (set k) (λ g. marked g k)) → (f : ℕ)
-      → Clashing (gatheredOf T c set (clashOf (kindOf T) (comparison (T .comparisons) f)) (comparisonOperands (comparison (T .comparisons) f)))
+      → Clashing (gatheredOf T c set (clashOf (kindOf T) (sidesIn (T .comparisons) f)) (comparisonOperands (comparison (T .comparisons) f)))
       (λ g. eqb g f || onward T c (marked g) (comparisonOperands (comparison (T .comparisons) f)))
   clashing-step set marked h f =
       rw (gathered-own T c set (kindOf T) (comparison (T .comparisons) f))
@@ -113,37 +109,31 @@ pub clash-members : (T : Tables) (c f a : ℕ)
     → (bit (clashes T c f) a ≡ true)
     ↔ ((g : ℕ)
     × (compares T c g f ≡ true)
-    × (kindsDiffer (kindOf T) (comparison (T .comparisons) g) ≡ true)
-    × (leftOf (comparison (T .comparisons) g) ≡ 2 ^ a))
+    × (kindsDiffer (kindOf T) (sidesIn (T .comparisons) g) ≡ true)
+    × (leftOf (sidesIn (T .comparisons) g) ≡ 2 ^ a))
 unfolding gathered compares
 clash-members T c f a =
     value-related (Clashing T c a) 0 _ false
     (λ g marked f. eqb g f || onward T c marked (comparisonOperands (comparison (T .comparisons) f))) (clashing-none T c a) (clashing-step T c a) f
 
 -- a comparison whose sides have two kinds has a left attribute
-left-of : (kind : ℕ → ℕ) (x : Comparison) → kindsDiffer kind x ≡ true → (a : ℕ) × (leftOf x ≡ 2 ^ a)
-left-of kind Comparison.Malformed e = absurd (false≢true e)
-left-of kind Comparison.Never e = absurd (false≢true e)
-left-of kind Comparison.Always e = absurd (false≢true e)
-left-of kind (Comparison.Constant o a b k) e = (a, refl)
-left-of kind (Comparison.Attribute o a b) e = (a, refl)
-left-of kind (Comparison.Not a) e = absurd (false≢true e)
-left-of kind (Comparison.And a b) e = absurd (false≢true e)
-left-of kind (Comparison.Or a b) e = absurd (false≢true e)
-left-of kind (Comparison.Choice e a b) f = absurd (false≢true f)
+left-of : (kind : ℕ → ℕ) (s : Sides) → kindsDiffer kind s ≡ true → (a : ℕ) × (leftOf s ≡ 2 ^ a)
+left-of kind (Sides.Constant a k) e = (a, refl)
+left-of kind (Sides.Attributes a b) e = (a, refl)
+left-of kind Sides.Neither e = absurd (false≢true e)
 
 -- so there are none exactly where both sides have one kind in all of them
 pub no-clash : (T : Tables) (c f : ℕ)
-    → (clashes T c f ≡ 0) ↔ ((g : ℕ) → compares T c g f ≡ true → kindsDiffer (kindOf T) (comparison (T .comparisons) g) ≡ false)
-no-clash T c f = (λ e g l. forth e g l (kindsDiffer (kindOf T) (comparison (T .comparisons) g)) refl, back)
+    → (clashes T c f ≡ 0) ↔ ((g : ℕ) → compares T c g f ≡ true → kindsDiffer (kindOf T) (sidesIn (T .comparisons) g) ≡ false)
+no-clash T c f = (λ e g l. forth e g l (kindsDiffer (kindOf T) (sidesIn (T .comparisons) g)) refl, back)
   where
-    forth : clashes T c f ≡ 0 → (g : ℕ) → compares T c g f ≡ true → (t : Bool) → kindsDiffer (kindOf T) (comparison (T .comparisons) g) ≡ t → t ≡ false
+    forth : clashes T c f ≡ 0 → (g : ℕ) → compares T c g f ≡ true → (t : Bool) → kindsDiffer (kindOf T) (sidesIn (T .comparisons) g) ≡ t → t ≡ false
     forth e g l true d =
-        let a = left-of (kindOf T) (comparison (T .comparisons) g) d in
+        let a = left-of (kindOf T) (sidesIn (T .comparisons) g) d in
         no-member (a .0) (ap (λ (s : ℕ). bit s (a .0)) (sym e) ∙ clash-members T c f (a .0) .1 (g, l, d, a .1))
     forth e g l false d = refl
 
-    back : ((g : ℕ) → compares T c g f ≡ true → kindsDiffer (kindOf T) (comparison (T .comparisons) g) ≡ false) → clashes T c f ≡ 0
+    back : ((g : ℕ) → compares T c g f ≡ true → kindsDiffer (kindOf T) (sidesIn (T .comparisons) g) ≡ false) → clashes T c f ≡ 0
     back h = bits-equal (clashes T c f) 0 (λ a. none a (bit (clashes T c f) a) refl ∙ sym (bit-none a))
       where
         none : (a : ℕ) (t : Bool) → bit (clashes T c f) a ≡ t → bit (clashes T c f) a ≡ false

@@ -1,7 +1,7 @@
 -- A comparison or a query form by its operands: it is a choice, or plain; and where a reference to it leads.
 use Prim.Native.Nat.{ℕ}
 use mathlib.Core.Path.{_≡_, refl, sym, ap}
-use mathlib.Core.Bool.{true, false, false≢true}
+use mathlib.Core.Bool.{false, false≢true}
 use Rattle.report.specs.Tables.{Tables}
 use Rattle.report.specs.Operands.{comparisonOperands, queryOperands, isChoice}
 use Rattle.report.specs.Configuring.{targetOf}

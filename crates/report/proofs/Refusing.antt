@@ -1,4 +1,4 @@
--- What calls refuse: soundness in form and schema, acceptance, and demand 3's second half: a call that gets as far as typing refuses for a
+-- What calls refuse, whatever they are given: by which numbers before typing, and demand 3's second half: a call that gets as far as typing refuses for a
 -- typing fault exactly where, at some permitted configuration, the configured report breaks a plain rule.
 use Prim.Native.Nat.{ℕ, zero, suc, _-_, _<_}
 use mathlib.Core.Path.{_≡_, refl, sym, ap, _∙_}
@@ -14,7 +14,7 @@ use Rattle.sets.specs.declared.Found.{Found}
 use Rattle.sets.specs.Search.{seek, lowest}
 use Rattle.report.specs.Tables.{Tables, kindOf, shapes, shapeOf, words, entryAttribute, relationLength, relationStart}
 use Rattle.report.specs.Tables.{expressionCount, entryCount, relationCount, comparisonCount, queryCount}
-use Rattle.report.specs.Expressions.{configurations, permitted}
+use Rattle.report.specs.Expressions.{configurations}
 use Rattle.report.specs.Typing.{reached, clashesIn, faults, fails}
 use Rattle.report.specs.PlainAlgebra.{passes}
 use Rattle.report.specs.ConfiguredReport.{plainQueryAt, configuredReport, configuredSchema}
@@ -22,68 +22,37 @@ use Rattle.report.specs.Verdicts.{refusal, refuseIf, refuseAt, orElse, f
 use Rattle.report.specs.FormChecks.{lengthFits, expressionOk, entryOk, relationOk, comparisonOk, queryOk, kindOk, constantOk, takenBelow, listsEnd}
 use Rattle.report.specs.FormChecks.{lengthCheck, lengthsCheck, expressionsCheck, entriesCheck, relationsCheck, comparisonsCheck, queriesCheck, untakenCheck, tablesCheck, kindsCheck, formCheck}
 use Rattle.report.specs.Formed.{Formed}
-use Rattle.report.specs.Checks.{somewhere, absentEverywhere, apartEverywhere, modelCheck, relationCheck, schemaCheck, modelAndSchemaCheck, typingCheck}
+use Rattle.report.specs.Checks.{somewhere, absentEverywhere, apartEverywhere, relationCheck, modelAndSchemaCheck, typingCheck}
 use Rattle.report.specs.Checks.{ruleNumber, faultNumber, typingNumbers, isOneOf, isEarly, isOfTyping, isLate, isTypingFault}
-use Rattle.report.specs.Calls.{Call, beforeTyping, answer, Sound, GetsAsFarAsTyping, allGive, OwnNumbers, checking, configuring}
-use Rattle.report.specs.TypingFaults.{Broken, TypingFault, Breaks, Named}
+use Rattle.report.specs.Calls.{Call, Given, beforeTypingTo, answerTo, GetsTo, whole, answer, Sound, GetsAsFarAsTyping, allGive, OwnNumbers, checking, configuring}
+use Rattle.report.specs.GivenDemands.{Forms, EarlyFirst, PassesThroughout}
+use Rattle.report.specs.TypingFaults.{Broken, TypingFault, Breaks, NamedBy, Named}
 use Rattle.report.specs.declared.Refusal.{Refusal}
 use Rattle.report.specs.declared.Query.{Query}
 use Rattle.report.specs.declared.Verdict.{Verdict}
-use Rattle.report.proofs.VerdictLaws.{accepted-not-refused, both-accepted, accepted-both, then-next, then-refused, if-accepted, accepted-if, or-else-accepted}
-use Rattle.report.proofs.FirstFault.{first-none, first-one, sound-accepted}
+use Rattle.report.proofs.VerdictLaws.{accepted-not-refused, then-refused, if-accepted, accepted-if, or-else-accepted}
+use Rattle.report.proofs.FirstFault.{first-none, first-one, first-form}
+use Rattle.report.proofs.CallLaws.{given-answer, given-before, own-gets, gets-given, given-formed, whole-forms}
 use Rattle.report.proofs.TextLaws.{every}
 use Rattle.report.proofs.PassingOn.{or-either}
-use Rattle.report.proofs.Formed.{formed}
 use Rattle.report.proofs.LeadLaws.{formAt}
 use Rattle.report.proofs.TreeLaws.{operandsPass, operands-pass, reached-permitted, fails-where, holds-where, reached-passes, compared-where, lowest-breaks, report-passes}
 use Rattle.report.proofs.TreeLaws.{reached-part}
 use Rattle.report.proofs.TypingLaws.{permitted-within, fails-permitted, typing-accepted, typing-passes, typing-refused, fault-number, fault-item}
 
--- ---- "sound in form and schema", and "gets as far as typing"
+-- ---- "gets as far as typing"
 
 module _ (T : Tables) where
-  -- what 1 to 10, 24, 12 and 13 to 14 accept is sound
-  pub sound-checks : Sound T ↔ ((formCheck T ≡ Verdict.Accepted) × (modelCheck T ≡ Verdict.Accepted) × (schemaCheck T ≡ Verdict.Accepted))
-  sound-checks = (
-    λ s.
-        let p = both-accepted (formCheck T) (modelAndSchemaCheck T) (sound-accepted T .0 s) in
-        let q = both-accepted (modelCheck T) (schemaCheck T) (p .1) in
-        (p .0, q .0, q .1),
-    λ p. sound-accepted T .1 (accepted-both (p .0) (accepted-both (p .1) (p .2))),
-  )
-
-  pub sound-formed : Sound T → Formed T
-  sound-formed s = formed T (sound-checks .0 s .0)
-
-  -- on sound tables a call gets as far as typing exactly where no condition of its own before that holds; on other tables none does
-  module _ (call : Call) where
-    pub gets-own : Sound T → GetsAsFarAsTyping T call ↔ (firstOf (call .beforeModel T) ≡ Verdict.Accepted)
-    gets-own s =
-        let p = both-accepted (formCheck T) (modelAndSchemaCheck T) (sound-accepted T .0 s) in (
-          λ g. both-accepted (firstOf (call .beforeModel T)) _ (both-accepted (formCheck T) _ g .1) .0,
-          λ e. accepted-both (p .0) (accepted-both e (p .1)),
-        )
-
-    pub gets-sound : GetsAsFarAsTyping T call → Sound T
-    gets-sound g =
-        let p = both-accepted (formCheck T) (orElse (firstOf (call .beforeModel T)) (modelAndSchemaCheck T)) g in
-        sound-accepted T .1 (accepted-both (p .0) (both-accepted (firstOf (call .beforeModel T)) (modelAndSchemaCheck T) (p .1) .1))
-
-    -- such a call answers what typing answers, and then what comes after it
-    pub gets-answer : GetsAsFarAsTyping T call → answer T call ≡ orElse (typingCheck T) (firstOf (call .afterTyping T))
-    unfolding answer
-    gets-answer g = then-next g
-
   -- on sound tables the calls that get as far as typing are checking with 1,024 words of rows, and configuring whatever it is given
   pub check-gets : Sound T → (room : ℕ) → GetsAsFarAsTyping T (checking room) ↔ (room ≡ 1024)
   check-gets s room =
-      let own = gets-own (checking room) s in (
+      let own = own-gets (whole T) (checking room) s in (
         λ g. eqb-true room 1024 (not-false (eqb room 1024) (if-accepted _ _ (sym (first-one _ _) ∙ own .0 g))),
         λ e. own .1 (first-one _ _ ∙ accepted-if _ (ap not (eq-eqb room 1024 e))),
       )
 
   pub configure-gets : Sound T → (c r1 r2 r3 r4 : ℕ) → GetsAsFarAsTyping T (configuring c r1 r2 r3 r4)
-  configure-gets s c r1 r2 r3 r4 = gets-own (configuring c r1 r2 r3 r4) s .1 first-none
+  configure-gets s c r1 r2 r3 r4 = own-gets (whole T) (configuring c r1 r2 r3 r4) s .1 first-none
 
 -- ---- the numbers of refusals
 
@@ -169,13 +138,6 @@ module _ (T : Tables) where
       go Verdict.Accepted e = Numbered.accepts
       go (Verdict.Refused r) e = Numbered.refuses (fault-number T r (typing-refused T r .0 e))
 
-  module _ {call : Call} (own : OwnNumbers call) where
-    before-numbered : Numbered isEarly (beforeTyping T call)
-    before-numbered = numbered-or form-numbered (numbered-or (numbered-list (call .beforeModel T) (own .early T)) schema-numbered)
-
-    after-numbered : Numbered isLate (firstOf (call .afterTyping T))
-    after-numbered = numbered-list (call .afterTyping T) (own .late T)
-
 -- what holds of each number of a list
 one-of : (test : ℕ → Bool) (ns : List ℕ) → every test ns ≡ true → (k : ℕ) → isOneOf ns k ≡ true → test k ≡ true
 one-of test [] h k e = absurd (false≢true e)
@@ -197,26 +159,41 @@ late-not k e = go (isEarly k) (isOfTyping k) e
 
 -- ---- refused before typing
 
-module _ (T : Tables) {call : Call} (own : OwnNumbers call) where
-  late : GetsAsFarAsTyping T call → (r : Refusal) → answer T call ≡ Verdict.Refused r → isEarly (r .number) ≡ false
-  late g r e = go (typingCheck T) refl (sym (gets-answer T call g) ∙ e)
+module _ (G : Given) (early : EarlyFirst G) {call : Call} (own : OwnNumbers call) where
+  before-early : (r : Refusal) → beforeTypingTo G call ≡ Verdict.Refused r → isEarly (r .number) ≡ true
+  before-early r = go (firstOf (G .first)) refl
     where
-      go : (v : Verdict) → typingCheck T ≡ v → orElse v (firstOf (call .afterTyping T)) ≡ Verdict.Refused r → isEarly (r .number) ≡ false
-      go Verdict.Accepted p u = late-not (r .number) (number-of (after-numbered T own) u) .0
-      go (Verdict.Refused s) p u = typing-not-early (r .number) (number-of (typing-numbered T) (p ∙ u))
+      go : (v : Verdict) → firstOf (G .first) ≡ v
+          → orElse v (orElse (firstOf (call .beforeModel (G .tables))) (modelAndSchemaCheck (G .tables))) ≡ Verdict.Refused r → isEarly (r .number) ≡ true
+      go Verdict.Accepted p u =
+          number-of (numbered-or (numbered-list (call .beforeModel (G .tables)) (own .early (G .tables))) (schema-numbered (G .tables))) u
+      go (Verdict.Refused s) p u = early r (p ∙ u)
+
+  late : GetsTo G call → (r : Refusal) → answerTo G call ≡ Verdict.Refused r → isEarly (r .number) ≡ false
+  late g r e = go (typingCheck (G .tables)) refl (sym (given-answer G call g) ∙ e)
+    where
+      go : (v : Verdict) → typingCheck (G .tables) ≡ v → orElse v (firstOf (call .afterTyping (G .tables))) ≡ Verdict.Refused r → isEarly (r .number) ≡ false
+      go Verdict.Accepted p u = late-not (r .number) (number-of (numbered-list (call .afterTyping (G .tables)) (own .late (G .tables))) u) .0
+      go (Verdict.Refused s) p u = typing-not-early (r .number) (number-of (typing-numbered (G .tables)) (p ∙ u))
 
   -- a call refuses by an early number exactly where it does not get as far as typing
-  pub refused-early : ((r : Refusal) × (answer T call ≡ Verdict.Refused r) × (isEarly (r .number) ≡ true)) ↔ (GetsAsFarAsTyping T call → ⊥)
-  unfolding answer
-  refused-early = (
+  pub given-early : ((r : Refusal) × (answerTo G call ≡ Verdict.Refused r) × (isEarly (r .number) ≡ true)) ↔ (GetsTo G call → ⊥)
+  given-early = (
     λ p g. false≢true (sym (late g (p .0) (p .1)) ∙ p .2),
-    λ g. go g (beforeTyping T call) refl,
+    λ g. go g (beforeTypingTo G call) refl,
   )
     where
-      go : (GetsAsFarAsTyping T call → ⊥) → (v : Verdict) → beforeTyping T call ≡ v
-          → (r : Refusal) × (answer T call ≡ Verdict.Refused r) × (isEarly (r .number) ≡ true)
+      go : (GetsTo G call → ⊥) → (v : Verdict) → beforeTypingTo G call ≡ v
+          → (r : Refusal) × (answerTo G call ≡ Verdict.Refused r) × (isEarly (r .number) ≡ true)
       go g Verdict.Accepted e = absurd (g e)
-      go g (Verdict.Refused r) e = (r, then-refused _ e, number-of (before-numbered T own) e)
+      go g (Verdict.Refused r) e = (r, given-before G call e, before-early r e)
+
+whole-early : (T : Tables) → EarlyFirst (whole T)
+whole-early T r e = number-of (form-numbered T) (sym (first-form T) ∙ e)
+
+pub refused-early : (T : Tables) {call : Call} → OwnNumbers call
+    → ((r : Refusal) × (answer T call ≡ Verdict.Refused r) × (isEarly (r .number) ≡ true)) ↔ (GetsAsFarAsTyping T call → ⊥)
+refused-early T own = given-early (whole T) (whole-early T) own
 
 -- the two calls' own numbers are of their places
 pub checking-own : (room : ℕ) → OwnNumbers (checking room)
@@ -232,7 +209,7 @@ module _ (T : Tables) where
   pub own-early : {call : Call} → OwnNumbers call → firstOf (call .beforeModel T) ≡ Verdict.Accepted
       → ((r : Refusal) × (answer T call ≡ Verdict.Refused r) × (isEarly (r .number) ≡ true)) ↔ (Sound T → ⊥)
   own-early {call} own none =
-      let e = refused-early T own in (λ p s. e .0 p (gets-own T call s .1 none), λ n. e .1 (λ g. n (gets-sound T call g)))
+      let e = refused-early T own in (λ p s. e .0 p (own-gets (whole T) call s .1 none), λ n. e .1 (λ g. n (gets-given (whole T) call g)))
 
   -- checking with 1,024 words of rows, and configuring
   pub check-early : ((r : Refusal) × (answer T (checking 1024) ≡ Verdict.Refused r) × (isEarly (r .number) ≡ true)) ↔ (Sound T → ⊥)
@@ -247,7 +224,7 @@ module _ (T : Tables) where
   -- of sound tables a check with 1,024 words of rows answers as typing does
   pub check-typing : Sound T → answer T (checking 1024) ≡ typingCheck T
   check-typing s =
-      gets-answer T (checking 1024) (check-gets T s 1024 .1 refl) ∙ ap (orElse (typingCheck T)) first-none ∙ or-else-accepted (typingCheck T)
+      given-answer (whole T) (checking 1024) (check-gets T s 1024 .1 refl) ∙ ap (orElse (typingCheck T)) first-none ∙ or-else-accepted (typingCheck T)
 
   -- so it accepts them exactly where no form fails at any configuration
   pub accepted-exactly : Sound T
@@ -413,39 +390,58 @@ no-fault : {v : Verdict} → Numbered isLate v → isTypingFault v ≡ false
 no-fault Numbered.accepts = refl
 no-fault (Numbered.refuses {r} h) = late-not (r .number) h .1
 
-module _ (T : Tables) (sound : Sound T) {call : Call} (own : OwnNumbers call) (gets : GetsAsFarAsTyping T call) where
-  same-fault : isTypingFault (answer T call) ≡ isTypingFault (typingCheck T)
-  same-fault = ap isTypingFault (gets-answer T call gets) ∙ go (typingCheck T)
-    where
-      go : (v : Verdict) → isTypingFault (orElse v (firstOf (call .afterTyping T))) ≡ isTypingFault v
-      go Verdict.Accepted = no-fault (after-numbered T own)
-      go (Verdict.Refused r) = refl
+late-fault : (t : Verdict) (xs : List Condition) → allGive isLate xs ≡ true → isTypingFault (orElse t (firstOf xs)) ≡ isTypingFault t
+late-fault Verdict.Accepted xs h = no-fault (numbered-list xs h)
+late-fault (Verdict.Refused r) xs h = refl
 
-  -- demand 3: a call that gets as far as typing refuses for a typing fault exactly where the report breaks a plain rule at some permitted
-  -- configuration
+-- ---- demand 3, of any answer that is typing's, and then that of conditions with late numbers
+
+module _ {T : Tables} (F : Formed T) {v : Verdict} (xs : List Condition) (lateNumbers : allGive isLate xs ≡ true)
+    (is : v ≡ orElse (typingCheck T) (firstOf xs))
+  where
+    same-fault : isTypingFault v ≡ isTypingFault (typingCheck T)
+    same-fault = ap isTypingFault is ∙ late-fault (typingCheck T) xs lateNumbers
+
+    -- it refuses for a typing fault exactly where the report breaks a plain rule at some permitted configuration
+    typed-broken : (isTypingFault v ≡ true) ↔ Broken T
+    typed-broken = let b = typing-broken F in (λ e. b .0 (sym same-fault ∙ e), λ e. same-fault ∙ b .1 e)
+
+    -- the configuration that it then names is one of those, and the form, the configuration and the item are the lowest
+    typed-named : isTypingFault v ≡ true → NamedBy T v
+    typed-named e = go (typingCheck T) refl (sym same-fault ∙ e)
+      where
+        go : (t : Verdict) → typingCheck T ≡ t → isTypingFault (typingCheck T) ≡ true → NamedBy T v
+        go Verdict.Accepted p t = absurd (false≢true (sym (ap isTypingFault p) ∙ t))
+        go (Verdict.Refused r) p t =
+            let f = typing-refused T r .0 p in
+            record { refuses = r; answers = is ∙ then-refused _ p; fault = f; lowestItem = fault-item F r f; breaks = fault-breaks F r f }
+
+    -- no report that passes at every permitted configuration is refused so
+    typed-never : PassesThroughout T → isTypingFault v ≡ false
+    typed-never h = go (isTypingFault v) refl
+      where
+        go : (t : Bool) → isTypingFault v ≡ t → t ≡ false
+        go true e = let b = typed-broken .0 e in absurd (false≢true (sym (b .2) ∙ h (b .0) (b .1)))
+        go false e = refl
+
+-- of a call that gets as far as typing, whatever it is given
+module _ (G : Given) (forms : Forms G) {call : Call} (own : OwnNumbers call) (gets : GetsTo G call) where
+  pub given-broken : (isTypingFault (answerTo G call) ≡ true) ↔ Broken (G .tables)
+  given-broken = typed-broken (given-formed G call forms gets) (call .afterTyping (G .tables)) (own .late (G .tables)) (given-answer G call gets)
+
+  pub given-named : isTypingFault (answerTo G call) ≡ true → NamedBy (G .tables) (answerTo G call)
+  given-named = typed-named (given-formed G call forms gets) (call .afterTyping (G .tables)) (own .late (G .tables)) (given-answer G call gets)
+
+  pub given-never : PassesThroughout (G .tables) → isTypingFault (answerTo G call) ≡ false
+  given-never = typed-never (given-formed G call forms gets) (call .afterTyping (G .tables)) (own .late (G .tables)) (given-answer G call gets)
+
+-- and so of whole tables
+module _ (T : Tables) {call : Call} (own : OwnNumbers call) (gets : GetsAsFarAsTyping T call) where
   pub refused-broken : (isTypingFault (answer T call) ≡ true) ↔ Broken T
-  refused-broken = let b = typing-broken (sound-formed T sound) in (λ e. b .0 (sym same-fault ∙ e), λ e. same-fault ∙ b .1 e)
+  refused-broken = given-broken (whole T) (whole-forms T) own gets
 
-  -- the configuration that it then names is one of those, and the form, the configuration and the item are the lowest
   pub refused-named : isTypingFault (answer T call) ≡ true → Named T call
-  refused-named e = go (typingCheck T) refl (sym same-fault ∙ e)
-    where
-      go : (v : Verdict) → typingCheck T ≡ v → isTypingFault (typingCheck T) ≡ true → Named T call
-      go Verdict.Accepted p t = absurd (false≢true (sym (ap isTypingFault p) ∙ t))
-      go (Verdict.Refused r) p t =
-          let f = typing-refused T r .0 p in
-          record {
-            refuses = r;
-            answers = gets-answer T call gets ∙ then-refused _ p;
-            fault = f;
-            lowestItem = fault-item (sound-formed T sound) r f;
-            breaks = fault-breaks (sound-formed T sound) r f;
-          }
+  refused-named = given-named (whole T) (whole-forms T) own gets
 
-  -- no report that passes at every permitted configuration is refused so
-  pub never-refused : ((c : ℕ) → permitted T c ≡ true → passes (kindOf T) (configuredSchema T c) (configuredReport T c) ≡ true) → isTypingFault (answer T call) ≡ false
-  never-refused h = go (isTypingFault (answer T call)) refl
-    where
-      go : (t : Bool) → isTypingFault (answer T call) ≡ t → t ≡ false
-      go true e = let b = refused-broken .0 e in absurd (false≢true (sym (b .2) ∙ h (b .0) (b .1)))
-      go false e = refl
+  pub never-refused : PassesThroughout T → isTypingFault (answer T call) ≡ false
+  never-refused = given-never (whole T) (whole-forms T) own gets

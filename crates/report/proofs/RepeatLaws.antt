@@ -1,7 +1,7 @@
 -- Lists that have no attribute twice (specs/Repeats): for them checks 6 and 8 find what they found, and configuring keeps and writes what it did,
 -- when such lists were the only ones.
 use Prim.Native.Nat.{ℕ, _+_, _<_}
-use mathlib.Core.Path.{_≡_, refl, sym, ap, ap₂}
+use mathlib.Core.Path.{_≡_, refl, sym, ap, ap₂, _∙_}
 use mathlib.Core.Bool.{Bool, true, false, _&&_, not, and-eq-true-iff}
 use mathlib.Core.Logic.{_≢_}
 use mathlib.Core.List.{List, [], _∷_, _++_}
@@ -10,11 +10,13 @@ use lib.Dec.{ltb, eqb}
 use Rattle.sets.specs.Search.{someBelow}
 use Rattle.sets.proofs.SearchLaws.{some-none, none-some, lowest-same, count-same}
 use Rattle.sets.proofs.ListLaws.{kept-same}
-use Rattle.report.specs.Tables.{Tables, tablesOf, entryAttribute, relationExpression, relationLength, query}
+use Rattle.report.specs.Tables.{Tables, entryAttribute, relationExpression, relationLength, query}
+use Rattle.report.specs.Expressions.{tablesOf}
 use Rattle.report.specs.Tables.{expressionCount, relationCount, comparisonCount, queryCount}
 use Rattle.report.specs.Tables.{relationStart, relationsEnd, projectLength, projectStart}
 use Rattle.report.specs.Typing.{entryHolds, present}
 use Rattle.report.specs.FormChecks.{listFits, relationOk, queryOk, relationsCheck, comparisonsCheck, queriesCheck, tablesCheck, kindsCheck, formCheck}
+use Rattle.report.specs.Formed.{Formed}
 use Rattle.report.specs.Verdicts.{refusal, refuseAt, orElse, firstOf}
 use Rattle.report.specs.Checks.{modelAndSchemaCheck, typingCheck}
 use Rattle.report.specs.Calls.{Call, answer}
@@ -27,7 +29,7 @@ use Rattle.report.specs.declared.Verdict.{Verdict}
 use Rattle.report.specs.declared.Query.{Query}
 use Rattle.report.proofs.FormFacts.{Listing, project, unlisted, listing}
 use Rattle.report.proofs.FitLaws.{list-fits}
-use Rattle.report.proofs.Formed.{formed}
+use Rattle.report.proofs.CallLaws.{answer-checks}
 use Rattle.report.proofs.FormedFacts.{relation-list, project-inside}
 use Rattle.report.proofs.KeptLists.{kept-alone}
 
@@ -100,9 +102,10 @@ module _ {T : Tables} (N : NoRepeats T) where
 
   -- every answer is what it was
   pub answer-before : (call : Call) → answer T call ≡ answerBefore T call
-  unfolding answer answerBefore formCheck
+  unfolding answerBefore formCheck
   answer-before call =
-      ap
+      answer-checks T call
+      ∙ ap
       (λ (v : Verdict).
       orElse (orElse (orElse v (kindsCheck (T .attributes) (T .kinds) (T .comparisons))) (orElse (firstOf (call .beforeModel T)) (modelAndSchemaCheck T)))
       (orElse (typingCheck T) (firstOf (call .afterTyping T))))
@@ -110,12 +113,12 @@ module _ {T : Tables} (N : NoRepeats T) where
 
 -- ---- the written tables
 
-module _ {T : Tables} (accepted : formCheck T ≡ Verdict.Accepted) (N : NoRepeats T) (c : ℕ) where
+module _ {T : Tables} (F : Formed T) (N : NoRepeats T) (c : ℕ) where
   relation-once : (r : ℕ) → r < relationCount T → relationRepeats T r ≡ false
-  relation-once r h = N .relations r h (list-fits (T .entries) _ _ (relation-list (formed T accepted) r h))
+  relation-once r h = N .relations r h (list-fits (T .entries) _ _ (relation-list F r h))
 
   project-once : (q : ℕ) → q < queryCount T → projectRepeats T q ≡ false
-  project-once q h = N .projects q h (list-fits (T .entries) _ _ (project-inside (formed T accepted) q h))
+  project-once q h = N .projects q h (list-fits (T .entries) _ _ (project-inside F q h))
 
   -- a project alone has a list
   words-before : (q : ℕ) (y : Query) → keptLength T c (projectStart T q) (projectLength y) ≡ heldLength T c (projectStart T q) (projectLength y)

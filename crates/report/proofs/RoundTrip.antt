@@ -8,7 +8,8 @@ use native.Mathlib.Omega.{arith}
 use lib.ListN.{length, getD, take, drop, replicate, length-drop, take-append-drop}
 use lib.Seq.{length-take-le, getD-take, getD-drop}
 use borrow.Author.Tests.{eq-eqb}
-use Rattle.report.specs.Tables.{Tables, tablesOf, words}
+use Rattle.report.specs.Tables.{Tables, words}
+use Rattle.report.specs.Expressions.{holds, tablesOf}
 use Rattle.report.specs.HarbourFile.{groups, File, tablesFrom, fileOf}
 use Rattle.report.proofs.TextLaws.{both, every}
 use Rattle.report.proofs.LineLaws.{at-most-iff}
@@ -83,8 +84,9 @@ module _ (T : Tables) (W : Writable T) where
       back g h = rw (counted g h) (rows-flatten (groupAt g .shape .width) (W .count g) (partOf T g) (W .whole g h))
 
   -- so it is read back as the tables
-  pub round-trip : (length (T .kinds) ≡ 0 → T .attributes ≡ 0) → length (textOf T) ≤ 65536 → fileOf (textOf T) ≡ File.holds T
-  round-trip kinded short = text-read short ∙ rw (kinds-stand (T .attributes) (T .kinds) kinded)
+  pub round-trip : T .truth ≡ holds (T .expressions) → (length (T .kinds) ≡ 0 → T .attributes ≡ 0) → length (textOf T) ≤ 65536
+      → fileOf (textOf T) ≡ File.holds T
+  round-trip worked kinded short = text-read short ∙ rw (kinds-stand (T .attributes) (T .kinds) kinded, ← worked)
 
 -- and a text without kind lines, as every text was before there were any, as tables whose kinds are all 0
 pub kindless-trip : (n m model : ℕ) (expressions entries relations comparisons queries : List ℕ)

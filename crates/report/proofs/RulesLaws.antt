@@ -28,7 +28,8 @@ use Rattle.report.proofs.LeadLaws.{formAt, passed-lower}
 use Rattle.report.proofs.ReachLaws.{reached-in, reached-next, reached-report}
 use Rattle.report.proofs.TreeLaws.{reached-permitted, keeps-where}
 use Rattle.report.proofs.TypingLaws.{permitted-within, shown-columns}
-use Rattle.report.proofs.Refusing.{sound-formed, accepted-exactly}
+use Rattle.report.proofs.CallLaws.{sound-formed}
+use Rattle.report.proofs.Refusing.{accepted-exactly}
 
 -- ---- one form
 

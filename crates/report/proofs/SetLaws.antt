@@ -11,17 +11,18 @@ use lib.Pow.{pow-pos, pow-lt, pow-mono}
 use Rattle.sets.specs.Bits.{difference}
 use Rattle.sets.proofs.BitLaws.{difference-lt, subset-and, xor-same}
 use Rattle.report.specs.Tables.{Tables, kindOf, entryExpression, comparison, query}
-use Rattle.report.specs.Operands.{comparisonOperands}
-use Rattle.report.specs.Tables.{expressionCount, entryCount, comparisonCount, queryCount}
-use Rattle.report.specs.Typing.{at, joinedSet, present, relationSet, projectSet, gatheredOf, gathered, namesOf, names, kindsDiffer, leftOf, clashOf, clashes}
+use Rattle.report.specs.Operands.{comparisonOperands, comparisonSides}
+use Rattle.report.specs.Tables.{entryCount, comparisonCount, queryCount}
+use Rattle.report.specs.Typing.{at, joinedSet, present, relationSet, projectSet, gatheredOf, gathered, namesOf, names, kindsDiffer, leftOf, clashes}
 use Rattle.report.specs.Typing.{setRule, setOf, faultsOf, clashesIn, faults, keeps}
 use Rattle.report.specs.Rules.{Rule}
-use Rattle.report.specs.Formed.{Formed, ComparisonLower, OperandsBelow, QueryLower}
+use Rattle.report.specs.Formed.{Formed, OperandsBelow, SidesBelow, QueryLower}
 use Rattle.report.specs.declared.Comparison.{Comparison}
 use Rattle.report.specs.declared.Query.{Query}
 use Rattle.report.specs.declared.Operands.{Operands}
+use Rattle.report.specs.declared.Sides.{Sides}
 use Rattle.report.proofs.ValueLaws.{strong}
-use Rattle.report.proofs.FormedFacts.{comparison-at, comparison-operands, query-at, entry-attribute, relation-list, counts}
+use Rattle.report.proofs.FormedFacts.{comparison-operands, comparison-sides, query-at, entry-attribute, relation-list, counts}
 use Rattle.report.proofs.StepLaws.{taken-below, gathered-in, set-in}
 use Rattle.report.proofs.KindMembers.{no-clash}
 
@@ -75,7 +76,7 @@ module _ {T : Tables} (F : Formed T) (c : ℕ) where
 
   -- what is gathered of a comparison, where what each gives by itself is a set of attributes
   module _ (own : Comparison → ℕ)
-      (narrow : (f : ℕ) (x : Comparison) → ComparisonLower (T .attributes) (expressionCount T) f x → own x < 2 ^ (T .attributes))
+      (narrow : (x : Comparison) → SidesBelow (T .attributes) (comparisonSides x) → own x < 2 ^ (T .attributes))
     where
       gathered-rule : (f own : ℕ) → own < 2 ^ (T .attributes) → (o : Operands) → OperandsBelow f o → (set : ℕ → ℕ)
           → ((k : ℕ) → k < f → set k < 2 ^ (T .attributes)) → gatheredOf T c set own o < 2 ^ (T .attributes)
@@ -89,38 +90,28 @@ module _ {T : Tables} (F : Formed T) (c : ℕ) where
           strong (λ f. f < comparisonCount T → gathered T c own f < 2 ^ (T .attributes))
           (λ f ih h.
           rw (gathered-in F c f h own)
-          (gathered-rule f _ (narrow f (comparison (T .comparisons) f) (comparison-at F f h)) (comparisonOperands (comparison (T .comparisons) f))
+          (gathered-rule f _ (narrow (comparison (T .comparisons) f) (comparison-sides F f h)) (comparisonOperands (comparison (T .comparisons) f))
           (comparison-operands F f h) (gathered T c own) (λ k l. ih k l (omega arith))))
 
-  own-names : (f : ℕ) (x : Comparison) → ComparisonLower (T .attributes) (expressionCount T) f x → namesOf x < 2 ^ (T .attributes)
-  own-names f Comparison.Malformed l = absurd l
-  own-names f Comparison.Never l = pow-pos (T .attributes)
-  own-names f Comparison.Always l = pow-pos (T .attributes)
-  own-names f (Comparison.Constant o a b k) l = pow-lt (l .1)
-  own-names f (Comparison.Attribute o a b) l = or-lt (T .attributes) _ _ (pow-lt (l .1)) (pow-lt (l .2))
-  own-names f (Comparison.Not a) l = pow-pos (T .attributes)
-  own-names f (Comparison.And a b) l = pow-pos (T .attributes)
-  own-names f (Comparison.Or a b) l = pow-pos (T .attributes)
-  own-names f (Comparison.Choice a b d) l = pow-pos (T .attributes)
+  own-names : (s : Sides) → SidesBelow (T .attributes) s → namesOf s < 2 ^ (T .attributes)
+  own-names (Sides.Constant a k) l = pow-lt l
+  own-names (Sides.Attributes a b) l = or-lt (T .attributes) _ _ (pow-lt (l .0)) (pow-lt (l .1))
+  own-names Sides.Neither l = pow-pos (T .attributes)
 
   -- the attributes that a comparison names
   pub names-narrow : (f : ℕ) → f < comparisonCount T → names T c f < 2 ^ (T .attributes)
-  names-narrow = gathered-narrow (namesOf) own-names
+  names-narrow = gathered-narrow _ (λ x. own-names (comparisonSides x))
 
-  left-narrow : (f : ℕ) (x : Comparison) → ComparisonLower (T .attributes) (expressionCount T) f x → leftOf x < 2 ^ (T .attributes)
-  left-narrow f Comparison.Malformed l = absurd l
-  left-narrow f Comparison.Never l = pow-pos (T .attributes)
-  left-narrow f Comparison.Always l = pow-pos (T .attributes)
-  left-narrow f (Comparison.Constant o a b k) l = pow-lt (l .1)
-  left-narrow f (Comparison.Attribute o a b) l = pow-lt (l .1)
-  left-narrow f (Comparison.Not a) l = pow-pos (T .attributes)
-  left-narrow f (Comparison.And a b) l = pow-pos (T .attributes)
-  left-narrow f (Comparison.Or a b) l = pow-pos (T .attributes)
-  left-narrow f (Comparison.Choice a b d) l = pow-pos (T .attributes)
+  left-narrow : (s : Sides) → SidesBelow (T .attributes) s → leftOf s < 2 ^ (T .attributes)
+  left-narrow (Sides.Constant a k) l = pow-lt l
+  left-narrow (Sides.Attributes a b) l = pow-lt (l .0)
+  left-narrow Sides.Neither l = pow-pos (T .attributes)
 
   -- the left attributes at fault in it
   pub clashes-narrow : (f : ℕ) → f < comparisonCount T → clashes T c f < 2 ^ (T .attributes)
-  clashes-narrow = gathered-narrow (clashOf (kindOf T)) (λ f x l. zero-narrow (T .attributes) (kindsDiffer (kindOf T) x) (left-narrow f x l))
+  clashes-narrow =
+      gathered-narrow _
+      (λ x l. let s = comparisonSides x in zero-narrow (T .attributes) (kindsDiffer (kindOf T) s) (left-narrow s l))
 
   set-rule : (q : ℕ) (x : Query) → QueryLower T q x → ((k : ℕ) → k < q → setOf T c k < 2 ^ (T .attributes))
       → setRule T c (setOf T c) q x < 2 ^ (T .attributes)

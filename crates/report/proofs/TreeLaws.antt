@@ -13,7 +13,7 @@ use lib.Pow.{pow-pos}
 use Rattle.sets.specs.Bits.{difference}
 use Rattle.sets.proofs.BitLaws.{or-none, xor-zero, subset-and}
 use Rattle.report.specs.Tables.{Tables, kindOf, comparison, queryCount, report, projectStart}
-use Rattle.report.specs.Operands.{comparisonOperands, queryOperands}
+use Rattle.report.specs.Operands.{comparisonOperands, queryOperands, comparisonSides, sidesIn}
 use Rattle.report.specs.Expressions.{permitted}
 use Rattle.report.specs.Typing.{phases, at, taken, passesOn, leads, reached, present, relationSet, projectSet, gatheredOf, gathered, namesOf, names}
 use Rattle.report.specs.Typing.{clashOf, clashes, setRule, setOf, faultsOf, clashesIn, faults, fails, keeps}
@@ -87,7 +87,7 @@ module _ (T : Tables) (c x : ℕ) where
 
 module _ (T : Tables) (c : ℕ) where
   named-rule : (f : ℕ → PlainComparison) (x : Comparison)
-      → named (plainComparisonOf T c f x) ≡ gatheredOf T c (λ k. named (f k)) (namesOf x) (comparisonOperands x)
+      → named (plainComparisonOf T c f x) ≡ gatheredOf T c (λ k. named (f k)) (namesOf (comparisonSides x)) (comparisonOperands x)
   named-rule f Comparison.Malformed = refl
   named-rule f Comparison.Never = refl
   named-rule f Comparison.Always = refl
@@ -103,7 +103,7 @@ module _ (T : Tables) (c : ℕ) where
   unfolding plainComparisonAt gathered
   named-names =
       value-map named PlainComparison.never (λ tree f. plainComparisonOf T c tree (comparison (T .comparisons) f))
-      (λ tree f. gatheredOf T c tree (namesOf (comparison (T .comparisons) f)) (comparisonOperands (comparison (T .comparisons) f)))
+      (λ tree f. gatheredOf T c tree (namesOf (sidesIn (T .comparisons) f)) (comparisonOperands (comparison (T .comparisons) f)))
       (λ g n. named-rule g (comparison (T .comparisons) n))
 
   like : (a : ℕ) (t : Bool) → t ≡ eqb (cond (not t) (2 ^ a) 0) 0
@@ -119,7 +119,7 @@ module _ (T : Tables) (c : ℕ) where
 
   tree-agreed : (tree : ℕ → PlainComparison) (x : Comparison)
       → oneKind (kindOf T) (plainComparisonOf T c tree x)
-      ≡ agreed (λ k. oneKind (kindOf T) (tree k)) (eqb (clashOf (kindOf T) x) 0) (comparisonOperands x)
+      ≡ agreed (λ k. oneKind (kindOf T) (tree k)) (eqb (clashOf (kindOf T) (comparisonSides x)) 0) (comparisonOperands x)
   tree-agreed tree Comparison.Malformed = refl
   tree-agreed tree Comparison.Never = refl
   tree-agreed tree Comparison.Always = refl
@@ -144,11 +144,11 @@ module _ (T : Tables) (c : ℕ) where
       (λ g n. tree-agreed g (comparison (T .comparisons) n)) f
       ∙ sym
       (value-map (λ x. eqb x 0) 0
-      (λ set f. gatheredOf T c set (clashOf (kindOf T) (comparison (T .comparisons) f)) (comparisonOperands (comparison (T .comparisons) f))) step
-      (λ g n. set-agreed g (clashOf (kindOf T) (comparison (T .comparisons) n)) (comparisonOperands (comparison (T .comparisons) n))) f)
+      (λ set f. gatheredOf T c set (clashOf (kindOf T) (sidesIn (T .comparisons) f)) (comparisonOperands (comparison (T .comparisons) f))) step
+      (λ g n. set-agreed g (clashOf (kindOf T) (sidesIn (T .comparisons) n)) (comparisonOperands (comparison (T .comparisons) n))) f)
     where
       step : (ℕ → Bool) → ℕ → Bool
-      step one f = agreed one (eqb (clashOf (kindOf T) (comparison (T .comparisons) f)) 0) (comparisonOperands (comparison (T .comparisons) f))
+      step one f = agreed one (eqb (clashOf (kindOf T) (sidesIn (T .comparisons) f)) 0) (comparisonOperands (comparison (T .comparisons) f))
 
 -- ---- one form: its node's own rule, and the trees of its operands
 

@@ -1,6 +1,6 @@
 -- The tables that configuring writes are, as a tree, the configured report with its relations renumbered, under the configured schema renumbered
 -- (docs/FORMAT.md, "Configuring"). Nothing here asks that the report passes, only that every relation that c reaches is present.
-use Prim.Native.Nat.{ℕ, _<_}
+use Prim.Native.Nat.{ℕ, _<_, _≤_}
 use mathlib.Core.Path.{_≡_, refl, sym, ap, ap₂, _∙_}
 use mathlib.Core.Bool.{Bool, true, false, _&&_, _||_, false≢true}
 use native.Mathlib.Omega.{arith}
@@ -9,17 +9,18 @@ use lib.Bits.{bitAnd, bitOr}
 use Rattle.sets.specs.Search.{countBelow}
 use Rattle.sets.specs.Bits.{subset}
 use Rattle.sets.proofs.SearchLaws.{count-lt}
-use Rattle.report.specs.Tables.{Tables, kindOf, queryCount, projectStart, report}
+use Rattle.report.specs.Tables.{Tables, kindOf, entryCount, queryCount, projectStart, report}
 use Rattle.report.specs.Expressions.{permitted}
 use Rattle.report.specs.Typing.{taken, present, reached}
 use Rattle.report.specs.Formed.{Formed, QueryLower}
 use Rattle.report.specs.Operands.{queryOperands, isChoice}
-use Rattle.report.specs.FormChecks.{isOperand}
+use Rattle.report.specs.FormChecks.{isOperand, formCheck}
 use Rattle.report.specs.Configuring.{queryKept, newRelation, newQuery, configured}
 use Rattle.report.specs.PlainAlgebra.{PlainQuery, Schema, Kinds, comparisonKeeps, setFrom, inSchema, attributesIn, columns, passes}
 use Rattle.report.specs.ConfiguredReport.{plainQueryOf, plainQueryAt, configuredReport, configuredSchema}
 use Rattle.report.specs.WrittenTables.{renamed, WrittenTables}
 use Rattle.report.specs.declared.Query.{Query}
+use Rattle.report.specs.declared.Verdict.{Verdict}
 use Rattle.report.proofs.ValueLaws.{strong}
 use Rattle.report.proofs.Formed.{formed-accepted}
 use Rattle.report.proofs.FormedFacts.{query-at, operand-lower, report-in}
@@ -31,7 +32,7 @@ use Rattle.report.proofs.ReachLaws.{both-kept, reached-report, reached-
 use Rattle.report.proofs.CarriedLists.{carried-attributes}
 use Rattle.report.proofs.WrittenComparisons.{plain-comparison-same}
 use Rattle.report.proofs.WrittenEntries.{entry-holds, new-relation, relation-of, relations-once, schema-written, schema-end}
-use Rattle.report.proofs.WrittenQueries.{renumberedQuery, queries-count, query-written, project-stands}
+use Rattle.report.proofs.WrittenQueries.{renumberedQuery, entries-room, queries-count, query-written, project-stands}
 use Rattle.report.proofs.WrittenFormed.{RelationsPresent, queries-once, written-formed}
 
 -- ---- a tree with other numbers for its relations
@@ -178,9 +179,13 @@ module _ {T : Tables} (F : Formed T) (c : ℕ) (ok : permitted T c ≡ true) (P 
       ap (columns (configuredSchema (configured T c) 0)) report-written
       ∙ columns-renamed (configuredSchema T c) (configuredSchema (configured T c) 0) (newRelation T c) (configuredReport T c) (report-same .agree)
 
+-- checks 1 to 10 and 24 accept what is written of tables with at most 512 entries
+pub tables-accepted : {T : Tables} → Formed T → entryCount T ≤ 512 → (c : ℕ) → permitted T c ≡ true → RelationsPresent T c
+    → formCheck (configured T c) ≡ Verdict.Accepted
+tables-accepted {T} F few c ok P = formed-accepted (configured T c) (written-formed F c ok P) (let m = entries-room F c in omega arith)
+
 pub tables-written : {T : Tables} → Formed T → (c : ℕ) → permitted T c ≡ true → RelationsPresent T c → WrittenTables T c
 tables-written {T} F c ok P = record {
-  accepted = formed-accepted (configured T c) (written-formed F c ok P);
   tree = report-written F c ok P;
   schema = schema-written F c;
   schemaEnd = schema-end (configured T c) 0;

@@ -11,7 +11,7 @@ use lib.Dec.{lit<}
 use Rattle.sets.specs.Search.{countBelow}
 use Rattle.sets.proofs.SearchLaws.{nth, count-lt}
 use Rattle.report.specs.Tables.{Tables, word, comparisonOf, comparison, comparisonCount, expressionCount}
-use Rattle.report.specs.Operands.{comparisonOperands, isChoice}
+use Rattle.report.specs.Operands.{comparisonOperands, isChoice, comparisonSides}
 use Rattle.report.specs.Typing.{at, taken}
 use Rattle.report.specs.Configuring.{targetOf, comparisonTarget, comparisonKept, newComparison, comparisonFormOf, configured}
 use Rattle.report.specs.PlainAlgebra.{PlainComparison}
@@ -20,6 +20,7 @@ use Rattle.report.specs.FormChecks.{isKind, constantKind, comparisonOk, 
 use Rattle.report.specs.Formed.{Formed, ComparisonLower, OperandsBelow}
 use Rattle.report.specs.declared.Comparison.{Comparison}
 use Rattle.report.specs.declared.Operands.{Operands}
+use Rattle.report.specs.declared.Sides.{Sides}
 use Rattle.report.proofs.ValueLaws.{strong}
 use Rattle.report.proofs.FormFacts.{comparison-below}
 use Rattle.report.proofs.FitLaws.{comparison-fits}
@@ -152,24 +153,24 @@ module _ {T : Tables} (F : Formed T) (c : ℕ) where
       subst (λ (x : ℕ). comparisonOk (configured T c) x ≡ true) (n .number)
       (comparison-fits (T .attributes) 1 _ (comparison (configured T c .comparisons) _) (written-lower (n .old) (n .below) (n .passed)))
 
-  renumbered-kind : (x : Comparison) → isChoice (comparisonOperands x) ≡ false → constantKind (renumberedComparison T c x) ≡ constantKind x
-  renumbered-kind Comparison.Malformed p = refl
-  renumbered-kind Comparison.Never p = refl
-  renumbered-kind Comparison.Always p = refl
-  renumbered-kind (Comparison.Constant o a b k) p = refl
-  renumbered-kind (Comparison.Attribute o a b) p = refl
-  renumbered-kind (Comparison.Not a) p = refl
-  renumbered-kind (Comparison.And a b) p = refl
-  renumbered-kind (Comparison.Or a b) p = refl
-  renumbered-kind (Comparison.Choice a b d) p = absurd (false≢true (sym p))
+  renumbered-sides : (x : Comparison) → isChoice (comparisonOperands x) ≡ false → comparisonSides (renumberedComparison T c x) ≡ comparisonSides x
+  renumbered-sides Comparison.Malformed p = refl
+  renumbered-sides Comparison.Never p = refl
+  renumbered-sides Comparison.Always p = refl
+  renumbered-sides (Comparison.Constant o a b k) p = refl
+  renumbered-sides (Comparison.Attribute o a b) p = refl
+  renumbered-sides (Comparison.Not a) p = refl
+  renumbered-sides (Comparison.And a b) p = refl
+  renumbered-sides (Comparison.Or a b) p = refl
+  renumbered-sides (Comparison.Choice a b d) p = absurd (false≢true (sym p))
 
   -- check 24 of their constants
   pub constants-ok : (k : ℕ) → k < comparisonCount (configured T c) → constantOk (configured T c) k ≡ true
   constants-ok k h =
       let n = nth (comparisonKept T c) (comparisonCount T) k (let e = comparisons-count in omega arith) in
       subst (λ (x : ℕ). constantOk (configured T c) x ≡ true) (n .number)
-      (ap (λ (x : Comparison). isKind (constantKind x)) (comparison-written (n .old) (n .below) (n .passed))
-      ∙ ap isKind (renumbered-kind (comparison (T .comparisons) (n .old)) (not-true _ (n .passed)))
+      (ap (λ (x : Comparison). isKind (constantKind (comparisonSides x))) (comparison-written (n .old) (n .below) (n .passed))
+      ∙ ap (λ (s : Sides). isKind (constantKind s)) (renumbered-sides (comparison (T .comparisons) (n .old)) (not-true _ (n .passed)))
       ∙ F .constantsOk (n .old) (n .below))
 
   -- ---- and says what it said

@@ -192,7 +192,7 @@ module _ {T : Tables} (F : Formed T) (c : ℕ) (ok : permitted T c ≡ true) whe
     first-expression zero h = refl
     first-expression (suc f) h = absurd (omega arith)
 
-    entries-sized : Sized (shapeOf 2 0 512) (length (configured T c .entries))
+    entries-sized : Sized (shapeOf 2 0 1024) (length (configured T c .entries))
     entries-sized = let e = entries-even F c in let m = entries-room F c in let n = counts F .most1 in let w = counts F .words1 in omega arith
 
     relations-sized : Sized (shapeOf 2 0 32) (length (configured T c .relations))

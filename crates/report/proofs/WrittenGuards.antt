@@ -3,8 +3,8 @@
 use mathlib.Core.Path.{_≡_, refl}
 use mathlib.Core.Bool.{true, false}
 use mathlib.Core.List.{[], _∷_}
-use Rattle.report.specs.Tables.{Tables, tablesOf}
-use Rattle.report.specs.Expressions.{permitted}
+use Rattle.report.specs.Tables.{Tables}
+use Rattle.report.specs.Expressions.{permitted, tablesOf}
 use Rattle.report.specs.Typing.{present, reached}
 use Rattle.report.specs.Configuring.{configured}
 use Rattle.report.specs.Verdicts.{refusal}
@@ -14,7 +14,7 @@ use Rattle.report.specs.WrittenTables.{WrittenAccepted}
 use Rattle.report.specs.Examples.{h1}
 use Rattle.report.specs.declared.Verdict.{Verdict}
 use Rattle.report.proofs.ExamplesHold.{computed}
-use Rattle.report.proofs.FirstFault.{sound-accepted}
+use Rattle.report.proofs.CallLaws.{sound-accepted}
 use Rattle.report.proofs.Guards.{h1-accepted}
 use Rattle.report.proofs.WrittenAccepted.{accepted-written}
 

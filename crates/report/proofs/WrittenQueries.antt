@@ -5,21 +5,22 @@ use mathlib.Core.Bool.{Bool, true, false, false≢true}
 use mathlib.Core.List.{List}
 use native.Mathlib.Nat.{le-refl, zero-lt-suc}
 use native.Mathlib.Omega.{arith}
-use lib.ListN.{length, getD, length-append}
-use lib.Seq.{getD-append-add}
+use lib.ListN.{length, getD, length-append, length-drop}
+use lib.Seq.{getD-append-add, length-take-le}
 use lib.Dec.{lit<}
 use Rattle.sets.specs.Search.{countBelow}
 use Rattle.sets.proofs.SearchLaws.{count-yes, count-no, count-le}
 use Rattle.sets.proofs.ListLaws.{kept-yes, kept-no, kept-at}
-use Rattle.report.specs.Tables.{Tables, word, queryOf, query, relationLength, relationStart, projectLength, projectStart}
+use Rattle.report.specs.Tables.{Tables, word, queryOf, query, relationLength, relationStart, relationsEnd, projectLength, projectedBefore, projectStart}
 use Rattle.report.specs.Tables.{entryCount, relationCount, comparisonCount, queryCount}
 use Rattle.report.specs.Operands.{queryOperands, isChoice}
 use Rattle.report.specs.Typing.{present}
 use Rattle.report.specs.Configuring.{comparisonKept, queryKept, entryKept}
 use Rattle.report.specs.Configuring.{keptList, relationList, projectListOf, queryFormOf, configured}
 use Rattle.report.specs.Formed.{Formed, QueryLower}
+use Rattle.report.specs.WrittenTables.{Shorter}
 use Rattle.report.specs.declared.Query.{Query}
-use Rattle.report.proofs.FormedFacts.{query-at, lists-end, counts}
+use Rattle.report.proofs.FormedFacts.{query-at, lists-end, relation-within, counts}
 use Rattle.report.proofs.LeadLaws.{formAt}
 use Rattle.report.proofs.ReachLaws.{kept-both}
 use Rattle.report.proofs.KeptForms.{kept-inside, kept-short, forms-length, forms-count, first-word, form-word}
@@ -158,13 +159,28 @@ module _ {T : Tables} (F : Formed T) (c : ℕ) where
       let l = list-short T c r (relationStart (T .relations) r) (relationLength (T .relations) r) in
       omega arith
 
-  lists-shorter : (q : ℕ) → length (relationLists T c (relationCount T)) + length (projectLists T c q) ≤ projectStart T q * 2
-  lists-shorter zero = let l = relations-shorter (relationCount T) in omega arith
-  lists-shorter (suc q) =
-      let i = lists-shorter q in
+  projects-shorter : (q : ℕ) → length (projectLists T c q) ≤ projectedBefore (T .queries) q * 2
+  projects-shorter zero = omega arith
+  projects-shorter (suc q) =
+      let i = projects-shorter q in
       let k = kept-short (queryKept T c) projectList q in
       let l = list-short T c q (projectStart T q) (projectLength (formAt T q)) in
       omega arith
+
+  lists-shorter : (q : ℕ) → length (relationLists T c (relationCount T)) + length (projectLists T c q) ≤ projectStart T q * 2
+  lists-shorter q = let r = relations-shorter (relationCount T) in let p = projects-shorter q in omega arith
+
+  -- each part of table 1 by itself
+  pub parts-shorter : Shorter T c
+  parts-shorter =
+      let w = counts F .words1 in
+      let e = relation-within F (relationCount T) (le-refl _) in
+      let u = lists-end F in
+      let t = length-take-le (relationsEnd T * 2) (T .entries) (omega arith) in
+      let d = length-drop (relationsEnd T * 2) (T .entries) in
+      let r = relations-shorter (relationCount T) in
+      let p = projects-shorter (queryCount T) in
+      record { relations = omega arith; projects = omega arith }
 
   pub entries-room : length (configured T c .entries) ≤ length (T .entries)
   entries-room =

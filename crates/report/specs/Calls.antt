@@ -1,4 +1,4 @@
--- docs/FORMAT.md, "Refusals": what a call checks and answers; checking and configuring; and the terms that the demands use.
+-- docs/FORMAT.md, "Refusals": what a call is given, what it checks and answers; checking and configuring; and the terms that the demands use.
 use Prim.Native.Nat.{ℕ}
 use mathlib.Core.Path.{_≡_}
 use mathlib.Core.Bool.{Bool, true, _&&_, not}
@@ -9,36 +9,61 @@ use Rattle.report.specs.Tables.{Tables}
 use Rattle.report.specs.Expressions.{permitted}
 use Rattle.report.specs.ColumnRows.{columnRows}
 use Rattle.report.specs.Verdicts.{refusal, orElse, after, Condition, _gives_, firstOf, NoneHolds}
-use Rattle.report.specs.FormChecks.{formCheck}
 use Rattle.report.specs.Checks.{modelAndSchemaCheck, typingCheck, isEarly, isLate}
 use Rattle.report.specs.Conditions.{formConditions, schemaConditions, typingConditions}
 use Rattle.report.specs.declared.Verdict.{Verdict}
 
--- A call on tables, by the conditions of its own: those that it checks between the form checks and 12, and those after typing
+-- A call, by the conditions of its own: those that it checks between the first checks and 12, and those after typing
 pub record Call : Type 0 where
   pub beforeModel : Tables → List Condition
   pub afterTyping : Tables → List Condition
 
-module _ (T : Tables) where
-  -- all that a call checks, in its order
-  abbrev pub conditions : Call → List Condition
-  conditions call = formConditions T ++ call .beforeModel T ++ schemaConditions T ++ typingConditions T ++ call .afterTyping T
+-- What a call is given: tables, and the conditions that are checked first
+pub record Given : Type 0 where
+  pub tables : Tables
+  pub first : List Condition
 
-  -- what a call runs before typing: 1 to 10 and 24, its own, 12 to 14
-  abbrev pub beforeTyping : Call → Verdict
-  beforeTyping call = orElse (formCheck T) (orElse (firstOf (call .beforeModel T)) (modelAndSchemaCheck T))
+module _ (G : Given) where
+  -- all that a call checks, in its order
+  abbrev pub conditionsTo : Call → List Condition
+  conditionsTo call =
+      G .first ++ call .beforeModel (G .tables) ++ schemaConditions (G .tables) ++ typingConditions (G .tables) ++ call .afterTyping (G .tables)
+
+  -- what it runs before typing: the first checks, its own, 12 to 14
+  abbrev pub beforeTypingTo : Call → Verdict
+  beforeTypingTo call = orElse (firstOf (G .first)) (orElse (firstOf (call .beforeModel (G .tables))) (modelAndSchemaCheck (G .tables)))
 
   -- the answer of a call
-  unfoldable pub answer : Call → Verdict
-  answer call = orElse (beforeTyping call) (orElse (typingCheck T) (firstOf (call .afterTyping T)))
+  unfoldable pub answerTo : Call → Verdict
+  answerTo call = orElse (beforeTypingTo call) (orElse (typingCheck (G .tables)) (firstOf (call .afterTyping (G .tables))))
 
-  -- "sound in form and schema": none of the conditions checked before typing holds, 11 left aside
-  abbrev pub Sound : Type 0
-  Sound = NoneHolds (formConditions T ++ schemaConditions T)
+  -- "sound in form and schema": none of the conditions checked before typing holds, a call's own left aside
+  abbrev pub SoundTo : Type 0
+  SoundTo = NoneHolds (G .first ++ schemaConditions (G .tables))
 
   -- "gets as far as typing": the call runs the typing checks, and no earlier check refuses it
+  abbrev pub GetsTo : Call → Type 0
+  GetsTo call = beforeTypingTo call ≡ Verdict.Accepted
+
+-- ---- the calls of document 01: they are given whole tables, whose form is checked first, by 1 to 10 and 24
+
+abbrev pub whole : Tables → Given
+whole T = record { tables = T; first = formConditions T }
+
+module _ (T : Tables) where
+  abbrev pub conditions : Call → List Condition
+  conditions = conditionsTo (whole T)
+
+  abbrev pub answer : Call → Verdict
+  answer = answerTo (whole T)
+
+  abbrev pub Sound : Type 0
+  Sound = SoundTo (whole T)
+
   abbrev pub GetsAsFarAsTyping : Call → Type 0
-  GetsAsFarAsTyping call = beforeTyping call ≡ Verdict.Accepted
+  GetsAsFarAsTyping = GetsTo (whole T)
+
+-- ---- the numbers of a call's own refusals
 
 -- the refusals that conditions give have such numbers
 abbrev pub allGive : (ℕ → Bool) → List Condition → Bool

@@ -7,7 +7,8 @@ use lib.Dec.{eqb}
 use Rattle.sets.specs.Search.{someBelow, countBelow}
 use Rattle.sets.specs.Lists.{kept}
 use Rattle.report.specs.Values.{value}
-use Rattle.report.specs.Tables.{Tables, tablesOf, entryAttribute, relationLength, comparison, query}
+use Rattle.report.specs.Tables.{Tables, entryAttribute, relationLength, comparison, query}
+use Rattle.report.specs.Expressions.{tablesOf}
 use Rattle.report.specs.Tables.{relationCount, comparisonCount, queryCount, relationStart, projectLength, projectStart}
 use Rattle.report.specs.Operands.{comparisonOperands, queryOperands, isChoice}
 use Rattle.report.specs.Typing.{taken, reached, entryHolds, present}

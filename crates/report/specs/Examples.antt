@@ -4,7 +4,8 @@ use Prim.Native.Nat.{ℕ, _+_, _-_, _^_}
 use mathlib.Core.List.{List, [], _∷_, _++_}
 use lib.ListN.{replicate}
 use Rattle.sets.specs.Lists.{concat}
-use Rattle.report.specs.Tables.{Tables, tablesOf, entryCount, relationCount, comparisonCount, queryCount}
+use Rattle.report.specs.Tables.{Tables, entryCount, relationCount, comparisonCount, queryCount}
+use Rattle.report.specs.Expressions.{tablesOf}
 use Rattle.report.specs.ColumnRows.{columnRows}
 use Rattle.report.specs.Configuring.{configured}
 use Rattle.report.specs.Calls.{answer, checking, configuring}

@@ -9,6 +9,7 @@ use Rattle.sets.specs.Rows.{within}
 use Rattle.report.specs.Values.{value}
 use Rattle.report.specs.Tables.{Tables, expression}
 use Rattle.report.specs.declared.Expression.{Expression}
+use Rattle.report.specs.declared.Head.{Head}
 
 -- Feature i is on at configuration c where bit i of c is 1
 
@@ -35,6 +36,25 @@ truthOf c at (Expression.ExactlyOne a b) = exactlyOneOn a b c
 unfoldable pub holds : List ℕ → ℕ → ℕ → Bool
 holds expressions c = value false (λ at e. truthOf c at (expression expressions e))
 
+-- the tables of these words: the truth of an expression is that it holds
+abbrev pub tablesOf : ℕ → ℕ → ℕ → List ℕ → List ℕ → List ℕ → List ℕ → List ℕ → List ℕ → Tables
+tablesOf features attributes model expressions entries relations comparisons queries kinds = record {
+  features = features;
+  attributes = attributes;
+  model = model;
+  expressions = expressions;
+  entries = entries;
+  relations = relations;
+  comparisons = comparisons;
+  queries = queries;
+  kinds = kinds;
+  truth = holds expressions;
+}
+
+-- the same, with the head as one value
+abbrev pub tablesUnder : Head → List ℕ → List ℕ → List ℕ → List ℕ → List ℕ → List ℕ → Tables
+tablesUnder head = tablesOf (head .features) (head .attributes) (head .model)
+
 module _ (T : Tables) where
   -- with n features the configurations run from 0 to 2 ^ n - 1
   abbrev pub configurations : ℕ
@@ -42,4 +62,4 @@ module _ (T : Tables) where
 
   -- "permitted": c is a configuration, and the feature model holds
   unfoldable pub permitted : ℕ → Bool
-  permitted = within (T .features) (λ c. holds (T .expressions) c (T .model))
+  permitted = within (T .features) (λ c. T .truth c (T .model))

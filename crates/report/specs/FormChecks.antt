@@ -8,12 +8,13 @@ use Rattle.sets.specs.Search.{lowest, someBelow}
 use Rattle.report.specs.Tables.{Tables, Shape, shapeOf, shapes, words, entryAttribute, entryExpression, relationExpression, relationLength}
 use Rattle.report.specs.Tables.{expression, comparison, query, expressionCount, entryCount, relationCount, comparisonCount, queryCount}
 use Rattle.report.specs.Tables.{kindIn, kindOf, relationStart, projectedBefore, relationsEnd, projectStart}
-use Rattle.report.specs.Operands.{queryOperands, isAmong}
+use Rattle.report.specs.Operands.{queryOperands, isAmong, sidesIn}
 use Rattle.report.specs.Verdicts.{refusal, refuseIf, refuseAt, orElse, firstFrom}
 use Rattle.report.specs.declared.Verdict.{Verdict}
 use Rattle.report.specs.declared.Expression.{Expression}
 use Rattle.report.specs.declared.Comparison.{Comparison}
 use Rattle.report.specs.declared.Query.{Query}
+use Rattle.report.specs.declared.Sides.{Sides}
 
 -- 1: over 10 features, then over 64 attributes
 abbrev pub headCheck : ℕ → ℕ → Verdict
@@ -54,17 +55,11 @@ comparisonFits m e f (Comparison.Choice a b d) = ltb a e && ltb b f && ltb d f
 abbrev pub isKind : ℕ → Bool
 isKind k = leb k 2
 
--- the kind that stands in a comparison, its constant's; 0 where none does
-abbrev pub constantKind : Comparison → ℕ
-constantKind Comparison.Malformed = 0
-constantKind Comparison.Never = 0
-constantKind Comparison.Always = 0
-constantKind (Comparison.Constant o a b k) = k
-constantKind (Comparison.Attribute o a b) = 0
-constantKind (Comparison.Not a) = 0
-constantKind (Comparison.And a b) = 0
-constantKind (Comparison.Or a b) = 0
-constantKind (Comparison.Choice a b d) = 0
+-- the kind that stands in a comparison with these sides, its constant's; 0 where none does
+abbrev pub constantKind : Sides → ℕ
+constantKind (Sides.Constant a k) = k
+constantKind (Sides.Attributes a b) = 0
+constantKind Sides.Neither = 0
 
 -- form x is an operand of a query form
 abbrev pub isOperand : ℕ → Query → Bool
@@ -163,7 +158,7 @@ kindTableCheck m kinds =
 -- else the lowest comparison in which a word that is no kind stands as one, whether a query names it or not
 abbrev pub constantsCheck : List ℕ → Verdict
 constantsCheck comparisons =
-    refuseAt (λ f. refusal 24 f 0 0) (lowest (λ f. not (isKind (constantKind (comparison comparisons f)))) (length comparisons / 5))
+    refuseAt (λ f. refusal 24 f 0 0) (lowest (λ f. not (isKind (constantKind (sidesIn comparisons f)))) (length comparisons / 5))
 
 unfoldable pub kindsCheck : ℕ → List ℕ → List ℕ → Verdict
 kindsCheck m kinds comparisons = orElse (kindTableCheck m kinds) (constantsCheck comparisons)
@@ -193,7 +188,7 @@ module _ (T : Tables) where
   kindOk a = isKind (kindOf T a)
 
   abbrev pub constantOk : ℕ → Bool
-  constantOk f = isKind (constantKind (comparison (T .comparisons) f))
+  constantOk f = isKind (constantKind (sidesIn (T .comparisons) f))
 
   -- where all lists end
   abbrev pub listsEnd : ℕ

@@ -12,8 +12,9 @@ use Rattle.report.specs.declared.Expression.{Expression}
 use Rattle.report.specs.declared.Comparison.{Comparison}
 use Rattle.report.specs.declared.Query.{Query}
 use Rattle.report.specs.declared.Operands.{Operands}
+use Rattle.report.specs.declared.Sides.{Sides}
 
--- ---- whole tables
+-- ---- all tables together
 
 -- a table of `count` words: a whole number of forms, and as many as its range allows
 pub record Sized (s : Shape) (count : ℕ) : Type 0 where
@@ -21,12 +22,13 @@ pub record Sized (s : Shape) (count : ℕ) : Type 0 where
   pub enough : s .least ≤ count / s .width
   pub fits : count / s .width ≤ s .most
 
--- tables of which none of the conditions 1 to 10 and 24 holds
+-- what the form checks leave: tables of which none of the conditions 1 to 10 and 24 holds, but that table 1 may have 1,024 entries, those of two tables
+-- together
 pub record Formed (T : Tables) : Type 0 where
   pub few : T .features ≤ 10
   pub narrow : T .attributes ≤ 64
   pub sized0 : Sized (shapeOf 3 1 256) (length (T .expressions))
-  pub sized1 : Sized (shapeOf 2 0 512) (length (T .entries))
+  pub sized1 : Sized (shapeOf 2 0 1024) (length (T .entries))
   pub sized2 : Sized (shapeOf 2 0 32) (length (T .relations))
   pub sized3 : Sized (shapeOf 5 0 256) (length (T .comparisons))
   pub sized4 : Sized (shapeOf 4 1 256) (length (T .queries))
@@ -73,6 +75,12 @@ OperandsBelow f Operands.Nothing = Unit {0}
 OperandsBelow f (Operands.One a) = a < f
 OperandsBelow f (Operands.Both a b) = (a < f) × (b < f)
 OperandsBelow f (Operands.Choice e a b) = (a < f) × (b < f)
+
+-- the attributes on the sides of a comparison are below m
+abbrev pub SidesBelow : ℕ → Sides → Type 0
+SidesBelow m (Sides.Constant a k) = a < m
+SidesBelow m (Sides.Attributes a b) = (a < m) × (b < m)
+SidesBelow m Sides.Neither = Unit {0}
 
 -- `entries` are entries of table 1 of T, from entry `offset` on
 pub record EntriesFrom (T : Tables) (offset : ℕ) (entries : List ℕ) : Type 0 where

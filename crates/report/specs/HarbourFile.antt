@@ -7,7 +7,8 @@ use lib.Dec.{leb, ltb, eqb}
 use Rattle.sets.specs.declared.Found.{Found}
 use Rattle.sets.specs.Search.{lowest, allBelow, countBelow}
 use Rattle.sets.specs.Lists.{kept}
-use Rattle.report.specs.Tables.{Tables, tablesOf, Shape, shapeOf, shapes}
+use Rattle.report.specs.Tables.{Tables, Shape, shapeOf, shapes}
+use Rattle.report.specs.Expressions.{tablesOf}
 use Rattle.report.specs.Text.{bytes, line, same, numbersIn}
 
 -- the word of a group of lines, and how many numbers a line has and how many lines the group may have

@@ -8,7 +8,8 @@ use lib.Dec.{eqb}
 use lib.ListN.{replicate}
 use Rattle.sets.specs.Search.{lowest}
 use Rattle.sets.specs.Lists.{kept}
-use Rattle.report.specs.Tables.{Tables, tablesOf, kindOf, comparison, query, comparisonCount, queryCount, relationsEnd, expressionCount, relationCount}
+use Rattle.report.specs.Tables.{Tables, kindOf, comparison, query, comparisonCount, queryCount, relationsEnd, expressionCount, relationCount}
+use Rattle.report.specs.Operands.{sidesIn}
 use Rattle.report.specs.Expressions.{configurations}
 use Rattle.report.specs.Typing.{phases, reached, kindsDiffer, leftOf, compares, fails}
 use Rattle.report.specs.Configuring.{comparisonKept, comparisonFormOf}
@@ -31,8 +32,8 @@ pub record Differing (T : Tables) (c q a g : ℕ) : Type 0 where
   pub form : query (T .queries) q ≡ Query.Select selects of
   pub reaches : reached T c q ≡ true
   pub leads : compares T c g selects ≡ true
-  pub two : kindsDiffer (kindOf T) (comparison (T .comparisons) g) ≡ true
-  pub left : leftOf (comparison (T .comparisons) g) ≡ 2 ^ a
+  pub two : kindsDiffer (kindOf T) (sidesIn (T .comparisons) g) ≡ true
+  pub left : leftOf (sidesIn (T .comparisons) g) ≡ 2 ^ a
 
 -- "25 kinds differ, a typing fault looked for in a form only when 16 fails there at no configuration, place form, item the lowest left attribute at
 -- fault, with the lowest configuration"
@@ -51,7 +52,7 @@ pub record KindFault (T : Tables) (r : Refusal) : Type 0 where
 module _ (T : Tables) where
   -- the kinds of all constants are 0
   abbrev pub ConstantsAre0 : Type 0
-  ConstantsAre0 = (f : ℕ) → f < comparisonCount T → constantKind (comparison (T .comparisons) f) ≡ 0
+  ConstantsAre0 = (f : ℕ) → f < comparisonCount T → constantKind (sidesIn (T .comparisons) f) ≡ 0
 
   -- all kinds are 0, the constants' too
   pub record AllKinds0 : Type 0 where
@@ -62,7 +63,7 @@ module _ (T : Tables) where
   unfoldable pub comparisonsCheckBefore : Verdict
   comparisonsCheckBefore =
       refuseAt (λ f. refusal 7 f 0 0)
-      (lowest (λ f. not (comparisonOk T f && eqb (constantKind (comparison (T .comparisons) f)) 0)) (comparisonCount T))
+      (lowest (λ f. not (comparisonOk T f && eqb (constantKind (sidesIn (T .comparisons) f)) 0)) (comparisonCount T))
 
   -- checks 1 to 10, with it for 7
   abbrev pub tablesCheckBefore : Verdict
@@ -85,8 +86,18 @@ module _ (T : Tables) where
 
 -- the same tables with other kinds of attributes
 abbrev pub withKinds : Tables → List ℕ → Tables
-withKinds T kinds =
-    tablesOf (T .features) (T .attributes) (T .model) (T .expressions) (T .entries) (T .relations) (T .comparisons) (T .queries) kinds
+withKinds T kinds = record {
+  features = T .features;
+  attributes = T .attributes;
+  model = T .model;
+  expressions = T .expressions;
+  entries = T .entries;
+  relations = T .relations;
+  comparisons = T .comparisons;
+  queries = T .queries;
+  kinds = kinds;
+  truth = T .truth;
+}
 
 -- no query form is a select
 abbrev pub NoSelect : Tables → Type 0

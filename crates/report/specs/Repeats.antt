@@ -7,7 +7,8 @@ use mathlib.Core.List.{List, [], _∷_, _++_}
 use lib.Dec.{eqb}
 use Rattle.sets.specs.Search.{lowest, someBelow, countBelow}
 use Rattle.sets.specs.Lists.{kept}
-use Rattle.report.specs.Tables.{Tables, tablesOf, entryAttribute, relationLength, query}
+use Rattle.report.specs.Tables.{Tables, entryAttribute, relationLength, query}
+use Rattle.report.specs.Expressions.{tablesOf}
 use Rattle.report.specs.Tables.{expressionCount, entryCount, relationCount, queryCount, relationStart, projectLength, projectStart}
 use Rattle.report.specs.Typing.{entryHolds, present}
 use Rattle.report.specs.Configuring.{queryWordsOf, queryKept, newRelation, newComparison, newQuery, configured}

@@ -21,19 +21,8 @@ pub record Tables : Type 0 where
   pub queries : List ℕ
   -- the kind table: of each attribute its kind
   pub kinds : List ℕ
-
-abbrev pub tablesOf : ℕ → ℕ → ℕ → List ℕ → List ℕ → List ℕ → List ℕ → List ℕ → List ℕ → Tables
-tablesOf features attributes model expressions entries relations comparisons queries kinds = record {
-  features = features;
-  attributes = attributes;
-  model = model;
-  expressions = expressions;
-  entries = entries;
-  relations = relations;
-  comparisons = comparisons;
-  queries = queries;
-  kinds = kinds;
-}
+  -- the truth of each expression, by configuration and number: worked out from table 0 (Expressions, `tablesOf`), or read from rows that are stored
+  pub truth : ℕ → ℕ → Bool
 
 -- the words of tables 0 to 4
 abbrev pub words : Tables → List (List ℕ)

@@ -7,53 +7,36 @@ use Rattle.sets.specs.Bits.{difference}
 use Rattle.report.specs.Values.{value}
 use Rattle.report.specs.Tables.{Tables, entryAttribute, entryExpression, relationExpression, relationLength, comparison, query}
 use Rattle.report.specs.Tables.{kindOf, relationCount, report, relationStart, projectStart}
-use Rattle.report.specs.Operands.{comparisonOperands, queryOperands}
-use Rattle.report.specs.Expressions.{holds, permitted}
+use Rattle.report.specs.Operands.{comparisonOperands, queryOperands, comparisonSides}
+use Rattle.report.specs.Expressions.{permitted}
 use Rattle.report.specs.declared.Comparison.{Comparison}
 use Rattle.report.specs.declared.Query.{Query}
 use Rattle.report.specs.declared.Operands.{Operands}
+use Rattle.report.specs.declared.Sides.{Sides}
 
--- ---- one comparison by itself
+-- ---- one comparison by itself, by its sides
 
 -- the attributes that it names
-abbrev pub namesOf : Comparison → ℕ
-namesOf Comparison.Malformed = 0
-namesOf Comparison.Never = 0
-namesOf Comparison.Always = 0
-namesOf (Comparison.Constant o a b k) = 2 ^ a
-namesOf (Comparison.Attribute o a b) = bitOr (2 ^ a) (2 ^ b)
-namesOf (Comparison.Not a) = 0
-namesOf (Comparison.And a b) = 0
-namesOf (Comparison.Or a b) = 0
-namesOf (Comparison.Choice a b d) = 0
+abbrev pub namesOf : Sides → ℕ
+namesOf (Sides.Constant a k) = 2 ^ a
+namesOf (Sides.Attributes a b) = bitOr (2 ^ a) (2 ^ b)
+namesOf Sides.Neither = 0
 
 -- its sides have two kinds, where `kind` gives those of the attributes
-abbrev pub kindsDiffer : (ℕ → ℕ) → Comparison → Bool
-kindsDiffer kind Comparison.Malformed = false
-kindsDiffer kind Comparison.Never = false
-kindsDiffer kind Comparison.Always = false
-kindsDiffer kind (Comparison.Constant o a b k) = not (eqb (kind a) k)
-kindsDiffer kind (Comparison.Attribute o a b) = not (eqb (kind a) (kind b))
-kindsDiffer kind (Comparison.Not a) = false
-kindsDiffer kind (Comparison.And a b) = false
-kindsDiffer kind (Comparison.Or a b) = false
-kindsDiffer kind (Comparison.Choice a b d) = false
+abbrev pub kindsDiffer : (ℕ → ℕ) → Sides → Bool
+kindsDiffer kind (Sides.Constant a k) = not (eqb (kind a) k)
+kindsDiffer kind (Sides.Attributes a b) = not (eqb (kind a) (kind b))
+kindsDiffer kind Sides.Neither = false
 
 -- its left attribute
-abbrev pub leftOf : Comparison → ℕ
-leftOf Comparison.Malformed = 0
-leftOf Comparison.Never = 0
-leftOf Comparison.Always = 0
-leftOf (Comparison.Constant o a b k) = 2 ^ a
-leftOf (Comparison.Attribute o a b) = 2 ^ a
-leftOf (Comparison.Not a) = 0
-leftOf (Comparison.And a b) = 0
-leftOf (Comparison.Or a b) = 0
-leftOf (Comparison.Choice a b d) = 0
+abbrev pub leftOf : Sides → ℕ
+leftOf (Sides.Constant a k) = 2 ^ a
+leftOf (Sides.Attributes a b) = 2 ^ a
+leftOf Sides.Neither = 0
 
 -- the left attribute, if the sides have two kinds
-abbrev pub clashOf : (ℕ → ℕ) → Comparison → ℕ
-clashOf kind x = cond (kindsDiffer kind x) (leftOf x) 0
+abbrev pub clashOf : (ℕ → ℕ) → Sides → ℕ
+clashOf kind s = cond (kindsDiffer kind s) (leftOf s) 0
 
 -- how many phases there are in which a form is searched for faults
 abbrev pub phases : ℕ
@@ -62,7 +45,7 @@ phases = 2
 module _ (T : Tables) (c : ℕ) where
   -- expression e holds at c
   abbrev pub at : ℕ → Bool
-  at e = holds (T .expressions) c e
+  at e = T .truth c e
 
   -- which of two alternatives a choice on expression e takes at c
   abbrev pub taken : ℕ → ℕ → ℕ → ℕ
@@ -132,11 +115,11 @@ module _ (T : Tables) (c : ℕ) where
 
   -- the attributes that a comparison names, its choices taken
   abbrev pub names : ℕ → ℕ
-  names = gathered namesOf
+  names = gathered (λ x. namesOf (comparisonSides x))
 
   -- the left attributes at fault in a comparison, its choices taken
   abbrev pub clashes : ℕ → ℕ
-  clashes = gathered (clashOf (kindOf T))
+  clashes = gathered (λ x. clashOf (kindOf T) (comparisonSides x))
 
   -- ---- the set of a query form
 

@@ -78,10 +78,14 @@ pub record Breaks (T : Tables) (r : Refusal) : Type 0 where
   pub missing : r .number ≡ 16 → comparedThere (configuredSchema T (r .configuration)) (plainQueryAt T (r .configuration) (r .place)) ≡ false
   pub comparedAlways : r .number ≡ 25 → (c : ℕ) → reached T c (r .place) ≡ true → comparedThere (configuredSchema T c) (plainQueryAt T c (r .place)) ≡ true
 
--- what a call that refuses for a typing fault names
-pub record Named (T : Tables) (call : Call) : Type 0 where
+-- what an answer that refuses for a typing fault names
+pub record NamedBy (T : Tables) (v : Verdict) : Type 0 where
   pub refuses : Refusal
-  pub answers : answer T call ≡ Verdict.Refused refuses
+  pub answers : v ≡ Verdict.Refused refuses
   pub fault : TypingFault T refuses
   pub lowestItem : First (bit (faults T (refuses .configuration) (fault .phase) (refuses .place))) 64 (refuses .item)
   pub breaks : Breaks T refuses
+
+-- what a call that refuses so names
+abbrev pub Named : Tables → Call → Type 0
+Named T call = NamedBy T (answer T call)

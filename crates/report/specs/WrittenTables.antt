@@ -7,13 +7,16 @@ use mathlib.Core.Bool.{true, false}
 use mathlib.Core.Option.{none}
 use lib.ListN.{length}
 use Rattle.sets.specs.Search.{Nth}
-use Rattle.report.specs.Tables.{Tables, relationCount, report}
+use Rattle.sets.specs.Lists.{kept}
+use Rattle.report.specs.Tables.{Tables, query, relationCount, queryCount, report, entriesOfRelations, entriesOfProjects}
 use Rattle.report.specs.Typing.{present}
 use Rattle.report.specs.ColumnRows.{hasColumn, columnRows, shown}
 use Rattle.report.specs.PlainAlgebra.{PlainQuery}
-use Rattle.report.specs.Configuring.{newRelation, configured}
+use Rattle.report.specs.Configuring.{queryKept, newRelation, relationList, projectListOf, configured}
 use Rattle.report.specs.ConfiguredReport.{plainQueryAt, configuredReport, configuredSchema}
 use Rattle.report.specs.FormChecks.{formCheck}
+use Rattle.report.specs.Formed.{Formed}
+use Rattle.report.specs.Checks.{modelAndSchemaCheck, typingCheck}
 use Rattle.report.specs.Calls.{answer, Sound, checking}
 use Rattle.report.specs.Repeats.{NoRepeats}
 use Rattle.report.specs.declared.Verdict.{Verdict}
@@ -30,8 +33,6 @@ renamed f (PlainQuery.intersection p q) = PlainQuery.intersection (renamed f p) 
 
 -- what the tables written at c are
 pub record WrittenTables (T : Tables) (c : ℕ) : Type 0 where
-  -- checks 1 to 10 and 24 accept them
-  pub accepted : formCheck (configured T c) ≡ Verdict.Accepted
   -- as a tree, the configured report with its relations renumbered
   pub tree : plainQueryAt (configured T c) 0 (report (configured T c)) ≡ renamed (newRelation T c) (configuredReport T c)
   -- their schema is the configured schema, renumbered
@@ -44,17 +45,31 @@ pub record WrittenTables (T : Tables) (c : ℕ) : Type 0 where
   -- no list holds an attribute twice
   pub once : NoRepeats (configured T c)
 
--- what is written of an accepted report at c
-pub record WrittenAccepted (T : Tables) (c : ℕ) : Type 0 where
+-- the lists written are no longer than their sources: those of the relations and those of the project forms, each by itself
+pub record Shorter (T : Tables) (c : ℕ) : Type 0 where
+  pub relations : length (kept (present T c) (relationList T c) (relationCount T)) ≤ length (entriesOfRelations T)
+  pub projects : length (kept (queryKept T c) (λ q. projectListOf T c q (query (T .queries) q)) (queryCount T)) ≤ length (entriesOfProjects T)
+
+-- what is written of an accepted report at c, whatever the call was given (specs/Calls): 12 to 19 and 25 accept the tables written
+pub record WrittenTyped (T : Tables) (c : ℕ) : Type 0 where
   pub writes : WrittenTables T c
-  pub sound : Sound (configured T c)
-  pub checked : answer (configured T c) (checking 1024) ≡ Verdict.Accepted
+  pub formed : Formed (configured T c)
+  pub schemaSound : modelAndSchemaCheck (configured T c) ≡ Verdict.Accepted
+  pub typed : typingCheck (configured T c) ≡ Verdict.Accepted
   pub column : (a : ℕ) → hasColumn (configured T c) a 0 ≡ hasColumn T a c
   pub noOther : (a d : ℕ) → d ≢ 0 → hasColumn (configured T c) a d ≡ false
   pub shows : shown (columnRows (configured T c)) 0 ≡ shown (columnRows T) c
   pub showsNothing : (d : ℕ) → d ≢ 0 → d < 1024 → shown (columnRows (configured T c)) d ≡ 0
-  -- no table is longer than its source, so that what check 21 asks for is room enough
+  -- no list and no table is longer than its source, so that what check 21 asks for is room enough
+  pub lists : Shorter T c
   pub room1 : length (configured T c .entries) ≤ length (T .entries)
   pub room2 : length (configured T c .relations) ≤ length (T .relations)
   pub room3 : length (configured T c .comparisons) ≤ length (T .comparisons)
   pub room4 : length (configured T c .queries) ≤ length (T .queries)
+
+-- and where it was given whole tables: checks 1 to 10 and 24 accept them too, so that given to the checker they are accepted
+pub record WrittenAccepted (T : Tables) (c : ℕ) : Type 0 where
+  pub written : WrittenTyped T c
+  pub forms : formCheck (configured T c) ≡ Verdict.Accepted
+  pub sound : Sound (configured T c)
+  pub checked : answer (configured T c) (checking 1024) ≡ Verdict.Accepted

@@ -1,3 +1,10 @@
+// The head of tables: how many features and attributes there are, and the number of the model's expression.
+pub struct Head {
+    pub features: usize,
+    pub attributes: usize,
+    pub model: usize,
+}
+
 // A refusal: its number, and the place, item and configuration that the table of refusals (docs/FORMAT.md) names for that number. A field that
 // the table does not name is 0.
 pub struct Refusal {
@@ -59,4 +66,32 @@ pub enum Operands {
     One(usize),
     Both(usize, usize),
     Choice(usize, usize, usize),
+}
+
+// What a form of table 3 compares by itself. Constant is attribute, the constant's kind; Attributes is left attribute, right attribute.
+pub enum Sides {
+    Constant(usize, usize),
+    Attributes(usize, usize),
+    Neither,
+}
+
+// The limits of tables (docs/FORMAT.md, "Tables"); those of features and attributes stand with `AttributeSet`. SMALL is ours, a matter of time alone.
+pub struct Limits {}
+
+impl Limits {
+    pub const MOST_EXPRESSIONS: usize = 256;
+
+    pub const MOST_ENTRIES: usize = 512;
+
+    pub const MOST_RELATIONS: usize = 32;
+
+    pub const MOST_COMPARISONS: usize = 256;
+
+    pub const MOST_QUERIES: usize = 256;
+
+    // 0 moment, 1 count, 2 name
+    pub const HIGHEST_KIND: usize = 2;
+
+    // Small tables have at most so many forms: they do not pay for clearing the scratch of large ones.
+    pub const SMALL: usize = 16;
 }

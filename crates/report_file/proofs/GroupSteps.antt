@@ -8,17 +8,19 @@ use native.Mathlib.Omega.{arith}
 use lib.ListN.{length, getD, take, drop, set, replicate, length-append, length-set, length-replicate, replicate-append-replicate}
 use lib.Seq.{sets, sets-eq, take-set-le, take-at, length-take-le, getD-take}
 use borrow.Author.Tests.{eq-eqb, ne-eqb, lt-ltb, le-ltb}
-use Rattle.report.specs.Tables.{Tables, tablesOf}
+use Rattle.report.specs.Tables.{Tables}
+use Rattle.report.specs.Expressions.{tablesOf}
 use Rattle.report.specs.HarbourFile.{File, kindsOr}
 use Rattle.report.proofs.FileLaws.{kinds-none, kinds-stand}
 use Rattle.reading.specs.declared.Step.{Step}
 use Rattle.reading.specs.Scanning.{onStep, lineAt, Stored}
 use Rattle.reading.proofs.LineSteps.{line-width, stored-same}
 use Rattle.report_file.specs.declared.Place.{Place}
+use Rattle.report_file.specs.declared.Sizes.{Sizes}
 use Rattle.report_file.specs.declared.Outcome.{Outcome}
 use Rattle.report_file.specs.Reading.{Part, partOf, withLine, groupLinesFrom, partFrom, kindPart, partsFrom}
 use Rattle.report_file.specs.Reading.{fileParts, partAt, lastPart, fileFrom, readFile}
-use Rattle.report_file.specs.Filing.{Starts, GroupRoom, GroupTaken, Held, Filed}
+use Rattle.report_file.specs.Filing.{Starts, GroupRoom, GroupTaken, sizesOf, Held, Filed}
 
 -- ---- the words of a line, stored after those before them
 
@@ -216,7 +218,15 @@ module _ (s : List ℕ) (m : ℕ) {m0 m1 m2 m3 m4 m5 m6 : ℕ} {h x e r c q k : 
   module _ (n : h .end ≡ 0 → ⊥) where
     pub filed-whole : m ≡ getD head 1 0 → k .at ≡ length s
         → Filed (fileFrom s (fileParts s))
-        (Outcome.Read (x .end) (e .end) (r .end) (c .end) (q .end) (k .end)) head expressions entries relations comparisons queries kinds
+        (Outcome.Read (record {
+          expressions = x .end;
+          entries = e .end;
+          relations = r .end;
+          comparisons = c .end;
+          queries = q .end;
+          kinds = k .end;
+        }))
+        head expressions entries relations comparisons queries kinds
     unfolding Filed
     filed-whole own l =
         let own-kinds : GroupTaken (kindPart (getD (partAt (fileParts s) 0 .words) 1 0) (partAt (fileParts s) 6)) m6 k kinds =
@@ -231,6 +241,7 @@ module _ (s : List ℕ) (m : ℕ) {m0 m1 m2 m3 m4 m5 m6 : ℕ} {h x e r c q k : 
           attributes = head-word n 1 (omega arith);
           model = head-word n 2 (omega arith);
           expressionsStart = g1 .words;
+          worked = refl;
           entriesStart = g2 .words;
           relationsStart = g3 .words;
           comparisonsStart = g4 .words;
@@ -268,29 +279,33 @@ pub record Words (table : List ℕ) (n : ℕ) (words : List ℕ) : Type 0 where
 words-at : {table words : List ℕ} {n : ℕ} → Starts table words → n ≡ length words → Words table n words
 words-at {table} {words} {n} e l = let s : take n table ≡ words = rw l e in record { long = l ∙ ap length (sym s); same = s }
 
-module _ {T : Tables} {a b c d e f : ℕ} {head expressions entries relations comparisons queries kinds : List ℕ}
-    (H : Held T (Outcome.Read a b c d e f) head expressions entries relations comparisons queries kinds) where
-  pub expressions-held : Words expressions a (T .expressions)
-  expressions-held = words-at (H .expressionsStart) (let l = H .lengths in cc)
+module _ {T : Tables} {sizes : Sizes} {head expressions entries relations comparisons queries kinds : List ℕ}
+    (H : Held T (Outcome.Read sizes) head expressions entries relations comparisons queries kinds) where
+  own-sizes : sizes ≡ sizesOf T
+  own-sizes = let l = H .lengths in cc
 
-  pub entries-held : Words entries b (T .entries)
-  entries-held = words-at (H .entriesStart) (let l = H .lengths in cc)
+  pub expressions-held : Words expressions (sizes .expressions) (T .expressions)
+  expressions-held = words-at (H .expressionsStart) (ap (λ (s : Sizes). s .expressions) own-sizes)
 
-  pub relations-held : Words relations c (T .relations)
-  relations-held = words-at (H .relationsStart) (let l = H .lengths in cc)
+  pub entries-held : Words entries (sizes .entries) (T .entries)
+  entries-held = words-at (H .entriesStart) (ap (λ (s : Sizes). s .entries) own-sizes)
 
-  pub comparisons-held : Words comparisons d (T .comparisons)
-  comparisons-held = words-at (H .comparisonsStart) (let l = H .lengths in cc)
+  pub relations-held : Words relations (sizes .relations) (T .relations)
+  relations-held = words-at (H .relationsStart) (ap (λ (s : Sizes). s .relations) own-sizes)
 
-  pub queries-held : Words queries e (T .queries)
-  queries-held = words-at (H .queriesStart) (let l = H .lengths in cc)
+  pub comparisons-held : Words comparisons (sizes .comparisons) (T .comparisons)
+  comparisons-held = words-at (H .comparisonsStart) (ap (λ (s : Sizes). s .comparisons) own-sizes)
 
-  pub kinds-held : Words kinds f (T .kinds)
-  kinds-held = words-at (H .kindsStart) (let l = H .lengths in cc)
+  pub queries-held : Words queries (sizes .queries) (T .queries)
+  queries-held = words-at (H .queriesStart) (ap (λ (s : Sizes). s .queries) own-sizes)
+
+  pub kinds-held : Words kinds (sizes .kinds) (T .kinds)
+  kinds-held = words-at (H .kindsStart) (ap (λ (s : Sizes). s .kinds) own-sizes)
 
   -- the tables are the words read
-  pub held-tables : tablesOf (getD head 0 0) (getD head 1 0) (getD head 2 0) (take a expressions) (take b entries) (take c relations)
-      (take d comparisons) (take e queries) (take f kinds) ≡ T
+  pub held-tables : tablesOf (getD head 0 0) (getD head 1 0) (getD head 2 0) (take (sizes .expressions) expressions)
+      (take (sizes .entries) entries) (take (sizes .relations) relations) (take (sizes .comparisons) comparisons)
+      (take (sizes .queries) queries) (take (sizes .kinds) kinds) ≡ T
   held-tables =
       rw (
         H .features,
@@ -302,6 +317,7 @@ module _ {T : Tables} {a b c d e f : ℕ} {head expressions entries relations co
         comparisons-held .same,
         queries-held .same,
         kinds-held .same,
+        ← H .worked,
       )
 
 module _ (head expressions entries relations comparisons queries kinds : List ℕ) where
@@ -311,9 +327,9 @@ module _ (head expressions entries relations comparisons queries kinds : List �
   bad-told (File.unread m) e q = cc
   bad-told (File.holds T) e q = absurd (let l = e .lengths in let z : _≡_ {A = ℕ} 0 1 = cc in omega arith)
 
-  pub read-told : (f : File) {answer : Outcome} {a b c d e i : ℕ} → Filed f answer head expressions entries relations comparisons queries kinds
-      → answer ≡ Outcome.Read a b c d e i
-      → (T : Tables) × (f ≡ File.holds T) × Held T (Outcome.Read a b c d e i) head expressions entries relations comparisons queries kinds
+  pub read-told : (f : File) {answer : Outcome} {sizes : Sizes} → Filed f answer head expressions entries relations comparisons queries kinds
+      → answer ≡ Outcome.Read sizes
+      → (T : Tables) × (f ≡ File.holds T) × Held T (Outcome.Read sizes) head expressions entries relations comparisons queries kinds
   unfolding Filed
   read-told (File.unread m) g q = absurd (let z : _≡_ {A = ℕ} 0 1 = cc in omega arith)
   read-told (File.holds T) g q = (T, refl, rw q at g)

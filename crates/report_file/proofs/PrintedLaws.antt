@@ -6,8 +6,8 @@ use native.Mathlib.Omega.{arith}
 use lib.ListN.{length, getD, take}
 use Rattle.sets.specs.Writing.{WrittenAt}
 use Rattle.sets.proofs.WritingLaws.{from-start}
-use Rattle.report.specs.Tables.{Tables, tablesOf}
-use Rattle.report.specs.Expressions.{configurations}
+use Rattle.report.specs.Tables.{Tables}
+use Rattle.report.specs.Expressions.{configurations, tablesOf}
 use Rattle.report.specs.Verdicts.{orElse}
 use Rattle.report.specs.Calls.{answer, checking}
 use Rattle.report.specs.HarbourFile.{File}
@@ -21,13 +21,14 @@ use Rattle.judging.proofs.JudgingLaws.{call-parts, Columns, shifted-configurati
 use Rattle.printing.specs.Lines.{refusalLine, unreadLine, acceptedText, AcceptedRead}
 use Rattle.printing.proofs.LinePieces.{refusal-print, unread-print}
 use Rattle.printing.proofs.PrintLaws.{accepted-print, accepted-room}
-use Rattle.wall_page.specs.Steps.{pageText, PageRead}
+use Rattle.wall_page.specs.PageRows.{pageText, PageRead}
 use Rattle.wall_page.proofs.PageLaws.{rows-page, page-room}
 use Rattle.report_file.specs.declared.Layout.{Layout}
 use Rattle.report_file.specs.Layouts.{acceptedAs, answerAs, fileAs, textAs}
 use Rattle.report_file.specs.Reading.{readFile}
 use Rattle.report_file.specs.Filing.{Held}
 use Rattle.report_file.specs.Printing.{ColumnReads, Prints}
+use Rattle.report_file.specs.declared.Sizes.{Sizes}
 use Rattle.report_file.specs.declared.Outcome.{Outcome}
 use Rattle.report_file.proofs.GroupSteps.{held-tables}
 use Rattle.report_file.proofs.FirstBadLine.{file-read}
@@ -116,21 +117,23 @@ accepted-reads C = record { formed = C .formed; features = refl; permitting = C 
 -- ---- the print of a file
 
 -- the words that were read are the tables
-pub held-printed : (layout : Layout) {T : Tables} {a b c d e f : ℕ} {head expressions entries relations comparisons queries kinds : List ℕ}
-    → Held T (Outcome.Read a b c d e f) head expressions entries relations comparisons queries kinds
+pub held-printed : (layout : Layout) {T : Tables} {sizes : Sizes} {head expressions entries relations comparisons queries kinds : List ℕ}
+    → Held T (Outcome.Read sizes) head expressions entries relations comparisons queries kinds
     → {x y z : ℕ} → x ≡ getD head 0 0 → y ≡ getD head 1 0 → z ≡ getD head 2 0 → {out o : List ℕ} {r : ℕ}
     → Prints
     (fileAs layout
-    (File.holds (tablesOf x y z (take a expressions) (take b entries) (take c relations) (take d comparisons) (take e queries) (take f kinds))))
+    (File.holds (tablesOf x y z (take (sizes .expressions) expressions) (take (sizes .entries) entries) (take (sizes .relations) relations)
+    (take (sizes .comparisons) comparisons) (take (sizes .queries) queries) (take (sizes .kinds) kinds))))
     out o r
     → Prints (fileAs layout (File.holds T)) out o r
-held-printed layout {a = a} {b = b} {c = c} {d = d} {e = e} {f = f} {expressions = expressions} {entries = entries} {relations = relations}
-    {comparisons = comparisons} {queries = queries} {kinds = kinds} H p q s =
+held-printed layout {sizes = sizes} {expressions = expressions} {entries = entries} {relations = relations} {comparisons = comparisons}
+    {queries = queries} {kinds = kinds} H p q s =
     same-prints
     (ap (λ (U : Tables). fileAs layout (File.holds U))
     (sym
     ((λ i.
-    tablesOf (p i) (q i) (s i) (take a expressions) (take b entries) (take c relations) (take d comparisons) (take e queries) (take f kinds))
+    tablesOf (p i) (q i) (s i) (take (sizes .expressions) expressions) (take (sizes .entries) entries) (take (sizes .relations) relations)
+    (take (sizes .comparisons) comparisons) (take (sizes .queries) queries) (take (sizes .kinds) kinds))
     ∙ held-tables H)))
 
 -- the print of what was read is the print of the text

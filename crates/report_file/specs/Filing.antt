@@ -3,10 +3,12 @@ use Prim.Native.Nat.{ℕ, _+_, _*_, _≤_}
 use mathlib.Core.Path.{_≡_}
 use mathlib.Core.List.{List}
 use lib.ListN.{length, take, getD}
+use Rattle.report.specs.Expressions.{holds}
 use Rattle.report.specs.Tables.{Tables}
 use Rattle.report.specs.HarbourFile.{File}
 use Rattle.report_file.specs.Reading.{Part}
 use Rattle.report_file.specs.declared.Place.{Place}
+use Rattle.report_file.specs.declared.Sizes.{Sizes}
 use Rattle.report_file.specs.declared.Outcome.{Outcome}
 
 -- the words stand at the start of the table; what follows them is free
@@ -40,12 +42,20 @@ pub record Lent (head expressions entries relations comparisons queries kinds : 
   pub queriesRoom : 1024 ≤ length queries
   pub kindsRoom : 64 ≤ length kinds
 
+-- how many words each table has
+abbrev pub sizesOf : Tables → Sizes
+sizesOf T = record {
+  expressions = length (T .expressions);
+  entries = length (T .entries);
+  relations = length (T .relations);
+  comparisons = length (T .comparisons);
+  queries = length (T .queries);
+  kinds = length (T .kinds);
+}
+
 -- the answer for a file that holds the tables T: how many words each has; and where they stand
 pub record Held (T : Tables) (answer : Outcome) (head expressions entries relations comparisons queries kinds : List ℕ) : Type 0 where
-  pub lengths :
-      answer
-      ≡ Outcome.Read (length (T .expressions)) (length (T .entries)) (length (T .relations)) (length (T .comparisons)) (length (T .queries))
-      (length (T .kinds))
+  pub lengths : answer ≡ Outcome.Read (sizesOf T)
   pub features : getD head 0 0 ≡ T .features
   pub attributes : getD head 1 0 ≡ T .attributes
   pub model : getD head 2 0 ≡ T .model
@@ -55,6 +65,7 @@ pub record Held (T : Tables) (answer : Outcome) (head expressions entries relati
   pub comparisonsStart : Starts comparisons (T .comparisons)
   pub queriesStart : Starts queries (T .queries)
   pub kindsStart : Starts kinds (T .kinds)
+  pub worked : T .truth ≡ holds (T .expressions)
 
 -- there are such tables, and room for every print
 pub record HeldReadable (answer : Outcome) (head expressions entries relations comparisons queries kinds out : List ℕ) : Type 0 where

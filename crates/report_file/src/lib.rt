@@ -5,6 +5,8 @@ use printed::print_tables;
 use printing::put_unread;
 use reading::Step;
 use reading::read_line;
+use report::Head;
+use report::Limits;
 use sets::AttributeSet;
 ghost use mathlib.Core.Path.{_≡_};
 ghost use Prim.Native.Nat.{_+_, _≤_, min};
@@ -30,9 +32,19 @@ pub enum Layout {
     Page,
 }
 
-// How many words each table has, the kind table last, or the number of the first bad line.
+// How many words of each table were read.
+pub struct Sizes {
+    pub expressions: usize,
+    pub entries: usize,
+    pub relations: usize,
+    pub comparisons: usize,
+    pub queries: usize,
+    pub kinds: usize,
+}
+
+// What was read, or the number of the first bad line.
 enum Outcome {
-    Read(usize, usize, usize, usize, usize, usize),
+    Read(Sizes),
     Bad(usize),
 }
 
@@ -160,34 +172,34 @@ fn read_groups(
         s,
         b"(expression",
         3,
-        AttributeSet::MOST_EXPRESSIONS,
+        Limits::MOST_EXPRESSIONS,
         h,
         expressions,
     );
-    let e = read_lines(s, b"(entry", 2, AttributeSet::MOST_ENTRIES, x, entries);
-    let r = read_lines(
-        s,
-        b"(relation",
-        2,
-        AttributeSet::MOST_RELATIONS,
-        e,
-        relations,
-    );
+    let e = read_lines(s, b"(entry", 2, Limits::MOST_ENTRIES, x, entries);
+    let r = read_lines(s, b"(relation", 2, Limits::MOST_RELATIONS, e, relations);
     let c = read_lines(
         s,
         b"(comparison",
         5,
-        AttributeSet::MOST_COMPARISONS,
+        Limits::MOST_COMPARISONS,
         r,
         comparisons,
     );
-    let q = read_lines(s, b"(query", 4, AttributeSet::MOST_QUERIES, c, queries);
-    let k = read_kinds(s, wide(head[1]) as usize, q, kinds);
+    let q = read_lines(s, b"(query", 4, Limits::MOST_QUERIES, c, queries);
+    let k = read_kinds(s, wide(head[1]), q, kinds);
     if h.end == 0 {
         return Outcome::Bad(1);
     }
     if k.at == s.len() {
-        return Outcome::Read(x.end, e.end, r.end, c.end, q.end, k.end);
+        return Outcome::Read(Sizes {
+            expressions: x.end,
+            entries: e.end,
+            relations: r.end,
+            comparisons: c.end,
+            queries: q.end,
+            kinds: k.end,
+        });
     }
     Outcome::Bad(k.line)
 }
@@ -233,14 +245,16 @@ pub const LONGEST_PRINT: usize = 201653;
 // Room for every print.
 pub type PrintRoom = [u8; LONGEST_PRINT];
 
-fn wide(x: u16) -> u64
+fn wide(x: u16) -> usize
     ensures { λ r. ⌜ r ≡ x ⌝ }
 {
-    x as u64
+    x as usize
 }
 
 // The print of tables that were read, which are so many of the first words of the lent ones.
 fn print_read(
+    sizes: Sizes,
+    layout: Layout,
     head: &[u16],
     expressions: &[u16],
     entries: &[u16],
@@ -248,35 +262,37 @@ fn print_read(
     comparisons: &[u16],
     queries: &[u16],
     kinds: &[u16],
-    expression_words: usize,
-    entry_words: usize,
-    relation_words: usize,
-    comparison_words: usize,
-    query_words: usize,
-    kind_words: usize,
-    layout: Layout,
     out: &mut [u8],
 ) -> usize
-    requires { ⌜ HeldReadable (Outcome.Read «expression_words» «entry_words» «relation_words» «comparison_words» «query_words» «kind_words»)
-        (now head) (now expressions) (now entries) (now relations) (now comparisons) (now queries) (now kinds) (now out) ⌝ }
+    requires { ⌜ HeldReadable (Outcome.Read sizes) (now head) (now expressions) (now entries) (now relations) (now comparisons) (now queries)
+        (now kinds) (now out) ⌝ }
     ensures { λ r.
         ⌜ ((T : Tables)
-        → Held T (Outcome.Read «expression_words» «entry_words» «relation_words» «comparison_words» «query_words» «kind_words») (now (head .entry))
-        (now (expressions .entry)) (now (entries .entry)) (now (relations .entry)) (now (comparisons .entry)) (now (queries .entry))
-        (now (kinds .entry))
+        → Held T (Outcome.Read sizes) (now (head .entry)) (now (expressions .entry)) (now (entries .entry)) (now (relations .entry))
+        (now (comparisons .entry)) (now (queries .entry)) (now (kinds .entry))
         → Prints (fileAs layout (File.holds T)) (now (out .entry)) (now (out .exit)) r) ⌝ }
 {
+    // the end of a part is a local
+    let expression_words = sizes.expressions;
+    let entry_words = sizes.entries;
+    let relation_words = sizes.relations;
+    let comparison_words = sizes.comparisons;
+    let query_words = sizes.queries;
+    let kind_words = sizes.kinds;
+    let numbers = Head {
+        features: wide(head[0]),
+        attributes: wide(head[1]),
+        model: wide(head[2]),
+    };
     print_tables(
-        wide(head[0]),
-        wide(head[1]),
-        wide(head[2]),
+        numbers,
+        layout,
         &expressions[..expression_words],
         &entries[..entry_words],
         &relations[..relation_words],
         &comparisons[..comparison_words],
         &queries[..query_words],
         &kinds[..kind_words],
-        layout,
         out,
     )
 }
@@ -286,11 +302,11 @@ pub fn print_file(text: &[u8], layout: Layout, out: &mut PrintRoom) -> usize
     ensures { λ r. ⌜ Prints (textAs layout (now (text .entry))) (now (out .entry)) (now (out .exit)) r ⌝ }
 {
     let mut head = [0; 3];
-    let mut expressions = [0; AttributeSet::MOST_EXPRESSIONS * 3];
-    let mut entries = [0; AttributeSet::MOST_ENTRIES * 2];
-    let mut relations = [0; AttributeSet::MOST_RELATIONS * 2];
-    let mut comparisons = [0; AttributeSet::MOST_COMPARISONS * 5];
-    let mut queries = [0; AttributeSet::MOST_QUERIES * 4];
+    let mut expressions = [0; Limits::MOST_EXPRESSIONS * 3];
+    let mut entries = [0; Limits::MOST_ENTRIES * 2];
+    let mut relations = [0; Limits::MOST_RELATIONS * 2];
+    let mut comparisons = [0; Limits::MOST_COMPARISONS * 5];
+    let mut queries = [0; Limits::MOST_QUERIES * 4];
     let mut kinds = [0; AttributeSet::MOST_ATTRIBUTES];
     let file = read_file(
         text,
@@ -304,8 +320,10 @@ pub fn print_file(text: &[u8], layout: Layout, out: &mut PrintRoom) -> usize
     );
     match file {
         Outcome::Bad(n) => put_unread(out, 0, n as u64),
-        Outcome::Read(x, e, r, c, q, k) => {
+        Outcome::Read(sizes) => {
             print_read(
+                sizes,
+                layout,
                 &head,
                 &expressions,
                 &entries,
@@ -313,13 +331,6 @@ pub fn print_file(text: &[u8], layout: Layout, out: &mut PrintRoom) -> usize
                 &comparisons,
                 &queries,
                 &kinds,
-                x,
-                e,
-                r,
-                c,
-                q,
-                k,
-                layout,
                 out,
             )
         }

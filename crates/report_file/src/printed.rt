@@ -1,21 +1,23 @@
 // The print of the answer for tables, written into lent bytes.
 use crate::Layout;
 use judging::COLUMN_WORDS;
-use judging::typed_columns;
+use judging::check_into_columns;
 use printing::put_accepted;
 use printing::put_refused;
+use report::Head;
 use report::Verdict;
 use sets::Row;
 use wall_page::put_page;
 ghost use Prim.Native.Nat.{_≤_};
 ghost use lib.ListN.{length};
-ghost use Rattle.report.specs.Tables.{Tables, tablesOf};
+ghost use Rattle.report.specs.Tables.{Tables};
+ghost use Rattle.report.specs.Expressions.{tablesUnder};
 ghost use Rattle.report.specs.HarbourFile.{File};
 ghost use Rattle.report_file.specs.Layouts.{acceptedAs, fileAs};
 ghost use Rattle.report_file.specs.Printing.{ColumnReads, ColumnReadable, Prints};
 
 // The print of an accepted report of n features, with its permitted configurations and its column rows.
-fn print_columns(n: usize, permitted: Row, columns: &[u64], layout: Layout, out: &mut [u8]) -> usize
+fn print_columns(n: usize, permitted: Row, layout: Layout, columns: &[u64], out: &mut [u8]) -> usize
     requires { ⌜ ColumnReadable n (permitted .words) (now columns) (now out) ⌝ }
     ensures { λ r.
         ⌜ ((T : Tables) → ColumnReads T n (permitted .words) (now (columns .entry)) → Prints (acceptedAs layout T) (now (out .entry)) (now (out .exit)) r) ⌝ }
@@ -28,31 +30,26 @@ fn print_columns(n: usize, permitted: Row, columns: &[u64], layout: Layout, out:
 
 // The print of the answer for these tables: a refusal, or the columns of each permitted configuration, in the layout.
 pub fn print_tables(
-    features: u64,
-    attributes: u64,
-    model: u64,
+    head: Head,
+    layout: Layout,
     expressions: &[u16],
     entries: &[u16],
     relations: &[u16],
     comparisons: &[u16],
     queries: &[u16],
     kinds: &[u16],
-    layout: Layout,
     out: &mut [u8],
 ) -> usize
     requires { ⌜ 201653 ≤ length (now out) ⌝ }
     ensures { λ r.
         ⌜ Prints
-        (fileAs layout (File.holds (tablesOf features attributes model (now (expressions .entry)) (now (entries .entry)) (now (relations .entry))
+        (fileAs layout (File.holds (tablesUnder head (now (expressions .entry)) (now (entries .entry)) (now (relations .entry))
         (now (comparisons .entry)) (now (queries .entry)) (now (kinds .entry)))))
         (now (out .entry)) (now (out .exit)) r ⌝ }
 {
-    let n = features as usize;
     let mut columns = [0; COLUMN_WORDS];
-    let judged = typed_columns(
-        n,
-        attributes as usize,
-        model as usize,
+    let judged = check_into_columns(
+        head,
         expressions,
         entries,
         relations,
@@ -65,5 +62,5 @@ pub fn print_tables(
     if let Verdict::Refused(r) = checked {
         return put_refused(out, 0, r);
     }
-    print_columns(n, judged.permitted, &columns, layout, out)
+    print_columns(head.features, judged.permitted, layout, &columns, out)
 }

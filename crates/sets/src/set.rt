@@ -8,7 +8,7 @@ ghost use lib.Dec.{eqb};
 ghost use Rattle.sets.specs.Search.{lowest};
 ghost use Rattle.sets.specs.Bits.{bit, difference, memberCount, hasFrom};
 
-// A set of attributes: attribute a is in it where bit a is 1. The type also holds the limits of docs/FORMAT.md.
+// A set of attributes: attribute a is in it where bit a is 1. The type also holds the limits of features and attributes (docs/FORMAT.md).
 pub struct AttributeSet {
     pub bits: u64,
 }
@@ -17,22 +17,6 @@ impl AttributeSet {
     pub const MOST_FEATURES: usize = 10;
 
     pub const MOST_ATTRIBUTES: usize = 64;
-
-    // 0 moment, 1 count, 2 name
-    pub const MOST_KIND: usize = 2;
-
-    pub const MOST_EXPRESSIONS: usize = 256;
-
-    pub const MOST_ENTRIES: usize = 512;
-
-    pub const MOST_RELATIONS: usize = 32;
-
-    pub const MOST_COMPARISONS: usize = 256;
-
-    pub const MOST_QUERIES: usize = 256;
-
-    // Small tables have at most so many forms: they do not pay for clearing the scratch of large ones.
-    pub const SMALL: usize = 16;
 
     pub fn empty() -> AttributeSet
         ensures { λ r. ⌜ r .bits ≡ 0 ⌝ }

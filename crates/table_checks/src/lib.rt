@@ -1,54 +1,25 @@
 // Checks 1 to 5 and 7 of the table of refusals (docs/FORMAT.md, "Refusals"), one function a row. Each answers the first fault.
-use decoders::comparison_at;
+use decoders::decode_comparison;
+use decoders::decode_expression;
 use decoders::entry_attribute;
 use decoders::entry_expression;
-use decoders::expression_at;
 use report::Comparison;
 use report::Expression;
-use report::Refusal;
+use report::Limits;
 use report::Verdict;
 use sets::AttributeSet;
+use verdicts::or_else;
+use verdicts::refuse;
+use verdicts::refuse_if;
 ghost use mathlib.Core.Path.{_≡_};
 ghost use mathlib.Core.List.{[]};
 ghost use Prim.Native.Nat.{_/_, _<_};
 ghost use lib.ListN.{length};
-ghost use Rattle.report.specs.Tables.{shapeOf, tablesOf};
-ghost use Rattle.report.specs.Verdicts.{refusal, refuseIf, orElse};
+ghost use Rattle.report.specs.Tables.{shapeOf};
+ghost use Rattle.report.specs.Expressions.{tablesOf};
 ghost use Rattle.report.specs.FormChecks.{headCheck, lengthCheck, lengthsCheck, rangeFits, expressionFits, expressionsCheck, modelFormCheck};
 ghost use Rattle.report.specs.FormChecks.{entryFits, entriesCheck, comparisonFits, comparisonsCheck};
 ghost use Rattle.report.specs.declared.Verdict.{Verdict};
-
-// The refusal of a form or table: item and configuration are not named.
-pub fn refuse(number: u64, place: usize) -> Verdict
-    ensures { λ r. ⌜ r ≡ Verdict.Refused (refusal number place 0 0) ⌝ }
-{
-    Verdict::Refused(Refusal {
-        number: number,
-        place: place as u64,
-        item: 0,
-        configuration: 0,
-    })
-}
-
-// Refused where `bad` holds.
-pub fn refuse_if(bad: bool, number: u64, place: usize) -> Verdict
-    ensures { λ r. ⌜ r ≡ refuseIf bad (refusal number place 0 0) ⌝ }
-{
-    if bad {
-        return refuse(number, place);
-    }
-    Verdict::Accepted
-}
-
-// The answers of two checks, of which the first runs first: the first refusal.
-pub fn or_else(first: Verdict, next: Verdict) -> Verdict
-    ensures { λ r. ⌜ r ≡ orElse first next ⌝ }
-{
-    match first {
-        Verdict::Accepted => next,
-        Verdict::Refused(r) => Verdict::Refused(r),
-    }
-}
 
 // Check 1.
 pub fn check_head(features: usize, attributes: usize) -> Verdict
@@ -60,7 +31,7 @@ pub fn check_head(features: usize, attributes: usize) -> Verdict
 }
 
 // Check 2 of one table, of `count` words.
-fn check_length(width: usize, least: usize, most: usize, table: usize, count: usize) -> Verdict
+pub fn check_length(width: usize, least: usize, most: usize, table: usize, count: usize) -> Verdict
     requires { ⌜ 0 < width ⌝ }
     ensures { λ r. ⌜ r ≡ lengthCheck (shapeOf width least most) table count ⌝ }
 {
@@ -81,11 +52,11 @@ pub fn check_lengths(
         ⌜ r ≡ lengthsCheck (tablesOf 0 0 0 (now (expressions .entry)) (now (entries .entry)) (now (relations .entry)) (now (comparisons .entry))
         (now (queries .entry)) []) ⌝ }
 {
-    let a = check_length(3, 1, AttributeSet::MOST_EXPRESSIONS, 0, expressions.len());
-    let b = check_length(2, 0, AttributeSet::MOST_ENTRIES, 1, entries.len());
-    let c = check_length(2, 0, AttributeSet::MOST_RELATIONS, 2, relations.len());
-    let d = check_length(5, 0, AttributeSet::MOST_COMPARISONS, 3, comparisons.len());
-    let e = check_length(4, 1, AttributeSet::MOST_QUERIES, 4, queries.len());
+    let a = check_length(3, 1, Limits::MOST_EXPRESSIONS, 0, expressions.len());
+    let b = check_length(2, 0, Limits::MOST_ENTRIES, 1, entries.len());
+    let c = check_length(2, 0, Limits::MOST_RELATIONS, 2, relations.len());
+    let d = check_length(5, 0, Limits::MOST_COMPARISONS, 3, comparisons.len());
+    let e = check_length(4, 1, Limits::MOST_QUERIES, 4, queries.len());
     or_else(a, or_else(b, or_else(c, or_else(d, e))))
 }
 
@@ -120,7 +91,7 @@ pub fn check_expressions(n: usize, expressions: &[u16]) -> Verdict
     let count = expressions.len() / 3;
     let mut f = 0;
     while f < count {
-        let x = expression_at(expressions, f);
+        let x = decode_expression(expressions, f);
         if !expression_fits(n, f, x) {
             return refuse(3, f);
         }
@@ -130,14 +101,14 @@ pub fn check_expressions(n: usize, expressions: &[u16]) -> Verdict
 }
 
 // Check 4, where there are e expressions.
-pub fn check_model(e: usize, model: usize) -> Verdict
+pub fn check_model_form(e: usize, model: usize) -> Verdict
     ensures { λ r. ⌜ r ≡ modelFormCheck e model ⌝ }
 {
     refuse_if(e <= model, 4, 0)
 }
 
 // Entry k, where there are m attributes and e expressions.
-fn entry_fits(m: usize, e: usize, entries: &[u16], k: usize) -> bool
+fn entry_fits(m: usize, e: usize, k: usize, entries: &[u16]) -> bool
     requires { ⌜ k < length (now entries) / 2 ⌝ }
     ensures { λ r. ⌜ r ≡ entryFits m e (now (entries .entry)) k ⌝ }
 {
@@ -153,7 +124,7 @@ pub fn check_entries(m: usize, e: usize, entries: &[u16]) -> Verdict
     let count = entries.len() / 2;
     let mut k = 0;
     while k < count {
-        if !entry_fits(m, e, entries, k) {
+        if !entry_fits(m, e, k, entries) {
             return refuse(5, k);
         }
         k += 1;
@@ -185,7 +156,7 @@ pub fn check_comparisons(m: usize, e: usize, comparisons: &[u16]) -> Verdict
     let count = comparisons.len() / 5;
     let mut f = 0;
     while f < count {
-        let x = comparison_at(comparisons, f);
+        let x = decode_comparison(comparisons, f);
         if !comparison_fits(m, e, f, x) {
             return refuse(7, f);
         }

@@ -3,14 +3,15 @@
 // and the answer is that at this configuration.
 use attribute_rows::fill_gathered_rows;
 use comparisons::Gathered;
+use expression_rows::Scope;
 use fault_rows::add_clashes;
 use fault_rows::fill_faults;
+use report::Limits;
 use report::Verdict;
-use sets::AttributeSet;
 use sets::Found;
 use sets::Row;
-use typing_at::check_at;
 use typing_at::check_each;
+use typing_at::check_here;
 ghost use mathlib.Core.Path.{_≡_};
 ghost use Prim.Native.Nat.{_*_, _≤_};
 ghost use lib.ListN.{length};
@@ -19,12 +20,12 @@ ghost use Rattle.sets.specs.Lists.{concat};
 ghost use Rattle.report.specs.Tables.{Tables, queryCount};
 ghost use Rattle.report.specs.Configuring.{written};
 ghost use Rattle.report.specs.Checks.{typingCheck};
+ghost use Rattle.expression_rows.specs.TypingReads.{TypingReads, TypingReadable};
 ghost use Rattle.fault_rows.specs.FaultRows.{failingRow};
-ghost use Rattle.typing.specs.Typed.{rowed, RowsReads, RowsReadable, TypingReads, SecondReads};
-ghost use Rattle.typing.specs.Typed.{SecondReadable, FailingReadable, FailingFilled, TypingReadable, Checked};
+ghost use Rattle.typing.specs.Typed.{rowed, RowsReads, RowsReadable, SecondReads, SecondReadable, Checked};
 
 // The lowest of `count` rows that is not empty.
-fn lowest_row(rows: &[u64], count: usize) -> Found
+fn lowest_row(count: usize, rows: &[u64]) -> Found
     requires { ⌜ count * 16 ≤ length (now rows) ⌝ }
     ensures { λ r. ⌜ r ≡ lowest (rowed (now (rows .entry))) count ⌝ }
 {
@@ -42,168 +43,132 @@ fn lowest_row(rows: &[u64], count: usize) -> Found
 // The answer from the rows of the configurations at which each form fails. A row that is not empty has a lowest configuration, so the second
 // return is never taken.
 fn check_rows(
+    expression_rows: &[u64],
     relation_entries: &[u16],
     project_entries: &[u16],
     relations: &[u16],
     comparisons: &[u16],
     queries: &[u16],
     kinds: &[u16],
-    conditions: &[u64],
     reach: &[u64],
-    rows: &[u64],
+    fault_rows: &[u64],
 ) -> Verdict
-    requires { ⌜ RowsReadable (now conditions) (now «relation_entries») (now «project_entries») (now relations) (now comparisons) (now queries)
-        (now kinds) (now reach) (now rows) ⌝ }
+    requires { ⌜ RowsReadable (now «expression_rows») (now «relation_entries») (now «project_entries») (now relations) (now comparisons) (now queries)
+        (now kinds) (now reach) (now «fault_rows») ⌝ }
     ensures { λ v.
         ⌜ ((T : Tables)
-        → RowsReads T (now (conditions .entry)) (now («relation_entries» .entry)) (now («project_entries» .entry)) (now (relations .entry))
-        (now (comparisons .entry)) (now (queries .entry)) (now (kinds .entry)) (now (reach .entry)) (now (rows .entry))
+        → RowsReads T (now («expression_rows» .entry)) (now («relation_entries» .entry)) (now («project_entries» .entry)) (now (relations .entry))
+        (now (comparisons .entry)) (now (queries .entry)) (now (kinds .entry)) (now (reach .entry)) (now («fault_rows» .entry))
         → v ≡ typingCheck T) ⌝ }
 {
-    let form = lowest_row(rows, queries.len() / 4);
+    let form = lowest_row(queries.len() / 4, fault_rows);
     let Found::At(q) = form else {
         return Verdict::Accepted;
     };
-    let configuration = Row::load(rows, q).lowest();
+    let configuration = Row::load(fault_rows, q).lowest();
     let Found::At(c) = configuration else {
         return Verdict::Accepted;
     };
-    check_at(
+    let here = check_here(
+        c,
+        expression_rows,
         relation_entries,
         project_entries,
         relations,
         comparisons,
         queries,
         kinds,
-        conditions,
         reach,
-        c,
-    )
+    );
+    here.verdict
 }
 
 // The second phase, 25: a row of the first phase that is empty becomes that of the configurations at which kinds differ. Done when the first phase has
 // returned, so that the rows of clashes and those from which the first phase is worked out are not on the stack together.
 fn add_second_phase(
+    full: Row,
+    expression_rows: &[u64],
     comparisons: &[u16],
     queries: &[u16],
     kinds: &[u16],
-    conditions: &[u64],
-    full: Row,
     reach: &[u64],
-    rows: &mut [u64],
+    fault_rows: &mut [u64],
 )
-    requires { ⌜ SecondReadable (now conditions) (full .words) (now reach) (now comparisons) (now queries) (now kinds) (now rows) ⌝ }
+    requires { ⌜ SecondReadable (full .words) (now «expression_rows») (now comparisons) (now queries) (now kinds) (now reach) (now «fault_rows») ⌝ }
     ensures { λ _.
         ⌜ ((T : Tables)
-        → SecondReads T (now (conditions .entry)) (full .words) (now (reach .entry)) (now (comparisons .entry)) (now (queries .entry))
-        (now (kinds .entry)) (now (rows .entry))
-        → now (rows .exit) ≡ written (concat (queryCount T) (failingRow T)) (now (rows .entry))) ⌝ }
+        → SecondReads T (full .words) (now («expression_rows» .entry)) (now (comparisons .entry)) (now (queries .entry)) (now (kinds .entry))
+        (now (reach .entry)) (now («fault_rows» .entry))
+        → now («fault_rows» .exit) ≡ written (concat (queryCount T) (failingRow T)) (now («fault_rows» .entry))) ⌝ }
 {
-    let mut clashes = [0; AttributeSet::MOST_COMPARISONS * Row::WORDS];
+    let mut clash_rows = [0; Limits::MOST_COMPARISONS * Row::WORDS];
     // a row of clashes is not of one attribute: 0 stands for any
     fill_gathered_rows(
-        comparisons,
-        kinds,
-        conditions,
-        full,
         Gathered::Clashes,
         0,
-        &mut clashes,
-    );
-    add_clashes(queries, reach, &clashes, rows);
-}
-
-// Fills `rows`, which are all 0, with the configurations at which each form fails, in its first phase that fails at any; and the column rows.
-fn fill_failing(
-    relation_entries: &[u16],
-    project_entries: &[u16],
-    relations: &[u16],
-    comparisons: &[u16],
-    queries: &[u16],
-    kinds: &[u16],
-    conditions: &[u64],
-    full: Row,
-    permitted: Row,
-    items: usize,
-    reach: &[u64],
-    rows: &mut [u64],
-    columns: &mut [u64],
-)
-    requires { ⌜ FailingReadable (now conditions) (full .words) (permitted .words) (now reach) (now «relation_entries») (now «project_entries»)
-        (now relations) (now comparisons) (now queries) (now kinds) items (now rows) (now columns) ⌝ }
-    ensures { λ _.
-        ⌜ ((T : Tables)
-        → TypingReads T (now (conditions .entry)) (full .words) (permitted .words) (now (reach .entry)) (now («relation_entries» .entry))
-        (now («project_entries» .entry)) (now (relations .entry)) (now (comparisons .entry)) (now (queries .entry)) (now (kinds .entry)) items
-        → FailingFilled T (now (rows .exit)) (now (columns .exit))) ⌝ }
-{
-    fill_faults(
-        relation_entries,
-        project_entries,
-        relations,
-        comparisons,
-        queries,
-        kinds,
-        conditions,
         full,
-        permitted,
-        items,
-        reach,
-        &mut *rows,
-        columns,
+        expression_rows,
+        comparisons,
+        kinds,
+        &mut clash_rows,
     );
-    add_second_phase(comparisons, queries, kinds, conditions, full, reach, rows);
+    add_clashes(queries, reach, &clash_rows, fault_rows);
 }
 
 // Checks 15 to 19 and 25 by rows of all configurations, and the column rows, whatever the answer.
 fn check_by_rows(
+    scope: Scope,
+    expression_rows: &[u64],
     relation_entries: &[u16],
     project_entries: &[u16],
     relations: &[u16],
     comparisons: &[u16],
     queries: &[u16],
     kinds: &[u16],
-    conditions: &[u64],
-    full: Row,
-    permitted: Row,
-    items: usize,
     reach: &[u64],
     columns: &mut [u64],
 ) -> Verdict
-    requires { ⌜ TypingReadable (now conditions) (full .words) (permitted .words) (now reach) (now «relation_entries») (now «project_entries»)
-        (now relations) (now comparisons) (now queries) (now kinds) items (now columns) ⌝ }
+    requires { ⌜ TypingReadable scope (now «expression_rows») (now «relation_entries») (now «project_entries») (now relations) (now comparisons)
+        (now queries) (now kinds) (now reach) (now columns) ⌝ }
     ensures { λ v.
         ⌜ ((T : Tables)
-        → TypingReads T (now (conditions .entry)) (full .words) (permitted .words) (now (reach .entry)) (now («relation_entries» .entry))
-        (now («project_entries» .entry)) (now (relations .entry)) (now (comparisons .entry)) (now (queries .entry)) (now (kinds .entry)) items
+        → TypingReads T scope (now («expression_rows» .entry)) (now («relation_entries» .entry)) (now («project_entries» .entry))
+        (now (relations .entry)) (now (comparisons .entry)) (now (queries .entry)) (now (kinds .entry)) (now (reach .entry))
         → Checked T v (now (columns .exit))) ⌝ }
 {
-    let mut rows = [0; AttributeSet::MOST_QUERIES * Row::WORDS];
-    fill_failing(
+    let mut fault_rows = [0; Limits::MOST_QUERIES * Row::WORDS];
+    fill_faults(
+        scope,
+        expression_rows,
         relation_entries,
         project_entries,
         relations,
         comparisons,
         queries,
         kinds,
-        conditions,
-        full,
-        permitted,
-        items,
         reach,
-        &mut rows,
+        &mut fault_rows,
         columns,
     );
+    add_second_phase(
+        scope.full,
+        expression_rows,
+        comparisons,
+        queries,
+        kinds,
+        reach,
+        &mut fault_rows,
+    );
     check_rows(
+        expression_rows,
         relation_entries,
         project_entries,
         relations,
         comparisons,
         queries,
         kinds,
-        conditions,
         reach,
-        &rows,
+        &fault_rows,
     )
 }
 
@@ -211,56 +176,51 @@ fn check_by_rows(
 // (docs/changes/06-big-schema.md). Both ways answer the same, so the limit is a matter of time alone.
 const FEW: usize = 64;
 
-// Checks 15 to 19 and 25 of tables whose expression rows `conditions` starts with and whose reach rows `reach` starts with, and the column rows,
-// whatever the answer. `full` has all configurations and `permitted` the permitted ones; every item at fault is below `items`.
+// Checks 15 to 19 and 25 of tables whose expression rows `expression_rows` starts with and whose reach rows `reach` starts with, and the column rows,
+// whatever the answer.
 pub fn check_typing(
+    scope: Scope,
+    expression_rows: &[u64],
     relation_entries: &[u16],
     project_entries: &[u16],
     relations: &[u16],
     comparisons: &[u16],
     queries: &[u16],
     kinds: &[u16],
-    conditions: &[u64],
-    full: Row,
-    permitted: Row,
-    items: usize,
     reach: &[u64],
     columns: &mut [u64],
 ) -> Verdict
-    requires { ⌜ TypingReadable (now conditions) (full .words) (permitted .words) (now reach) (now «relation_entries») (now «project_entries»)
-        (now relations) (now comparisons) (now queries) (now kinds) items (now columns) ⌝ }
+    requires { ⌜ TypingReadable scope (now «expression_rows») (now «relation_entries») (now «project_entries») (now relations) (now comparisons)
+        (now queries) (now kinds) (now reach) (now columns) ⌝ }
     ensures { λ v.
         ⌜ ((T : Tables)
-        → TypingReads T (now (conditions .entry)) (full .words) (permitted .words) (now (reach .entry)) (now («relation_entries» .entry))
-        (now («project_entries» .entry)) (now (relations .entry)) (now (comparisons .entry)) (now (queries .entry)) (now (kinds .entry)) items
+        → TypingReads T scope (now («expression_rows» .entry)) (now («relation_entries» .entry)) (now («project_entries» .entry))
+        (now (relations .entry)) (now (comparisons .entry)) (now (queries .entry)) (now (kinds .entry)) (now (reach .entry))
         → Checked T v (now (columns .exit))) ⌝ }
 {
-    if permitted.count() <= FEW {
+    if scope.permitted.count() <= FEW {
         return check_each(
+            scope,
+            expression_rows,
             relation_entries,
             project_entries,
             relations,
             comparisons,
             queries,
             kinds,
-            conditions,
-            permitted,
-            items,
             reach,
             columns,
         );
     }
     check_by_rows(
+        scope,
+        expression_rows,
         relation_entries,
         project_entries,
         relations,
         comparisons,
         queries,
         kinds,
-        conditions,
-        full,
-        permitted,
-        items,
         reach,
         columns,
     )

@@ -25,7 +25,7 @@ use Rattle.report.specs.ColumnRows.{hasColumn, columnRows}
 use Rattle.report.specs.Formed.{Formed}
 use Rattle.report.proofs.FormedFacts.{report-in}
 use Rattle.report.proofs.SetLaws.{set-narrow}
-use Rattle.typing_at.specs.Steps.{shownWith}
+use Rattle.typing_at.specs.Here.{shownWith}
 
 -- ---- one configuration c, attribute by attribute: it is shown in the rows of the attributes below a that the set s has
 

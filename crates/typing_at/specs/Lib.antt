@@ -1,2 +1,2 @@
 pub mod TypingAt
-pub mod Steps
+pub mod Here

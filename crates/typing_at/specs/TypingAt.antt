@@ -1,20 +1,19 @@
 -- The typing check, configuration by configuration: what it answers at one alone, and how the answers at all of them make one.
-use Prim.Native.Nat.{ℕ, zero, suc, _<_, _≤_}
+use Prim.Native.Nat.{ℕ, zero, suc, _<_}
 use mathlib.Core.Path.{_≡_}
 use mathlib.Core.Bool.{Bool, cond, _&&_, _||_}
 use mathlib.Core.List.{List}
 use lib.Dec.{ltb, eqb}
-use lib.ListN.{replicate}
-use Rattle.sets.specs.Rows.{rowOf}
-use Rattle.report.specs.Tables.{Tables, queryCount}
-use Rattle.report.specs.Expressions.{configurations, permitted}
-use Rattle.report.specs.Typing.{phases, fails}
+use Rattle.report.specs.Tables.{Tables, queryCount, report}
+use Rattle.report.specs.Expressions.{configurations}
+use Rattle.report.specs.Typing.{phases, fails, setOf}
 use Rattle.report.specs.ColumnRows.{columnRows}
 use Rattle.report.specs.Verdicts.{refuseIf, firstFrom}
 use Rattle.report.specs.Checks.{faultRefusal}
 use Rattle.report.specs.declared.Refusal.{Refusal}
 use Rattle.report.specs.declared.Verdict.{Verdict}
-use Rattle.conditions.specs.Conditions.{Prepared, ReachFilled}
+use Rattle.expression_rows.specs.TypingReads.{ReportReads}
+use Rattle.typing_at.specs.declared.Here.{Here}
 
 module _ (T : Tables) (c : ℕ) where
   -- one phase of form q at c alone
@@ -49,33 +48,20 @@ pub record EachChecked (T : Tables) (answer : Verdict) (columns : List ℕ) : Ty
   pub answers : answer ≡ typingBelow T (configurations T)
   pub shows : columns ≡ columnRows T
 
--- ---- what the typing check reads
+-- ---- what the typing check reads and answers at configuration c alone
 
--- at configuration c: the prepared tables, the kind table and the reach rows
-pub record HereReads (T : Tables) (conditions relationEntries projectEntries relations comparisons queries kinds reach : List ℕ) (c : ℕ) : Type 0 where
-  pub prepared : Prepared T conditions relationEntries projectEntries relations comparisons queries
-  pub kindsAre : kinds ≡ T .kinds
-  pub reaching : ReachFilled T reach
+-- the prepared tables, the kind table and the reach rows
+pub record HereReads (T : Tables) (c : ℕ)
+    (expressionRows relationEntries projectEntries relations comparisons queries kinds reach : List ℕ) : Type 0 where
   pub inside : c < configurations T
+  pub report : ReportReads T expressionRows relationEntries projectEntries relations comparisons queries kinds reach
 
 -- there are such tables
-pub record HereReadable (conditions relationEntries projectEntries relations comparisons queries kinds reach : List ℕ) (c : ℕ) : Type 0 where
+pub record HereReadable (c : ℕ) (expressionRows relationEntries projectEntries relations comparisons queries kinds reach : List ℕ) : Type 0 where
   pub tables : Tables
-  pub reads : HereReads tables conditions relationEntries projectEntries relations comparisons queries kinds reach c
+  pub reads : HereReads tables c expressionRows relationEntries projectEntries relations comparisons queries kinds reach
 
--- at all: besides, the permitted configurations, and a bound of the attributes
-pub record EachReads (T : Tables) (conditions permits reach relationEntries projectEntries relations comparisons queries kinds : List ℕ) (items : ℕ)
-    : Type 0 where
-  pub prepared : Prepared T conditions relationEntries projectEntries relations comparisons queries
-  pub kindsAre : kinds ≡ T .kinds
-  pub permitting : permits ≡ rowOf 16 (permitted T)
-  pub reaching : ReachFilled T reach
-  pub enough : T .attributes ≤ items
-
--- there are such tables, and 1,024 words for the column rows, all 0
-pub record EachReadable (conditions permits reach relationEntries projectEntries relations comparisons queries kinds : List ℕ) (items : ℕ)
-    (columns : List ℕ) : Type 0 where
-  pub tables : Tables
-  pub reads : EachReads tables conditions permits reach relationEntries projectEntries relations comparisons queries kinds items
-  pub most : items ≤ 64
-  pub clear : columns ≡ replicate 1024 0
+-- the answer there, and the report's set
+pub record HereChecked (T : Tables) (c : ℕ) (here : Here) : Type 0 where
+  pub answers : here .verdict ≡ typingHere T c
+  pub shows : here .set .bits ≡ setOf T c (report T)

@@ -3,32 +3,38 @@
 // lowest configuration.
 use at_configuration::holds_at;
 use comparisons::Gathered;
+use decoders::decode_query;
 use decoders::project_length;
-use decoders::query_at;
+use expression_rows::Scope;
 use faults_at::clashes_in;
 use faults_at::faults_of;
 use faults_at::fill_gathered;
 use faults_at::fill_relation_sets;
 use faults_at::fill_sets;
+use report::Limits;
 use report::Query;
 use report::Refusal;
 use report::Verdict;
 use sets::AttributeSet;
 use sets::Found;
 use sets::Row;
-use table_checks::or_else;
+use verdicts::or_else;
 ghost use mathlib.Core.Path.{_≡_};
 ghost use mathlib.Core.Bool.{not};
 ghost use Prim.Native.Nat.{_<_, _≤_};
 ghost use lib.Dec.{eqb};
 ghost use lib.ListN.{length};
 ghost use Rattle.sets.specs.Bits.{lowestMember};
-ghost use Rattle.report.specs.Tables.{Tables};
+ghost use Rattle.sets.specs.Lists.{table};
+ghost use Rattle.report.specs.Tables.{Tables, queryCount};
+ghost use Rattle.report.specs.Typing.{setOf};
+ghost use Rattle.report.specs.Configuring.{written};
 ghost use Rattle.report.specs.Verdicts.{refusal, refuseIf};
 ghost use Rattle.report.specs.Checks.{ruleNumber};
-ghost use Rattle.typing_at.specs.TypingAt.{formHere, typingHere, precedes, sooner, EachChecked, HereReads, HereReadable, EachReads, EachReadable};
-ghost use Rattle.typing_at.specs.Steps.{FormHereReads, FormHereReadable, FormsHereReads, FormsHereReadable, HereFillable, HereFilled, shownWith};
-ghost use Rattle.typing_at.specs.Steps.{EachFillable, SizeReadable};
+ghost use Rattle.expression_rows.specs.TypingReads.{TypingReads, TypingReadable};
+ghost use Rattle.typing_at.specs.TypingAt.{formHere, typingHere, precedes, sooner, EachChecked, HereReads, HereReadable, HereChecked};
+ghost use Rattle.typing_at.specs.Here.{FormHereReads, FormHereReadable, FormsHereReads, FormsHereReadable, FormSetsReads, FormSetsReadable};
+ghost use Rattle.typing_at.specs.Here.{HereFillable, EachFillable, SizeReadable, shownWith};
 
 // The number of a query form's rule, the first that is looked for.
 fn rule_number(x: Query) -> u64
@@ -76,69 +82,80 @@ fn refuse_items(number: u64, q: usize, found: AttributeSet, c: usize) -> Verdict
 // Both phases of form q, which is x, at c; a project's list starts at `start`.
 fn form_here(
     x: Query,
-    entries: &[u16],
-    relations: &[u16],
-    conditions: &[u64],
-    reach: &[u64],
-    c: usize,
-    named: &[u64],
-    clashing: &[u64],
-    sets: &[u64],
-    start: usize,
     q: usize,
+    c: usize,
+    start: usize,
+    expression_rows: &[u64],
+    project_entries: &[u16],
+    relations: &[u16],
+    reach: &[u64],
+    named_sets: &[u64],
+    clash_sets: &[u64],
+    form_sets: &[u64],
 ) -> Verdict
-    requires { ⌜ FormHereReadable q (now conditions) (now entries) (now relations) (now reach) c (now named) (now clashing) (now sets) start x ⌝ }
+    requires { ⌜ FormHereReadable q (now «expression_rows») (now «project_entries») (now relations) (now reach) c (now «named_sets»)
+        (now «clash_sets») (now «form_sets») start x ⌝ }
     ensures { λ v.
         ⌜ ((T : Tables)
-        → FormHereReads T q (now (conditions .entry)) (now (entries .entry)) (now (relations .entry)) (now (reach .entry)) c (now (named .entry))
-        (now (clashing .entry)) (now (sets .entry)) start x
+        → FormHereReads T q (now («expression_rows» .entry)) (now («project_entries» .entry)) (now (relations .entry)) (now (reach .entry)) c
+        (now («named_sets» .entry)) (now («clash_sets» .entry)) (now («form_sets» .entry)) start x
         → v ≡ formHere T c q) ⌝ }
 {
     if !holds_at(reach, q, c) {
         return Verdict::Accepted;
     }
-    let broken = faults_of(x, entries, relations, conditions, c, named, sets, start);
+    let broken = faults_of(
+        x,
+        c,
+        start,
+        expression_rows,
+        project_entries,
+        relations,
+        named_sets,
+        form_sets,
+    );
     let rule = refuse_items(rule_number(x), q, broken, c);
-    let kinds = refuse_items(25, q, clashes_in(x, clashing), c);
+    let kinds = refuse_items(25, q, clashes_in(x, clash_sets), c);
     or_else(rule, kinds)
 }
 
 // All forms at c: the lowest that fails there.
 fn forms_here(
-    entries: &[u16],
+    c: usize,
+    expression_rows: &[u64],
+    project_entries: &[u16],
     relations: &[u16],
     queries: &[u16],
-    conditions: &[u64],
     reach: &[u64],
-    c: usize,
-    named: &[u64],
-    clashing: &[u64],
-    sets: &[u64],
+    named_sets: &[u64],
+    clash_sets: &[u64],
+    form_sets: &[u64],
 ) -> Verdict
-    requires { ⌜ FormsHereReadable (now conditions) (now entries) (now relations) (now queries) (now reach) c (now named) (now clashing) (now sets) ⌝ }
+    requires { ⌜ FormsHereReadable (now «expression_rows») (now «project_entries») (now relations) (now queries) (now reach) c (now «named_sets»)
+        (now «clash_sets») (now «form_sets») ⌝ }
     ensures { λ v.
         ⌜ ((T : Tables)
-        → FormsHereReads T (now (conditions .entry)) (now (entries .entry)) (now (relations .entry)) (now (queries .entry)) (now (reach .entry)) c
-        (now (named .entry)) (now (clashing .entry)) (now (sets .entry))
+        → FormsHereReads T (now («expression_rows» .entry)) (now («project_entries» .entry)) (now (relations .entry)) (now (queries .entry))
+        (now (reach .entry)) c (now («named_sets» .entry)) (now («clash_sets» .entry)) (now («form_sets» .entry))
         → v ≡ typingHere T c) ⌝ }
 {
     let count = queries.len() / 4;
     let mut start = 0;
     let mut q = 0;
     while q < count {
-        let x = query_at(queries, q);
+        let x = decode_query(queries, q);
         let v = form_here(
             x,
-            entries,
-            relations,
-            conditions,
-            reach,
-            c,
-            named,
-            clashing,
-            sets,
-            start,
             q,
+            c,
+            start,
+            expression_rows,
+            project_entries,
+            relations,
+            reach,
+            named_sets,
+            clash_sets,
+            form_sets,
         );
         if let Verdict::Refused(_) = v {
             return v;
@@ -149,108 +166,149 @@ fn forms_here(
     Verdict::Accepted
 }
 
-// The answer at configuration c alone; fills the words lent with the sets there.
-fn check_here(
+// What typing finds at one configuration alone: its answer there, and the report's set, that of the last form.
+pub struct Here {
+    pub verdict: Verdict,
+    pub set: AttributeSet,
+}
+
+// Fills `form_sets` with the sets of all query forms at configuration c. Those of the relations, from which they are worked out, are its own.
+fn fill_form_sets(
+    c: usize,
+    expression_rows: &[u64],
+    relation_entries: &[u16],
+    project_entries: &[u16],
+    relations: &[u16],
+    queries: &[u16],
+    form_sets: &mut [u64],
+)
+    requires { ⌜ FormSetsReadable c (now «expression_rows») (now «relation_entries») (now «project_entries») (now relations) (now queries)
+        (now «form_sets») ⌝ }
+    ensures { λ _.
+        ⌜ ((T : Tables)
+        → FormSetsReads T c (now («expression_rows» .entry)) (now («relation_entries» .entry)) (now («project_entries» .entry)) (now (relations .entry))
+        (now (queries .entry))
+        → now («form_sets» .exit) ≡ written (table (queryCount T) (setOf T c)) (now («form_sets» .entry))) ⌝ }
+{
+    let mut relation_sets = [0; Limits::MOST_RELATIONS];
+    fill_relation_sets(
+        c,
+        expression_rows,
+        relation_entries,
+        relations,
+        &mut relation_sets,
+    );
+    fill_sets(
+        c,
+        queries.len() / 4,
+        expression_rows,
+        project_entries,
+        queries,
+        &relation_sets,
+        form_sets,
+    );
+}
+
+// Fills the words lent with the sets at configuration c, and answers from them.
+fn fill_here(
+    c: usize,
+    expression_rows: &[u64],
     relation_entries: &[u16],
     project_entries: &[u16],
     relations: &[u16],
     comparisons: &[u16],
     queries: &[u16],
     kinds: &[u16],
-    conditions: &[u64],
     reach: &[u64],
-    c: usize,
-    named: &mut [u64],
-    clashing: &mut [u64],
-    related: &mut [u64],
-    sets: &mut [u64],
-) -> Verdict
-    requires { ⌜ HereFillable (now conditions) (now «relation_entries») (now «project_entries») (now relations) (now comparisons) (now queries)
-        (now kinds) (now reach) c (now named) (now clashing) (now related) (now sets) ⌝ }
-    ensures { λ v.
+    named_sets: &mut [u64],
+    clash_sets: &mut [u64],
+    form_sets: &mut [u64],
+) -> Here
+    requires { ⌜ HereFillable c (now «expression_rows») (now «relation_entries») (now «project_entries») (now relations) (now comparisons) (now queries)
+        (now kinds) (now reach) (now «named_sets») (now «clash_sets») (now «form_sets») ⌝ }
+    ensures { λ h.
         ⌜ ((T : Tables)
-        → HereReads T (now (conditions .entry)) (now («relation_entries» .entry)) (now («project_entries» .entry)) (now (relations .entry))
-        (now (comparisons .entry)) (now (queries .entry)) (now (kinds .entry)) (now (reach .entry)) c
-        → HereFilled T c v (now (named .entry)) (now (clashing .entry)) (now (related .entry)) (now (sets .entry)) (now (named .exit))
-        (now (clashing .exit)) (now (related .exit)) (now (sets .exit))) ⌝ }
+        → HereReads T c (now («expression_rows» .entry)) (now («relation_entries» .entry)) (now («project_entries» .entry)) (now (relations .entry))
+        (now (comparisons .entry)) (now (queries .entry)) (now (kinds .entry)) (now (reach .entry))
+        → HereChecked T c h) ⌝ }
 {
     fill_gathered(
-        comparisons,
-        kinds,
-        conditions,
         c,
         Gathered::Names,
-        &mut *named,
-    );
-    fill_gathered(
+        expression_rows,
         comparisons,
         kinds,
-        conditions,
+        &mut *named_sets,
+    );
+    fill_gathered(
         c,
         Gathered::Clashes,
-        &mut *clashing,
+        expression_rows,
+        comparisons,
+        kinds,
+        &mut *clash_sets,
     );
-    fill_relation_sets(relation_entries, relations, conditions, c, &mut *related);
-    fill_sets(
-        project_entries,
-        queries,
-        conditions,
-        &*related,
+    fill_form_sets(
         c,
-        queries.len() / 4,
-        &mut *sets,
-    );
-    forms_here(
+        expression_rows,
+        relation_entries,
         project_entries,
         relations,
         queries,
-        conditions,
-        reach,
-        c,
-        &*named,
-        &*clashing,
-        &*sets,
-    )
+        &mut *form_sets,
+    );
+    Here {
+        verdict: forms_here(
+            c,
+            expression_rows,
+            project_entries,
+            relations,
+            queries,
+            reach,
+            &*named_sets,
+            &*clash_sets,
+            &*form_sets,
+        ),
+        set: AttributeSet::of_bits(form_sets[queries.len() / 4 - 1]),
+    }
 }
 
-// The answer at configuration c alone.
-pub fn check_at(
+// The same with words of its own.
+pub fn check_here(
+    c: usize,
+    expression_rows: &[u64],
     relation_entries: &[u16],
     project_entries: &[u16],
     relations: &[u16],
     comparisons: &[u16],
     queries: &[u16],
     kinds: &[u16],
-    conditions: &[u64],
     reach: &[u64],
-    c: usize,
-) -> Verdict
-    requires { ⌜ HereReadable (now conditions) (now «relation_entries») (now «project_entries») (now relations) (now comparisons) (now queries)
-        (now kinds) (now reach) c ⌝ }
-    ensures { λ v.
+) -> Here
+    requires { ⌜ HereReadable c (now «expression_rows») (now «relation_entries») (now «project_entries») (now relations) (now comparisons)
+        (now queries) (now kinds) (now reach) ⌝ }
+    ensures { λ h.
         ⌜ ((T : Tables)
-        → HereReads T (now (conditions .entry)) (now («relation_entries» .entry)) (now («project_entries» .entry)) (now (relations .entry))
-        (now (comparisons .entry)) (now (queries .entry)) (now (kinds .entry)) (now (reach .entry)) c
-        → v ≡ typingHere T c) ⌝ }
+        → HereReads T c (now («expression_rows» .entry)) (now («relation_entries» .entry)) (now («project_entries» .entry))
+        (now (relations .entry)) (now (comparisons .entry)) (now (queries .entry)) (now (kinds .entry)) (now (reach .entry))
+        → HereChecked T c h) ⌝ }
 {
-    let mut named = [0; AttributeSet::MOST_COMPARISONS];
-    let mut clashing = [0; AttributeSet::MOST_COMPARISONS];
-    let mut related = [0; AttributeSet::MOST_RELATIONS];
-    let mut sets = [0; AttributeSet::MOST_QUERIES];
-    check_here(
+    let mut named_sets = [0; Limits::MOST_COMPARISONS];
+    let mut clash_sets = [0; Limits::MOST_COMPARISONS];
+    let mut form_sets = [0; Limits::MOST_QUERIES];
+    fill_here(
+        c,
+        expression_rows,
         relation_entries,
         project_entries,
         relations,
         comparisons,
         queries,
         kinds,
-        conditions,
         reach,
-        c,
-        &mut named,
-        &mut clashing,
-        &mut related,
-        &mut sets,
+        &mut named_sets,
+        &mut clash_sets,
+        &mut form_sets,
     )
 }
 
@@ -296,31 +354,30 @@ fn sooner_of(x: Verdict, y: Verdict) -> Verdict
 
 // The answer at each permitted configuration, ascending, and the column rows; in the words lent, the sets at one configuration after another.
 fn check_with(
+    scope: Scope,
+    expression_rows: &[u64],
     relation_entries: &[u16],
     project_entries: &[u16],
     relations: &[u16],
     comparisons: &[u16],
     queries: &[u16],
     kinds: &[u16],
-    conditions: &[u64],
-    permitted: Row,
-    items: usize,
     reach: &[u64],
     columns: &mut [u64],
-    named: &mut [u64],
-    clashing: &mut [u64],
-    related: &mut [u64],
-    sets: &mut [u64],
+    named_sets: &mut [u64],
+    clash_sets: &mut [u64],
+    form_sets: &mut [u64],
 ) -> Verdict
-    requires { ⌜ EachFillable (now conditions) (permitted .words) (now reach) (now «relation_entries») (now «project_entries») (now relations)
-        (now comparisons) (now queries) (now kinds) items (now columns) (now named) (now clashing) (now related) (now sets) ⌝ }
+    requires { ⌜ EachFillable scope (now «expression_rows») (now «relation_entries») (now «project_entries») (now relations) (now comparisons)
+        (now queries) (now kinds) (now reach) (now columns)
+        (now «named_sets») (now «clash_sets») (now «form_sets») ⌝ }
     ensures { λ v.
         ⌜ ((T : Tables)
-        → EachReads T (now (conditions .entry)) (permitted .words) (now (reach .entry)) (now («relation_entries» .entry)) (now («project_entries» .entry))
-        (now (relations .entry)) (now (comparisons .entry)) (now (queries .entry)) (now (kinds .entry)) items
+        → TypingReads T scope (now («expression_rows» .entry)) (now («relation_entries» .entry)) (now («project_entries» .entry))
+        (now (relations .entry)) (now (comparisons .entry)) (now (queries .entry)) (now (kinds .entry)) (now (reach .entry))
         → EachChecked T v (now (columns .exit))) ⌝ }
 {
-    let report = queries.len() / 4 - 1;
+    let permitted = scope.permitted;
     let mut answer = Verdict::Accepted;
     let mut from = 0;
     loop {
@@ -328,164 +385,153 @@ fn check_with(
         let Found::At(c) = next else {
             return answer;
         };
-        let here = check_here(
+        let here = fill_here(
+            c,
+            expression_rows,
             relation_entries,
             project_entries,
             relations,
             comparisons,
             queries,
             kinds,
-            conditions,
             reach,
-            c,
-            &mut *named,
-            &mut *clashing,
-            &mut *related,
-            &mut *sets,
+            &mut *named_sets,
+            &mut *clash_sets,
+            &mut *form_sets,
         );
-        show_at(AttributeSet::of_bits(sets[report]), items, c, &mut *columns);
-        answer = sooner_of(answer, here);
+        show_at(here.set, scope.items, c, &mut *columns);
+        let verdict = here.verdict;
+        answer = sooner_of(answer, verdict);
         from = c + 1;
     }
 }
 
 // The same with words of its own, of small tables.
 fn check_small(
+    scope: Scope,
+    expression_rows: &[u64],
     relation_entries: &[u16],
     project_entries: &[u16],
     relations: &[u16],
     comparisons: &[u16],
     queries: &[u16],
     kinds: &[u16],
-    conditions: &[u64],
-    permitted: Row,
-    items: usize,
     reach: &[u64],
     columns: &mut [u64],
 ) -> Verdict
-    requires { ⌜ SizeReadable 16 (now conditions) (permitted .words) (now reach) (now «relation_entries») (now «project_entries») (now relations)
-        (now comparisons) (now queries) (now kinds) items (now columns) ⌝ }
+    requires { ⌜ SizeReadable 16 scope (now «expression_rows») (now «relation_entries») (now «project_entries») (now relations) (now comparisons)
+        (now queries) (now kinds) (now reach) (now columns) ⌝ }
     ensures { λ v.
         ⌜ ((T : Tables)
-        → EachReads T (now (conditions .entry)) (permitted .words) (now (reach .entry)) (now («relation_entries» .entry)) (now («project_entries» .entry))
-        (now (relations .entry)) (now (comparisons .entry)) (now (queries .entry)) (now (kinds .entry)) items
+        → TypingReads T scope (now («expression_rows» .entry)) (now («relation_entries» .entry)) (now («project_entries» .entry))
+        (now (relations .entry)) (now (comparisons .entry)) (now (queries .entry)) (now (kinds .entry)) (now (reach .entry))
         → EachChecked T v (now (columns .exit))) ⌝ }
 {
-    let mut named = [0; AttributeSet::SMALL];
-    let mut clashing = [0; AttributeSet::SMALL];
-    let mut related = [0; AttributeSet::MOST_RELATIONS];
-    let mut sets = [0; AttributeSet::SMALL];
+    let mut named_sets = [0; Limits::SMALL];
+    let mut clash_sets = [0; Limits::SMALL];
+    let mut form_sets = [0; Limits::SMALL];
     check_with(
+        scope,
+        expression_rows,
         relation_entries,
         project_entries,
         relations,
         comparisons,
         queries,
         kinds,
-        conditions,
-        permitted,
-        items,
         reach,
         columns,
-        &mut named,
-        &mut clashing,
-        &mut related,
-        &mut sets,
+        &mut named_sets,
+        &mut clash_sets,
+        &mut form_sets,
     )
 }
 
 // The same of tables of any size.
 fn check_large(
+    scope: Scope,
+    expression_rows: &[u64],
     relation_entries: &[u16],
     project_entries: &[u16],
     relations: &[u16],
     comparisons: &[u16],
     queries: &[u16],
     kinds: &[u16],
-    conditions: &[u64],
-    permitted: Row,
-    items: usize,
     reach: &[u64],
     columns: &mut [u64],
 ) -> Verdict
-    requires { ⌜ SizeReadable 256 (now conditions) (permitted .words) (now reach) (now «relation_entries») (now «project_entries») (now relations)
-        (now comparisons) (now queries) (now kinds) items (now columns) ⌝ }
+    requires { ⌜ SizeReadable 256 scope (now «expression_rows») (now «relation_entries») (now «project_entries») (now relations) (now comparisons)
+        (now queries) (now kinds) (now reach) (now columns) ⌝ }
     ensures { λ v.
         ⌜ ((T : Tables)
-        → EachReads T (now (conditions .entry)) (permitted .words) (now (reach .entry)) (now («relation_entries» .entry)) (now («project_entries» .entry))
-        (now (relations .entry)) (now (comparisons .entry)) (now (queries .entry)) (now (kinds .entry)) items
+        → TypingReads T scope (now («expression_rows» .entry)) (now («relation_entries» .entry)) (now («project_entries» .entry))
+        (now (relations .entry)) (now (comparisons .entry)) (now (queries .entry)) (now (kinds .entry)) (now (reach .entry))
         → EachChecked T v (now (columns .exit))) ⌝ }
 {
-    let mut named = [0; AttributeSet::MOST_COMPARISONS];
-    let mut clashing = [0; AttributeSet::MOST_COMPARISONS];
-    let mut related = [0; AttributeSet::MOST_RELATIONS];
-    let mut sets = [0; AttributeSet::MOST_QUERIES];
+    let mut named_sets = [0; Limits::MOST_COMPARISONS];
+    let mut clash_sets = [0; Limits::MOST_COMPARISONS];
+    let mut form_sets = [0; Limits::MOST_QUERIES];
     check_with(
+        scope,
+        expression_rows,
         relation_entries,
         project_entries,
         relations,
         comparisons,
         queries,
         kinds,
-        conditions,
-        permitted,
-        items,
         reach,
         columns,
-        &mut named,
-        &mut clashing,
-        &mut related,
-        &mut sets,
+        &mut named_sets,
+        &mut clash_sets,
+        &mut form_sets,
     )
 }
 
 // Checks 15 to 19 and 25 at each permitted configuration, ascending, and the column rows, whatever the answer.
 pub fn check_each(
+    scope: Scope,
+    expression_rows: &[u64],
     relation_entries: &[u16],
     project_entries: &[u16],
     relations: &[u16],
     comparisons: &[u16],
     queries: &[u16],
     kinds: &[u16],
-    conditions: &[u64],
-    permitted: Row,
-    items: usize,
     reach: &[u64],
     columns: &mut [u64],
 ) -> Verdict
-    requires { ⌜ EachReadable (now conditions) (permitted .words) (now reach) (now «relation_entries») (now «project_entries») (now relations)
-        (now comparisons) (now queries) (now kinds) items (now columns) ⌝ }
+    requires { ⌜ TypingReadable scope (now «expression_rows») (now «relation_entries») (now «project_entries») (now relations) (now comparisons)
+        (now queries) (now kinds) (now reach) (now columns) ⌝ }
     ensures { λ v.
         ⌜ ((T : Tables)
-        → EachReads T (now (conditions .entry)) (permitted .words) (now (reach .entry)) (now («relation_entries» .entry)) (now («project_entries» .entry))
-        (now (relations .entry)) (now (comparisons .entry)) (now (queries .entry)) (now (kinds .entry)) items
+        → TypingReads T scope (now («expression_rows» .entry)) (now («relation_entries» .entry)) (now («project_entries» .entry))
+        (now (relations .entry)) (now (comparisons .entry)) (now (queries .entry)) (now (kinds .entry)) (now (reach .entry))
         → EachChecked T v (now (columns .exit))) ⌝ }
 {
-    if comparisons.len() / 5 <= AttributeSet::SMALL && queries.len() / 4 <= AttributeSet::SMALL {
+    if comparisons.len() / 5 <= Limits::SMALL && queries.len() / 4 <= Limits::SMALL {
         return check_small(
+            scope,
+            expression_rows,
             relation_entries,
             project_entries,
             relations,
             comparisons,
             queries,
             kinds,
-            conditions,
-            permitted,
-            items,
             reach,
             columns,
         );
     }
     check_large(
+        scope,
+        expression_rows,
         relation_entries,
         project_entries,
         relations,
         comparisons,
         queries,
         kinds,
-        conditions,
-        permitted,
-        items,
         reach,
         columns,
     )

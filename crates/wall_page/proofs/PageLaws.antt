@@ -36,7 +36,7 @@ use Rattle.judging.specs.Judging.{reportCheck}
 use Rattle.judging.proofs.JudgingLaws.{call-refused, call-late, Columns, shifted-configurations, shifted-few}
 use Rattle.wall_page.specs.declared.PageAnswer.{PageAnswer}
 use Rattle.wall_page.specs.Page.{mark, pageLine, page, lineCount, writingPage, pageAnswer, PageWritten}
-use Rattle.wall_page.specs.Steps.{pageText, permittedCount, PageRead}
+use Rattle.wall_page.specs.PageRows.{pageText, permittedCount, PageRead}
 use Rattle.wall_page.proofs.LineLaws.{line-length}
 use Rattle.wall_page.proofs.LineBytes.{line-mark}
 

@@ -1,3 +1,3 @@
 pub mod Page
-pub mod Steps
+pub mod PageRows
 pub mod PageExamples

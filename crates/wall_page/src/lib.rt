@@ -2,19 +2,20 @@
 mod line;
 
 use judging::COLUMN_WORDS;
-use judging::typed_columns;
+use judging::check_into_columns;
 use line::put_page_line;
 use printing::shown_at;
+use report::Head;
 use report::Refusal;
 use report::Verdict;
 use sets::Row;
-use table_checks::refuse_if;
+use verdicts::refuse_if;
 ghost use mathlib.Core.Path.{_≡_};
 ghost use Prim.Native.Nat.{_≤_};
 ghost use Rattle.sets.specs.Writing.{WrittenAt};
-ghost use Rattle.report.specs.Tables.{tablesOf};
+ghost use Rattle.report.specs.Expressions.{tablesUnder};
 ghost use Rattle.wall_page.specs.Page.{pageAnswer, PageWritten};
-ghost use Rattle.wall_page.specs.Steps.{pageText, permittedCount, PageRead};
+ghost use Rattle.wall_page.specs.PageRows.{pageText, permittedCount, PageRead};
 
 // What writing a page answers: the number of its lines, or the refusal.
 pub enum PageAnswer {
@@ -70,9 +71,7 @@ fn page_answer(verdict: Verdict, lines: usize) -> PageAnswer
 
 // Writes the page of the report of these tables to the start of `page`.
 pub fn write_page(
-    features: u64,
-    attributes: u64,
-    model: u64,
+    head: Head,
     expressions: &[u16],
     entries: &[u16],
     relations: &[u16],
@@ -83,15 +82,12 @@ pub fn write_page(
 ) -> PageAnswer
     ensures { λ r.
         ⌜ PageWritten
-        (tablesOf features attributes model (now (expressions .entry)) (now (entries .entry)) (now (relations .entry)) (now (comparisons .entry))
+        (tablesUnder head (now (expressions .entry)) (now (entries .entry)) (now (relations .entry)) (now (comparisons .entry))
         (now (queries .entry)) (now (kinds .entry))) (now (page .entry)) r (now (page .exit)) ⌝ }
 {
-    let n = features as usize;
     let mut columns = [0; COLUMN_WORDS];
-    let judged = typed_columns(
-        n,
-        attributes as usize,
-        model as usize,
+    let judged = check_into_columns(
+        head,
         expressions,
         entries,
         relations,
@@ -104,7 +100,7 @@ pub fn write_page(
     if let Verdict::Refused(r) = checked {
         return PageAnswer::Refused(r);
     }
-    let count = 1 << n;
+    let count = 1 << head.features;
     // The lines are counted before any is written: a refused call changes no byte.
     let lines = permitted_count(judged.permitted, count);
     let late = refuse_if(page.len() < LINE_BYTES * lines, 23, 0);

@@ -7,7 +7,7 @@ ghost use lib.ListN.{length};
 ghost use Rattle.sets.specs.Writing.{Room, WrittenAt};
 ghost use Rattle.report.specs.Text.{decimal};
 ghost use Rattle.wall_page.specs.Page.{aligned, mark, marks, pageLine};
-ghost use Rattle.wall_page.specs.Steps.{AlignedRead, LineRead};
+ghost use Rattle.wall_page.specs.PageRows.{AlignedRead, LineRead};
 
 // How many digits a number has.
 fn digit_count(n: u64) -> usize

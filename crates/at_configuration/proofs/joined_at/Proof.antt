@@ -6,10 +6,10 @@ use Rattle.at_configuration.proofs.joined_at.Statement.{statement}
 use Rattle.at_configuration.proofs.joined_at.Tie as tie
 
 abbrev Inv-loop : tie.InvT-loop
-Inv-loop entries conditions c start count joined₀ i₀ joined i = EntriesJoined conditions entries c start count (joined .bits) i
+Inv-loop c start count expressionRows entries joined₀ i₀ joined i = EntriesJoined expressionRows entries c start count (joined .bits) i
 
 abbrev μ-loop : tie.MeasureT-loop
-μ-loop entries conditions c start count joined₀ i₀ joined i = count - i
+μ-loop c start count expressionRows entries joined₀ i₀ joined i = count - i
 
 -- places of the code that the needs look back to
 abbrev start-of-turn : tie.In-loop Inv-loop μ-loop → tie.Start Inv-loop μ-loop

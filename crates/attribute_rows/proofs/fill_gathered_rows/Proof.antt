@@ -1,4 +1,5 @@
 use Prim.Native.Nat.{_/_, _-_}
+use mathlib.Core.Path.{refl}
 use native.Mathlib.Omega.{arith}
 use borrow.Author.Needs.{needs}
 use lib.ListN.{length}
@@ -9,18 +10,18 @@ use Rattle.attribute_rows.proofs.fill_gathered_rows.Statement.{statemen
 use Rattle.attribute_rows.proofs.fill_gathered_rows.Tie as tie
 
 abbrev Inv-loop : tie.InvT-loop
-Inv-loop comparisons kinds conditions full what a rows₀ count f₀ rows f =
-    RowsFilling (λ T. GatheredReads T conditions comparisons kinds (full .words)) (λ T. gatheredRow T what) a (length comparisons / 5) rows₀ rows f
+Inv-loop what a full expressionRows comparisons kinds rows₀ count f₀ rows f =
+    RowsFilling (λ T. GatheredReads T expressionRows comparisons kinds (full .words)) (λ T. gatheredRow T what) a (length comparisons / 5) rows₀ rows f
 
 abbrev μ-loop : tie.MeasureT-loop
-μ-loop comparisons kinds conditions full what a rows₀ count f₀ rows f = length comparisons / 5 - f
+μ-loop what a full expressionRows comparisons kinds rows₀ count f₀ rows f = length comparisons / 5 - f
 
 -- places of the code that the needs look back to
 abbrev start : tie.At-loop Inv-loop μ-loop → tie.Start Inv-loop μ-loop
 start p = p .before .before .before .before .before
 
 abbrev turn : tie.After-store-arg Inv-loop μ-loop → tie.In-loop Inv-loop μ-loop
-turn p = p .before .before .before .before .before .before
+turn p = p .before .before .before .before .before
 
 abbrev gathered : tie.After-slice-known2 Inv-loop μ-loop → tie.After-gathered-row Inv-loop μ-loop
 gathered p = p .before .before .before .before
@@ -28,11 +29,11 @@ gathered p = p .before .before .before .before
 gathered-row-requires : tie.Need-gathered-row-requires Inv-loop μ-loop
 gathered-row-requires c κs =
     let to = c .before in
-    let x = to .before .before in
+    let x = to .before in
     let i = x .before in
     let l = i .before in
     rw (to .comparison-operands .ensures)
-    (gathered-read (start l .args .what) (l .loop .inv) (i .loop-test .taken) (x .comparison-at .ensures) (start l .pre))
+    (gathered-read (start l .args .what) (l .loop .inv) (i .loop-test .taken) (x .decode-comparison .ensures) (start l .pre))
 
 store-requires : tie.Need-store-requires Inv-loop μ-loop
 store-requires c κs =
@@ -45,12 +46,12 @@ loop-again : tie.Need-loop-again Inv-loop μ-loop
 loop-again c =
     let r = gathered c in
     let to = r .before .before in
-    let own = to .before in
-    let x = own .before in
+    let x = to .before in
     let i = x .before in
     let l = i .before in
-    gathered-more (start l .args .what) (l .loop .inv) (i .loop-test .taken) (x .comparison-at .ensures)
-    (own .own-shows .ensures) (to .comparison-operands .ensures) (r .gathered-row .ensures) (c .before .before .store .kept .1 .0) (c .before .before .store .ensures)
+    gathered-more (start l .args .what) (l .loop .inv) (i .loop-test .taken) (x .decode-comparison .ensures)
+    refl (to .comparison-operands .ensures) (r .gathered-row .ensures) (c .before .before .store .kept .1 .0)
+    (c .before .before .store .ensures)
 
 pub fill-gathered-rows-spec : {M : Type 1} → statement M
 fill-gathered-rows-spec =
@@ -59,7 +60,6 @@ fill-gathered-rows-spec =
     Inv-loop
     μ-loop
     (λ c. filling-none)
-    (λ c κs. search needs)
     (λ c κs. search needs)
     (λ c κs. search needs)
     gathered-row-requires

@@ -7,11 +7,11 @@ use Rattle.attribute_rows.proofs.fill_relation_rows.Statement.{statemen
 use Rattle.attribute_rows.proofs.fill_relation_rows.Tie as tie
 
 abbrev Inv-loop : tie.InvT-loop
-Inv-loop entries relations conditions a relationRows₀ count start₀ r₀ relationRows start r =
-    RelationsFilling conditions entries relations a relationRows₀ relationRows r start
+Inv-loop a expressionRows entries relations relationRows₀ count start₀ r₀ relationRows start r =
+    RelationsFilling expressionRows entries relations a relationRows₀ relationRows r start
 
 abbrev μ-loop : tie.MeasureT-loop
-μ-loop entries relations conditions a relationRows₀ count start₀ r₀ relationRows start r = length relations / 2 - r
+μ-loop a expressionRows entries relations relationRows₀ count start₀ r₀ relationRows start r = length relations / 2 - r
 
 -- places of the code that the needs look back to
 abbrev start-of-turn : tie.In-loop Inv-loop μ-loop → tie.Start Inv-loop μ-loop

@@ -1,25 +1,38 @@
+use Prim.Native.Nat.{ℕ}
+use mathlib.Core.Path.{_≡_, ap, _∙_}
+use mathlib.Core.Bool.{Bool, false, cond}
+use mathlib.Core.List.{List}
 use native.Mathlib.Omega.{arith}
 use borrow.Author.Needs.{needs}
+use Rattle.sets.specs.Rows.{rowOf}
 use Rattle.attribute_rows.proofs.gathered_row.Statement.{statement}
 use Rattle.attribute_rows.proofs.gathered_row.Tie as tie
 
+-- places of the code that the needs look back to
+abbrev start : tie.After-own-shows → tie.Start
+start p = p .before .before .before .before .before .before
+
+-- the row that a test gives, by another test that it equals
+shown-by : (full : List ℕ) {row : List ℕ} {t u : Bool} → row ≡ cond t full (rowOf 16 (λ c. false)) → t ≡ u → row ≡ cond u full (rowOf 16 (λ c. false))
+shown-by full e s = e ∙ ap (λ (b : Bool). cond b full (rowOf 16 (λ c. false))) s
+
 load-requires : tie.Need-load-requires
 load-requires c κs =
-    let start = c .before .before .before .before .before in
+    let start = c .before .before .before .before .before .before in
     let b = start .pre in
     let l = rw (c .before .to .given .1) at (b .lower) in
     omega arith
 
 joined-row-requires : tie.Need-joined-row-requires
 joined-row-requires c κs =
-    let start = c .before .before .before .before .before in
+    let start = c .before .before .before .before .before .before in
     let b = start .pre in
     let l = rw (c .before .to2 .given .1) at (b .lower) in
     omega arith
 
 chosen-row-requires : tie.Need-chosen-row-requires
 chosen-row-requires c κs =
-    let start = c .before .before .before .before .before in
+    let start = c .before .before .before .before .before .before in
     let b = start .pre in
     let l = rw (c .before .to3 .given .1) at (b .lower) in
     omega arith
@@ -30,13 +43,16 @@ gathered-row-spec =
     (tie.spec
     (λ c. search needs)
     (λ c κs. search needs)
+    (λ c κs. search needs)
     (λ c. search needs)
     load-requires
     (λ c. search needs)
     joined-row-requires
     (λ c. search needs)
     chosen-row-requires
-    (λ c. rw (c .before .enum-told .given .1) (c .row-if .ensures))
+    (λ c.
+    let own = c .before in
+    rw (own .before .enum-told .given .1) (shown-by (start own .args .full .words) (c .row-if .ensures) (own .own-shows .ensures)))
     (λ c. rw (c .before .before .to .given .1) (c .load .ensures))
     (λ c. rw (c .before .before .to2 .given .1) (c .joined-row .ensures))
     (λ c. rw (c .before .before .to3 .given .1) (c .chosen-row .ensures)))

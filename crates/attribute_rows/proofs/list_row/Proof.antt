@@ -5,10 +5,10 @@ use Rattle.attribute_rows.proofs.list_row.Statement.{statement}
 use Rattle.attribute_rows.proofs.list_row.Tie as tie
 
 abbrev Inv-loop : tie.InvT-loop
-Inv-loop entries conditions start count a r₀ i₀ r i = EntriesJoining conditions entries a start count (r .words) i
+Inv-loop start count a expressionRows entries r₀ i₀ r i = EntriesJoining expressionRows entries a start count (r .words) i
 
 abbrev μ-loop : tie.MeasureT-loop
-μ-loop entries conditions start count a r₀ i₀ r i = count - i
+μ-loop start count a expressionRows entries r₀ i₀ r i = count - i
 
 -- places of the code that the needs look back to
 abbrev start-of-turn : tie.In-loop Inv-loop μ-loop → tie.Start Inv-loop μ-loop

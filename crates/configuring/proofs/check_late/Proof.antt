@@ -11,14 +11,14 @@ returns : tie.Need-returns
 returns c T R =
     let p = c .before in
     let a = start p .args in
-    late-refuses R (a .c) (a .entries-room) (a .relations-room) (a .comparisons-room) (a .queries-room) (p .is-permitted .ensures) (c .if1 .taken)
+    late-refuses R (a .c) (a .lent) (p .is-permitted .ensures) (c .if1 .taken)
 
 returns-2 : tie.Need-returns-2
 returns-2 c T R =
     let i = c .before in
     let p = i .before in
     let a = start p .args in
-    room-decides R (a .c) (a .entries-room) (a .relations-room) (a .comparisons-room) (a .queries-room) (p .is-permitted .ensures) (i .if1 .left)
+    room-decides R (a .c) (a .lent) (p .is-permitted .ensures) (i .if1 .left)
     (c .check-room .ensures T (R .source))
 
 pub check-late-spec : {M : Type 1} → statement M

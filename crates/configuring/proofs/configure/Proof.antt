@@ -1,18 +1,19 @@
 use borrow.Author.Needs.{needs}
-use Rattle.report.specs.Tables.{Tables, tablesOf}
+use Rattle.report.specs.Tables.{Tables}
+use Rattle.report.specs.Expressions.{tablesUnder}
 use Rattle.judging.proofs.JudgingLaws.{own-rows}
 use Rattle.configuring.proofs.ConfigureLaws.{report-refuses, late-answers, judged-reads}
 use Rattle.configuring.proofs.configure.Statement.{statement}
 use Rattle.configuring.proofs.configure.Tie as tie
 
 -- places of the code that the needs look back to
-abbrev start : tie.After-typed → tie.Start
+abbrev start : tie.After-check-into-rows → tie.Start
 start y = y .before .before .before .before .before .before .before .before .before .before .before .before .before .before
 
-abbrev typed : tie.After-enum-told → tie.After-typed
-typed t = t .before .before .before .before .before
+abbrev checks : tie.After-enum-told → tie.After-check-into-rows
+checks t = t .before .before .before .before .before
 
-abbrev refused : tie.After-known-told → tie.After-typed
+abbrev refused : tie.After-known-told → tie.After-check-into-rows
 refused p = p .before .before .before .before .before .before
 
 abbrev told : tie.After-configure-judged-arg4 → tie.After-enum-told
@@ -21,10 +22,10 @@ told p = p .before .before .before .before .before .before
 abbrev configured : tie.After-slice-known8 → tie.After-configure-judged
 configured p = p .before .before .before .before .before .before .before .before
 
-abbrev tables : tie.After-typed → Tables
+abbrev tables : tie.After-check-into-rows → Tables
 tables y =
     let a = start y .args in
-    tablesOf (a .features) (a .attributes) (a .model) (a .expressions .now) (a .entries .now) (a .relations .now) (a .comparisons .now)
+    tablesUnder (a .head) (a .expressions .now) (a .entries .now) (a .relations .now) (a .comparisons .now)
     (a .queries .now) (a .kinds .now)
 
 returns : tie.Need-returns
@@ -32,24 +33,24 @@ returns c =
     let y = refused c in
     let a = start y .args in
     report-refuses (tables y) (a .c) (a .new-entries .now) (a .new-relations .now) (a .new-comparisons .now) (a .new-queries .now)
-    (y .typed .ensures .answers) (c .before .checked .given .1)
+    (y .check-into-rows .ensures .answers) (c .before .checked .given .1)
 
 configure-judged-requires : tie.Need-configure-judged-requires
 configure-judged-requires c κs =
     let t = told c in
-    let y = typed t in
-    record { tables = tables y; reads = judged-reads (own-rows (y .typed .ensures) (t .enum-told .given .1)) }
+    let y = checks t in
+    record { tables = tables y; reads = judged-reads (own-rows (y .check-into-rows .ensures) (t .enum-told .given .1)) }
 
 returns-2 : tie.Need-returns-2
 returns-2 c =
     let j = configured c in
     let t = told (j .before) in
-    let y = typed t in
+    let y = checks t in
     let a = start y .args in
     late-answers (tables y) (a .c) (a .new-entries .now) (a .new-relations .now) (a .new-comparisons .now) (a .new-queries .now)
-    (y .typed .ensures .answers) (t .enum-told .given .1)
+    (y .check-into-rows .ensures .answers) (t .enum-told .given .1)
     (j .configure-judged .ensures (tables y)
-    (judged-reads (own-rows (y .typed .ensures) (t .enum-told .given .1))))
+    (judged-reads (own-rows (y .check-into-rows .ensures) (t .enum-told .given .1))))
 
 pub configure-spec : {M : Type 1} → statement M
 configure-spec =

@@ -4,7 +4,7 @@ use native.Mathlib.Omega.{arith}
 use mathlib.Core.Path.{sym, _∙_}
 use lib.ListN.{length}
 use lib.Seq.{length-take-le}
-use Rattle.conditions.proofs.PermittedLaws.{model-room}
+use Rattle.expression_rows.proofs.PermittedLaws.{model-room}
 use Rattle.configuring.proofs.ConfigureLaws.{leaves-refused, late-accepted, written-late}
 use Rattle.configuring.proofs.WriteLaws.{late-reads, few-relations, split-words, kept-reads}
 use Rattle.configuring.proofs.configure_judged.Statement.{statement}

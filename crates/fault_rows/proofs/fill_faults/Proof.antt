@@ -7,15 +7,14 @@ use Rattle.fault_rows.proofs.fill_faults.Statement.{statement}
 use Rattle.fault_rows.proofs.fill_faults.Tie as tie
 
 abbrev Inv-loop : tie.InvT-loop
-Inv-loop relationEntries projectEntries relations comparisons queries kinds conditions full permits items reach faults₀ columns₀ named₀ relationRows₀
-    sets₀ a₀ faults columns named relationRows sets a =
-    Arrays named relationRows sets
-    × Failing conditions (full .words) (permits .words) reach relationEntries projectEntries relations comparisons queries kinds items faults₀
-    columns₀ faults columns a
+Inv-loop scope expressionRows relationEntries projectEntries relations comparisons queries kinds reach faultRows₀ columns₀ items namedRows₀
+    relationRows₀ formRows₀ a₀ faultRows columns namedRows relationRows formRows a =
+    Arrays namedRows relationRows formRows
+    × Failing scope expressionRows relationEntries projectEntries relations comparisons queries kinds reach faultRows₀ columns₀ faultRows columns a
 
 abbrev μ-loop : tie.MeasureT-loop
-μ-loop relationEntries projectEntries relations comparisons queries kinds conditions full permits items reach faults₀ columns₀ named₀ relationRows₀
-    sets₀ a₀ faults columns named relationRows sets a =
+μ-loop scope expressionRows relationEntries projectEntries relations comparisons queries kinds reach faultRows₀ columns₀ items namedRows₀
+    relationRows₀ formRows₀ a₀ faultRows columns namedRows relationRows formRows a =
     items - a
 
 -- places of the code that the needs look back to
@@ -61,7 +60,7 @@ store-column-requires c κs =
 add-a : tie.Need-add-a Inv-loop μ-loop
 add-a c =
     let i = turn (fill-relation-rows (type-forms (c .before .before .before) .before)) in
-    let m = start (i .before .before) .fits .items in
+    let m = start (i .before .before) .pre .reads .scoped .bounded .most in
     let l = i .loop-test .taken in
     omega arith
 

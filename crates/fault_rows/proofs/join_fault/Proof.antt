@@ -18,7 +18,7 @@ returns c =
     let j = join c in
     let x = start (j .before) .args in
     c .before .before .store .ensures
-    ∙ ap (withRow 16 (x .faults .now) (x .q)) (j .join .ensures ∙ ap (λ (l : List ℕ). rowJoin 16 l (x .here .words)) (j .before .load .ensures))
+    ∙ ap (withRow 16 (x .fault-rows .now) (x .q)) (j .join .ensures ∙ ap (λ (l : List ℕ). rowJoin 16 l (x .here .words)) (j .before .load .ensures))
 
 pub join-fault-spec : {M : Type 1} → statement M
 join-fault-spec =

@@ -8,19 +8,21 @@ use Rattle.fault_rows.proofs.type_forms.Statement.{statement}
 use Rattle.fault_rows.proofs.type_forms.Tie as tie
 
 abbrev Inv-loop : tie.InvT-loop
-Inv-loop projectEntries relations queries conditions reach named relationRows a sets₀ faults₀ count start₀ q₀ sets faults start q =
-    FormsTyping conditions projectEntries relations queries reach named relationRows a sets₀ sets faults₀ faults q start
+Inv-loop a expressionRows projectEntries relations queries reach namedRows relationRows formRows₀ faultRows₀ count start₀ q₀
+    formRows faultRows start q =
+    FormsTyping expressionRows projectEntries relations queries reach namedRows relationRows a formRows₀ formRows faultRows₀ faultRows q start
 
 abbrev μ-loop : tie.MeasureT-loop
-μ-loop projectEntries relations queries conditions reach named relationRows a sets₀ faults₀ count start₀ q₀ sets faults start q =
+μ-loop a expressionRows projectEntries relations queries reach namedRows relationRows formRows₀ faultRows₀ count start₀ q₀
+    formRows faultRows start q =
     length queries / 4 - q
 
 -- places of the code that the needs look back to
 abbrev start : tie.In-loop Inv-loop μ-loop → tie.Start Inv-loop μ-loop
 start p = p .before .before .before .before .before .before .before .before .before .before .before
 
-abbrev query-at : tie.After-fault-row-arg Inv-loop μ-loop → tie.After-query-at Inv-loop μ-loop
-query-at p = p .before .before .before .before
+abbrev decoded : tie.After-fault-row-arg Inv-loop μ-loop → tie.After-decode-query Inv-loop μ-loop
+decoded p = p .before .before .before .before
 
 abbrev fault-row-arg : tie.After-set-row-arg Inv-loop μ-loop → tie.After-fault-row-arg Inv-loop μ-loop
 fault-row-arg p = p .before .before .before .before .before .before
@@ -29,13 +31,13 @@ abbrev set-row-arg : tie.After-slice-known4 Inv-loop μ-loop → tie.After-set-r
 set-row-arg p = p .before .before .before .before .before
 
 abbrev turn : tie.After-slice-known4 Inv-loop μ-loop → tie.In-loop Inv-loop μ-loop
-turn p = query-at (fault-row-arg (set-row-arg p)) .before
+turn p = decoded (fault-row-arg (set-row-arg p)) .before
 
 list-row-requires : tie.Need-list-row-requires Inv-loop μ-loop
 list-row-requires c κs =
     let x = c .before in
     let i = x .before in
-    typing-list (i .before .loop .inv) (i .loop-test .taken) (x .query-at .ensures) (c .project-length .ensures) (start i .pre)
+    typing-list (i .before .loop .inv) (i .loop-test .taken) (x .decode-query .ensures) (c .project-length .ensures) (start i .pre)
 
 load-requires : tie.Need-load-requires Inv-loop μ-loop
 load-requires c κs =
@@ -44,24 +46,24 @@ load-requires c κs =
 
 fault-row-requires : tie.Need-fault-row-requires Inv-loop μ-loop
 fault-row-requires c κs =
-    let x = query-at c in
+    let x = decoded c in
     let i = x .before in
-    typing-fault (i .before .loop .inv) (i .loop-test .taken) (x .query-at .ensures) (start i .pre)
+    typing-fault (i .before .loop .inv) (i .loop-test .taken) (x .decode-query .ensures) (start i .pre)
 
 join-fault-requires : tie.Need-join-fault-requires Inv-loop μ-loop
 join-fault-requires c κs =
-    let i = query-at (c .before .before) .before in
+    let i = decoded (c .before .before) .before in
     typing-faults (i .before .loop .inv) (i .loop-test .taken) (start i .pre)
 
 set-row-requires : tie.Need-set-row-requires Inv-loop μ-loop
 set-row-requires c κs =
-    let x = query-at (fault-row-arg c) in
+    let x = decoded (fault-row-arg c) in
     let i = x .before in
-    typing-set (i .before .loop .inv) (i .loop-test .taken) (x .query-at .ensures) (start i .pre)
+    typing-set (i .before .loop .inv) (i .loop-test .taken) (x .decode-query .ensures) (start i .pre)
 
 store-requires : tie.Need-store-requires Inv-loop μ-loop
 store-requires c κs =
-    let i = query-at (fault-row-arg (c .before .before)) .before in
+    let i = decoded (fault-row-arg (c .before .before)) .before in
     typing-sets (i .before .loop .inv) (i .loop-test .taken) (start i .pre)
 
 add-start : tie.Need-add-start Inv-loop μ-loop
@@ -70,7 +72,7 @@ add-start c =
     let x = n .before in
     let i = x .before in
     let s = start i in
-    let l = typing-list (i .before .loop .inv) (i .loop-test .taken) (x .query-at .ensures) (n .project-length .ensures) (s .pre) .reads .inside in
+    let l = typing-list (i .before .loop .inv) (i .loop-test .taken) (x .decode-query .ensures) (n .project-length .ensures) (s .pre) .reads .inside in
     omega arith
 
 add-q : tie.Need-add-q Inv-loop μ-loop
@@ -94,7 +96,7 @@ loop-again c =
     let n = l .before in
     let x = n .before in
     let i = x .before in
-    typing-more (i .before .loop .inv) (i .loop-test .taken) (x .query-at .ensures) (n .project-length .ensures) (l .list-row .ensures)
+    typing-more (i .before .loop .inv) (i .loop-test .taken) (x .decode-query .ensures) (n .project-length .ensures) (l .list-row .ensures)
     (r .load .ensures) (join .before .before .fault-row .ensures) (join .join-fault .kept .1 .1 .0) (join .join-fault .ensures)
     (store .before .before .set-row .ensures) (store .store .kept .1 .0) (store .store .ensures)
 

@@ -7,10 +7,10 @@ use Rattle.faults_at.proofs.fill_gathered.Statement.{statement}
 use Rattle.faults_at.proofs.fill_gathered.Tie as tie
 
 abbrev Inv-loop : tie.InvT-loop
-Inv-loop comparisons kinds conditions c what sets₀ count f₀ sets f = Gathering what conditions comparisons kinds c sets₀ sets f
+Inv-loop c what expressionRows comparisons kinds sets₀ count f₀ sets f = Gathering what expressionRows comparisons kinds c sets₀ sets f
 
 abbrev μ-loop : tie.MeasureT-loop
-μ-loop comparisons kinds conditions c what sets₀ count f₀ sets f = length comparisons / 5 - f
+μ-loop c what expressionRows comparisons kinds sets₀ count f₀ sets f = length comparisons / 5 - f
 
 -- places of the code that the needs look back to
 abbrev start : tie.In-loop Inv-loop μ-loop → tie.Start Inv-loop μ-loop
@@ -22,17 +22,17 @@ compared p = p .before .before
 own-set-requires : tie.Need-own-set-requires Inv-loop μ-loop
 own-set-requires c κs =
     let i = c .before in
-    comparison-narrow (start i .pre .reads) (i .loop-test .taken) (c .comparison-at .ensures)
+    comparison-narrow (start i .pre .reads) (i .loop-test .taken) (c .decode-comparison .ensures)
 
 gathered-at-requires : tie.Need-gathered-at-requires Inv-loop μ-loop
 gathered-at-requires c κs =
     let o = c .before in
     let x = o .before .before in
     let i = x .before in
-    gathering-some (i .before .loop .inv) (start i .pre) (i .loop-test .taken) (x .comparison-at .ensures) (o .comparison-operands .ensures)
+    gathering-some (i .before .loop .inv) (start i .pre) (i .loop-test .taken) (x .decode-comparison .ensures) (o .comparison-operands .ensures)
 
-slice-write-sets : tie.Need-slice-write-sets Inv-loop μ-loop
-slice-write-sets c =
+slice-write-gathered-sets : tie.Need-slice-write-gathered-sets Inv-loop μ-loop
+slice-write-gathered-sets c =
     let i = compared c .before .before .before in
     gathering-place (i .before .loop .inv) (start i .pre) (i .loop-test .taken)
 
@@ -41,7 +41,7 @@ loop-again c =
     let o = compared c in
     let x = o .before .before in
     let i = x .before in
-    gathering-more (i .before .loop .inv) (start i .pre) (i .loop-test .taken) (x .comparison-at .ensures) (o .comparison-operands .ensures)
+    gathering-more (i .before .loop .inv) (start i .pre) (i .loop-test .taken) (x .decode-comparison .ensures) (o .comparison-operands .ensures)
     (o .before .own-set .ensures) (c .gathered-at .ensures)
 
 pub fill-gathered-spec : {M : Type 1} → statement M
@@ -56,7 +56,7 @@ fill-gathered-spec =
     (λ c κs. search needs)
     gathered-at-requires
     (λ c. search needs)
-    slice-write-sets
+    slice-write-gathered-sets
     (λ c. search needs)
     (λ c. search needs)
     loop-again

@@ -7,11 +7,11 @@ use Rattle.faults_at.proofs.fill_relation_sets.Statement.{statement}
 use Rattle.faults_at.proofs.fill_relation_sets.Tie as tie
 
 abbrev Inv-loop : tie.InvT-loop
-Inv-loop entries relations conditions c relationSets₀ count start₀ r₀ relationSets start r =
-    RelationSetsFilling conditions entries relations c relationSets₀ relationSets r start
+Inv-loop c expressionRows entries relations relationSets₀ count start₀ r₀ relationSets start r =
+    RelationSetsFilling expressionRows entries relations c relationSets₀ relationSets r start
 
 abbrev μ-loop : tie.MeasureT-loop
-μ-loop entries relations conditions c relationSets₀ count start₀ r₀ relationSets start r = length relations / 2 - r
+μ-loop c expressionRows entries relations relationSets₀ count start₀ r₀ relationSets start r = length relations / 2 - r
 
 -- places of the code that the needs look back to
 abbrev start-of-turn : tie.In-loop Inv-loop μ-loop → tie.Start Inv-loop μ-loop

@@ -7,27 +7,27 @@ use Rattle.faults_at.proofs.fill_sets.Statement.{statement}
 use Rattle.faults_at.proofs.fill_sets.Tie as tie
 
 abbrev Inv-loop : tie.InvT-loop
-Inv-loop entries queries conditions relationSets c q sets₀ start₀ p₀ sets start p =
-    QueriesFilling conditions entries queries relationSets c q sets₀ sets p start
+Inv-loop c q expressionRows entries queries relationSets sets₀ start₀ p₀ sets start p =
+    QueriesFilling expressionRows entries queries relationSets c q sets₀ sets p start
 
 abbrev μ-loop : tie.MeasureT-loop
-μ-loop entries queries conditions relationSets c q sets₀ start₀ p₀ sets start p = q - p
+μ-loop c q expressionRows entries queries relationSets sets₀ start₀ p₀ sets start p = q - p
 
 -- places of the code that the needs look back to
 abbrev start-of-turn : tie.In-loop Inv-loop μ-loop → tie.Start Inv-loop μ-loop
 start-of-turn p = p .before .before .before .before .before .before .before
 
-query-at-requires : tie.Need-query-at-requires Inv-loop μ-loop
-query-at-requires c κs = setting-in (c .before .loop .inv) (start-of-turn c .pre) (c .loop-test .taken)
+decode-query-requires : tie.Need-decode-query-requires Inv-loop μ-loop
+decode-query-requires c κs = setting-in (c .before .loop .inv) (start-of-turn c .pre) (c .loop-test .taken)
 
 set-at-requires : tie.Need-set-at-requires Inv-loop μ-loop
 set-at-requires c κs =
     let x = c .before in
     let i = x .before in
-    setting-some (i .before .loop .inv) (start-of-turn i .pre) (i .loop-test .taken) (x .query-at .ensures)
+    setting-some (i .before .loop .inv) (start-of-turn i .pre) (i .loop-test .taken) (x .decode-query .ensures)
 
-slice-write-sets : tie.Need-slice-write-sets Inv-loop μ-loop
-slice-write-sets c =
+slice-write-form-sets : tie.Need-slice-write-form-sets Inv-loop μ-loop
+slice-write-form-sets c =
     let i = c .before .before .before in
     setting-place (i .before .loop .inv) (start-of-turn i .pre) (i .loop-test .taken)
 
@@ -35,7 +35,8 @@ add-start : tie.Need-add-start Inv-loop μ-loop
 add-start c =
     let x = c .before .before .before in
     let i = x .before in
-    let l = setting-inside (i .before .loop .inv) (start-of-turn i .pre) (i .loop-test .taken) (x .query-at .ensures) (c .project-length .ensures) in
+    let s = start-of-turn i in
+    let l = setting-inside (i .before .loop .inv) (s .pre) (i .loop-test .taken) (x .decode-query .ensures) (c .project-length .ensures) in
     omega arith
 
 loop-again : tie.Need-loop-again Inv-loop μ-loop
@@ -43,7 +44,7 @@ loop-again c =
     let s = c .before in
     let x = s .before .before in
     let i = x .before in
-    setting-more (i .before .loop .inv) (start-of-turn i .pre) (i .loop-test .taken) (x .query-at .ensures) (c .project-length .ensures)
+    setting-more (i .before .loop .inv) (start-of-turn i .pre) (i .loop-test .taken) (x .decode-query .ensures) (c .project-length .ensures)
     (s .set-at .ensures)
 
 pub fill-sets-spec : {M : Type 1} → statement M
@@ -53,10 +54,10 @@ fill-sets-spec =
     Inv-loop
     μ-loop
     (λ c. setting-none)
-    query-at-requires
+    decode-query-requires
     set-at-requires
     (λ c. search needs)
-    slice-write-sets
+    slice-write-form-sets
     (λ c κs. search needs)
     add-start
     (λ c. search needs)

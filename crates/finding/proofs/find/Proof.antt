@@ -1,6 +1,7 @@
 use mathlib.Core.Path.{_≡_, sym, ap, _∙_}
 use borrow.Author.Needs.{needs}
-use Rattle.report.specs.Tables.{Tables, tablesOf}
+use Rattle.report.specs.Tables.{Tables}
+use Rattle.report.specs.Expressions.{tablesUnder}
 use Rattle.report.specs.declared.Verdict.{Verdict}
 use Rattle.report.proofs.VerdictLaws.{both-accepted}
 use Rattle.judging.proofs.JudgingLaws.{own-columns}
@@ -10,47 +11,47 @@ use Rattle.finding.proofs.find.Statement.{statement}
 use Rattle.finding.proofs.find.Tie as tie
 
 -- places of the code that the needs look back to
-abbrev set : tie.After-typed-columns → tie.After-of-bits
+abbrev set : tie.After-check-into-columns → tie.After-of-bits
 set y = y .before .before
 
-abbrev start : tie.After-typed-columns → tie.Start
+abbrev start : tie.After-check-into-columns → tie.Start
 start y = set y .before .before .before .before .before .before .before
 
 abbrev has-from : tie.After-or-else → tie.After-has-from
 has-from j = j .before .before
 
-abbrev typed : tie.After-or-else → tie.After-typed-columns
-typed j = has-from j .before .before
+abbrev prelude : tie.After-or-else → tie.After-check-into-columns
+prelude j = has-from j .before .before
 
 abbrev joined : tie.After-enum-told → tie.After-or-else
 joined t = t .before .before
 
-abbrev tables : tie.After-typed-columns → Tables
+abbrev tables : tie.After-check-into-columns → Tables
 tables y =
     let a = start y .args in
-    tablesOf (a .features) (a .attributes) (a .model) (a .expressions .now) (a .entries .now) (a .relations .now) (a .comparisons .now)
+    tablesUnder (a .head) (a .expressions .now) (a .entries .now) (a .relations .now) (a .comparisons .now)
     (a .queries .now) (a .kinds .now)
 
 -- where no check refuses, those of the report do not
-passed : (t : tie.After-enum-told) → typed (joined t) .typed-columns .result .verdict ≡ Verdict.Accepted
+passed : (t : tie.After-enum-told) → prelude (joined t) .check-into-columns .result .verdict ≡ Verdict.Accepted
 passed t = both-accepted _ _ (sym (joined t .or-else .ensures) ∙ t .enum-told .given .1) .0
 
 returns : tie.Need-returns
 returns c =
     let j = c .before .before .before in
-    let y = typed j in
-    refused-answers (tables y) (set y .of-bits .ensures) (y .typed-columns .ensures .answers) (has-from j .has-from .ensures)
+    let y = prelude j in
+    refused-answers (tables y) (set y .of-bits .ensures) (y .check-into-columns .ensures .answers) (has-from j .has-from .ensures)
     (j .before .refuse-if .ensures) (j .or-else .ensures) (c .before .verdict .given .1)
 
 answered : (p : tie.After-lowest-with)
-    → let y = typed (joined (p .before .before)) in
+    → let y = prelude (joined (p .before .before)) in
     Finds (tables y) (start y .args .wanted) (foundAnswer Verdict.Accepted (p .lowest-with .result))
 answered p =
     let t = p .before .before in
     let j = joined t in
-    let y = typed j in
-    found-answers (tables y) (set y .of-bits .ensures) (y .typed-columns .ensures .answers) (has-from j .has-from .ensures)
-    (j .before .refuse-if .ensures) (j .or-else .ensures) (t .enum-told .given .1) (own-columns (y .typed-columns .ensures) (passed t))
+    let y = prelude j in
+    found-answers (tables y) (set y .of-bits .ensures) (y .check-into-columns .ensures .answers) (has-from j .has-from .ensures)
+    (j .before .refuse-if .ensures) (j .or-else .ensures) (t .enum-told .given .1) (own-columns (y .check-into-columns .ensures) (passed t))
     (p .lowest-with .ensures)
 
 returns-2 : tie.Need-returns-2

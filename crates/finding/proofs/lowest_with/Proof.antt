@@ -11,7 +11,7 @@ use Rattle.sets.specs.Bits.{bit, difference}
 use Rattle.sets.specs.Rows.{rowIntersect}
 use Rattle.sets.proofs.SearchLaws.{lowest-at}
 use Rattle.sets.proofs.BitLaws.{difference-lt, without-less}
-use Rattle.finding.specs.Steps.{showsWanted}
+use Rattle.finding.specs.ColumnSearch.{showsWanted}
 use Rattle.finding.proofs.WantedLaws.{shows-one, lowest-shown}
 use Rattle.finding.proofs.lowest_with.Statement.{statement}
 use Rattle.finding.proofs.lowest_with.Tie as tie

@@ -11,14 +11,14 @@ returns-2 : tie.Need-returns-2
 returns-2 c =
     let d = c .before .before .before in
     goes-on (d .before .before .check-expressions .ensures) (d .enum-told2 .given .1)
-    (stops _ (c .before .before .check-model .ensures) (c .enum-told3 .given .1))
+    (stops _ (c .before .before .check-model-form .ensures) (c .enum-told3 .given .1))
 
 returns-3 : tie.Need-returns-3
 returns-3 c =
     let w = c .before .before .before in
     let d = w .before .before .before in
     goes-on (d .before .before .check-expressions .ensures) (d .enum-told2 .given .1)
-    (goes-on (w .before .before .check-model .ensures) (w .enum-told4 .given .1)
+    (goes-on (w .before .before .check-model-form .ensures) (w .enum-told4 .given .1)
     (stops _ (c .before .before .check-entries .ensures) (c .enum-told5 .given .1)))
 
 check-lists-requires : tie.Need-check-lists-requires
@@ -30,7 +30,7 @@ returns-4 c =
     let w = x .before .before .before in
     let d = w .before .before .before in
     goes-on (d .before .before .check-expressions .ensures) (d .enum-told2 .given .1)
-    (goes-on (w .before .before .check-model .ensures) (w .enum-told4 .given .1)
+    (goes-on (w .before .before .check-model-form .ensures) (w .enum-told4 .given .1)
     (goes-on (x .before .before .check-entries .ensures) (x .enum-told6 .given .1) (c .check-lists .ensures)))
 
 pub check-contents-spec : {M : Type 1} → statement M

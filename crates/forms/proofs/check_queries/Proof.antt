@@ -7,10 +7,10 @@ use Rattle.forms.proofs.check_queries.Statement.{statement}
 use Rattle.forms.proofs.check_queries.Tie as tie
 
 abbrev Inv-loop : tie.InvT-loop
-Inv-loop counts entries split queries marks₀ count end₀ q₀ marks end q = QueriesPassed counts entries queries marks end q
+Inv-loop counts split entries queries marks₀ count end₀ q₀ marks end q = QueriesPassed counts entries queries marks end q
 
 abbrev μ-loop : tie.MeasureT-loop
-μ-loop counts entries split queries marks₀ count end₀ q₀ marks end q = length queries / 4 - q
+μ-loop counts split entries queries marks₀ count end₀ q₀ marks end q = length queries / 4 - q
 
 -- places of the code that the needs look back to
 abbrev query-fits : tie.After-project-length Inv-loop μ-loop → tie.After-query-fits Inv-loop μ-loop
@@ -32,7 +32,7 @@ returns c =
     let f = c .before .before in
     let d = f .before .before in
     let l = d .before .before in
-    walked-first _ _ _ _ (l .before .before .before .pre) (l .loop .inv) (d .before .loop-test .taken) (d .query-at .ensures) (f .query-fits .ensures)
+    walked-first _ _ _ _ (l .before .before .before .pre) (l .loop .inv) (d .before .loop-test .taken) (d .decode-query .ensures) (f .query-fits .ensures)
     (c .before .if1 .taken) (c .refuse .ensures)
 
 mark-operands-requires : tie.Need-mark-operands-requires Inv-loop μ-loop
@@ -40,7 +40,7 @@ mark-operands-requires c κs =
     let f = c .before .before .before in
     let d = f .before .before in
     let l = d .before .before in
-    walked-below _ _ _ _ (l .before .before .before .pre) (l .loop .inv) (d .before .loop-test .taken) (d .query-at .ensures) (f .query-fits .ensures)
+    walked-below _ _ _ _ (l .before .before .before .pre) (l .loop .inv) (d .before .loop-test .taken) (d .decode-query .ensures) (f .query-fits .ensures)
     (c .before .before .if1 .left) (c .query-operands .ensures)
 
 add-end : tie.Need-add-end Inv-loop μ-loop
@@ -49,7 +49,7 @@ add-end c =
     let d = f .before .before in
     let l = d .before .before in
     let p = l .before .before .before .pre in
-    let i = walked-inside _ _ _ _ p (l .loop .inv) (d .before .loop-test .taken) (d .query-at .ensures) (f .query-fits .ensures)
+    let i = walked-inside _ _ _ _ p (l .loop .inv) (d .before .loop-test .taken) (d .decode-query .ensures) (f .query-fits .ensures)
     (else1 c .if1 .left) (c .project-length .ensures) in
     let m = p .few in
     omega arith
@@ -59,7 +59,7 @@ loop-again c =
     let f = query-fits c in
     let d = f .before .before in
     let l = d .before .before in
-    walked-more _ _ _ _ (l .before .before .before .pre) (l .loop .inv) (d .before .loop-test .taken) (d .query-at .ensures) (f .query-fits .ensures)
+    walked-more _ _ _ _ (l .before .before .before .pre) (l .loop .inv) (d .before .loop-test .taken) (d .decode-query .ensures) (f .query-fits .ensures)
     (else1 c .if1 .left) (c .before .before .before .query-operands .ensures)
     (c .before .before .mark-operands .ensures) (c .project-length .ensures)
 
@@ -90,7 +90,7 @@ check-queries-spec =
     loop-again
     (λ c. search needs)
     (λ c. search needs)
-    (λ c. let l = c .before .before in let i = l .loop .inv .inside in let m = l .before .before .before .pre .few in omega arith)
+    (λ c. let l = c .before in let i = l .loop .inv .inside in let m = l .before .before .before .pre .few in omega arith)
     (λ c. let m = c .before .before .before .before .before .pre .few in omega arith)
     (λ c κs. search needs)
     returns-2)

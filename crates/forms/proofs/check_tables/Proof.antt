@@ -1,7 +1,7 @@
 use borrow.Author.Needs.{needs}
 use mathlib.Core.Path.{sym, _∙_}
 use mathlib.Core.List.{[]}
-use Rattle.report.specs.Tables.{tablesOf}
+use Rattle.report.specs.Expressions.{tablesUnder}
 use Rattle.report.specs.FormChecks.{tablesCheck}
 use Rattle.forms.proofs.Chain.{stops, goes-on, lists-ready}
 use Rattle.forms.proofs.check_tables.Statement.{statement}
@@ -26,7 +26,7 @@ check-contents-requires : tie.Need-check-contents-requires
 check-contents-requires c κs =
     let d = c .before .before .before in
     let a = start d .args in
-    lists-ready (tablesOf (a .n) (a .m) (a .model) (a .expressions .now) (a .entries .now) (a .relations .now) (a .comparisons .now)
+    lists-ready (tablesUnder (a .head) (a .expressions .now) (a .entries .now) (a .relations .now) (a .comparisons .now)
     (a .queries .now) [])
     (sym (c .before .before .check-lengths .ensures) ∙ c .enum-told4 .given .1)
 

@@ -4,15 +4,15 @@ use mathlib.Core.Path.{refl, ap, _∙_}
 use mathlib.Core.Bool.{not}
 use borrow.Author.Tests.{eq-eqb, ne-eqb}
 use Rattle.table_checks.proofs.FormLoops.{FormsPassed, passed-none, passed-more, passed-first, passed-all}
-use Rattle.forms.specs.Steps.{marked}
+use Rattle.forms.specs.MarkedForms.{marked}
 use Rattle.forms.proofs.check_untaken.Statement.{statement}
 use Rattle.forms.proofs.check_untaken.Tie as tie
 
 abbrev Inv-loop : tie.InvT-loop
-Inv-loop marks last q₀ q = FormsPassed (marked marks) last q
+Inv-loop last marks q₀ q = FormsPassed (marked marks) last q
 
 abbrev μ-loop : tie.MeasureT-loop
-μ-loop marks last q₀ q = last - q
+μ-loop last marks q₀ q = last - q
 
 returns : tie.Need-returns Inv-loop μ-loop
 returns c =

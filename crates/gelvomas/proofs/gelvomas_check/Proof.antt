@@ -1,13 +1,10 @@
 use borrow.Author.Needs.{needs}
-use mathlib.Core.Path.{refl, sym, _∙_}
+use mathlib.Core.Path.{refl}
 use Rattle.gelvomas.proofs.Laws.{answered}
 use Rattle.gelvomas.proofs.gelvomas_check.Statement.{statement}
 use Rattle.gelvomas.proofs.gelvomas_check.Tie as tie
 
 -- places of the code that the needs look back to
-abbrev start : tie.After-check → tie.Start
-start p = p .before .before .before .before .before .before .before .before .before
-
 abbrev check : tie.After-slice-known2 → tie.After-check
 check p = p .before .before
 
@@ -15,16 +12,12 @@ returns : tie.Need-returns
 returns c =
     let k = c .before .before .before in
     let called = check (k .before .before) in
-    let s = start called in
-    let a = answered (s .args .refusal .now) (sym (k .v .given .1) ∙ called .check .ensures .0) in
-    (c .tell-refusal .ensures .0 ∙ a .0, (c .tell-refusal .ensures .1 ∙ a .1, (refl, called .check .ensures .1)))
+    answered (k .v .given .1) (called .check .ensures) (c .tell-refusal .ensures .0) (c .tell-refusal .ensures .1)
 
 returns-2 : tie.Need-returns-2
 returns-2 c =
     let called = check (c .before .before) in
-    let s = start called in
-    let a = answered (s .args .refusal .now) (sym (c .enum-told .given .1) ∙ called .check .ensures .0) in
-    (a .0, (a .1, (refl, called .check .ensures .1)))
+    answered (c .enum-told .given .1) (called .check .ensures) refl refl
 
 pub gelvomas-check-spec : {M : Type 1} → statement M
 gelvomas-check-spec =

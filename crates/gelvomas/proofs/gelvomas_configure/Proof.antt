@@ -1,6 +1,7 @@
 use borrow.Author.Needs.{needs}
-use mathlib.Core.Path.{_∙_}
-use Rattle.report.specs.Tables.{Tables, tablesOf}
+use mathlib.Core.Path.{refl}
+use Rattle.report.specs.Tables.{Tables}
+use Rattle.report.specs.Expressions.{tablesOf}
 use Rattle.gelvomas.proofs.Laws.{configure-answered}
 use Rattle.gelvomas.proofs.gelvomas_configure.Statement.{statement}
 use Rattle.gelvomas.proofs.gelvomas_configure.Tie as tie
@@ -21,16 +22,15 @@ returns c =
     let k = m .before .before .before .before .before .before .before .before .before .before in
     let a = start k .args in
     configure-answered (tables k) (a .c) (a .new-entries .now) (a .new-relations .now) (a .new-comparisons .now) (a .new-queries .now)
-    (rw (m .made .given .1) at (k .configure .ensures))
+    (rw (m .made .given .1) at (k .configure .ensures)) refl refl
 
 returns-2 : tie.Need-returns-2
 returns-2 c =
     let m = c .before .before .before in
     let k = m .before .before .before .before .before .before .before .before .before .before in
     let a = start k .args in
-    let left = rw (m .made2 .given .1) at (k .configure .ensures) in
-    let e = configure-answered (tables k) (a .c) (a .new-entries .now) (a .new-relations .now) (a .new-comparisons .now) (a .new-queries .now) left in
-    (c .tell-refusal .ensures .0 ∙ e .0, (c .tell-refusal .ensures .1 ∙ e .1 .0, e .1 .1))
+    configure-answered (tables k) (a .c) (a .new-entries .now) (a .new-relations .now) (a .new-comparisons .now) (a .new-queries .now)
+    (rw (m .made2 .given .1) at (k .configure .ensures)) (c .tell-refusal .ensures .0) (c .tell-refusal .ensures .1)
 
 pub gelvomas-configure-spec : {M : Type 1} → statement M
 gelvomas-configure-spec =

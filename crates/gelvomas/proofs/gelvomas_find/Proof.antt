@@ -1,6 +1,7 @@
 use borrow.Author.Needs.{needs}
-use mathlib.Core.Path.{_∙_}
-use Rattle.report.specs.Tables.{Tables, tablesOf}
+use mathlib.Core.Path.{refl}
+use Rattle.report.specs.Tables.{Tables}
+use Rattle.report.specs.Expressions.{tablesOf}
 use Rattle.gelvomas.proofs.Laws.{find-answered}
 use Rattle.gelvomas.proofs.gelvomas_find.Statement.{statement}
 use Rattle.gelvomas.proofs.gelvomas_find.Tie as tie
@@ -19,20 +20,20 @@ returns : tie.Need-returns
 returns c =
     let f = c .before .before in
     let k = f .before .before in
-    find-answered (tables k) (start k .args .wanted) (f .found .given .1) (k .find .ensures)
+    find-answered (tables k) (start k .args .wanted) (f .found .given .1) (k .find .ensures) refl refl
 
 returns-2 : tie.Need-returns-2
 returns-2 c =
     let told = c .before in
     let k = told .before .before in
-    find-answered (tables k) (start k .args .wanted) (told .enum-told .given .1) (k .find .ensures)
+    find-answered (tables k) (start k .args .wanted) (told .enum-told .given .1) (k .find .ensures) refl refl
 
 returns-3 : tie.Need-returns-3
 returns-3 c =
     let f = c .before .before .before in
     let k = f .before .before in
-    let e = find-answered (tables k) (start k .args .wanted) (f .found2 .given .1) (k .find .ensures) in
-    (c .tell-refusal .ensures .0 ∙ e .0, c .tell-refusal .ensures .1 ∙ e .1)
+    find-answered (tables k) (start k .args .wanted) (f .found2 .given .1) (k .find .ensures) (c .tell-refusal .ensures .0)
+    (c .tell-refusal .ensures .1)
 
 pub gelvomas-find-spec : {M : Type 1} → statement M
 gelvomas-find-spec =

@@ -1,7 +1,8 @@
 use borrow.Author.Needs.{needs}
-use mathlib.Core.Path.{_∙_}
+use mathlib.Core.Path.{refl}
 use denote.Ref.{now}
-use Rattle.report.specs.Tables.{Tables, tablesOf}
+use Rattle.report.specs.Tables.{Tables}
+use Rattle.report.specs.Expressions.{tablesOf}
 use Rattle.gelvomas.proofs.Laws.{page-answered}
 use Rattle.gelvomas.proofs.gelvomas_page.Statement.{statement}
 use Rattle.gelvomas.proofs.gelvomas_page.Tie as tie
@@ -20,14 +21,14 @@ returns : tie.Need-returns
 returns c =
     let w = c .before .before in
     let k = w .before .before .before .before in
-    page-answered (tables k) (now (start k .args .page)) (w .written .given .1) (k .write-page .ensures)
+    page-answered (tables k) (now (start k .args .page)) (w .written .given .1) (k .write-page .ensures) refl refl
 
 returns-2 : tie.Need-returns-2
 returns-2 c =
     let w = c .before .before .before in
     let k = w .before .before .before .before in
-    let e = page-answered (tables k) (now (start k .args .page)) (w .written2 .given .1) (k .write-page .ensures) in
-    (c .tell-refusal .ensures .0 ∙ e .0, (c .tell-refusal .ensures .1 ∙ e .1 .0, e .1 .1))
+    page-answered (tables k) (now (start k .args .page)) (w .written2 .given .1) (k .write-page .ensures) (c .tell-refusal .ensures .0)
+    (c .tell-refusal .ensures .1)
 
 pub gelvomas-page-spec : {M : Type 1} → statement M
 gelvomas-page-spec =

@@ -13,10 +13,10 @@ use Rattle.kept_forms.proofs.number_comparisons.Statement.{statement}
 use Rattle.kept_forms.proofs.number_comparisons.Tie as tie
 
 abbrev Inv-loop : tie.InvT-loop
-Inv-loop comparisons conditions c numbers₀ count kept₀ f₀ numbers kept f = ComparisonNumbering conditions comparisons c numbers₀ numbers kept f
+Inv-loop c expressionRows comparisons numbers₀ count kept₀ f₀ numbers kept f = ComparisonNumbering expressionRows comparisons c numbers₀ numbers kept f
 
 abbrev μ-loop : tie.MeasureT-loop
-μ-loop comparisons conditions c numbers₀ count kept₀ f₀ numbers kept f = length comparisons / 5 - f
+μ-loop c expressionRows comparisons numbers₀ count kept₀ f₀ numbers kept f = length comparisons / 5 - f
 
 -- places of the code that the needs look back to
 abbrev start : tie.In-loop Inv-loop μ-loop → tie.Start Inv-loop μ-loop
@@ -30,7 +30,7 @@ form-number-requires c κs =
     let h = i .loop-test .taken in
     let A = start i .pre in
     numbering-read (i .before .loop .inv) (A .room) h
-    (λ T R. comparison-to R h (x .comparison-at .ensures) (o .comparison-operands .ensures)) (A .reads)
+    (λ T R. comparison-to R h (x .decode-comparison .ensures) (o .comparison-operands .ensures)) (A .reads)
 
 slice-write-numbers : tie.Need-slice-write-numbers Inv-loop μ-loop
 slice-write-numbers c =
@@ -54,8 +54,8 @@ loop-again c =
     let i = x .before in
     let h = i .loop-test .taken in
     numbering-more (i .before .loop .inv) (start i .pre .room) h
-    (λ T R. comparison-to R h (x .comparison-at .ensures) (o .comparison-operands .ensures)) (n .form-number .ensures)
-    (λ T R. comparison-counts R h (x .comparison-at .ensures) (o .comparison-operands .ensures) (c .kept-if .ensures))
+    (λ T R. comparison-to R h (x .decode-comparison .ensures) (o .comparison-operands .ensures)) (n .form-number .ensures)
+    (λ T R. comparison-counts R h (x .decode-comparison .ensures) (o .comparison-operands .ensures) (c .kept-if .ensures))
 
 returns : tie.Need-returns Inv-loop μ-loop
 returns c = λ T R. filling-all (c .before .loop .inv .filling) (c .loop-test .left) T R (ap (λ (t : List _). length t / 5) (R .comparisonsAre))

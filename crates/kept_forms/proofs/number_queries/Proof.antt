@@ -13,10 +13,10 @@ use Rattle.kept_forms.proofs.number_queries.Statement.{statement}
 use Rattle.kept_forms.proofs.number_queries.Tie as tie
 
 abbrev Inv-loop : tie.InvT-loop
-Inv-loop queries conditions reach c numbers₀ count kept₀ q₀ numbers kept q = QueryNumbering conditions reach queries c numbers₀ numbers kept q
+Inv-loop c expressionRows queries reach numbers₀ count kept₀ q₀ numbers kept q = QueryNumbering expressionRows reach queries c numbers₀ numbers kept q
 
 abbrev μ-loop : tie.MeasureT-loop
-μ-loop queries conditions reach c numbers₀ count kept₀ q₀ numbers kept q = length queries / 4 - q
+μ-loop c expressionRows queries reach numbers₀ count kept₀ q₀ numbers kept q = length queries / 4 - q
 
 -- places of the code that the needs look back to
 abbrev start : tie.In-loop Inv-loop μ-loop → tie.Start Inv-loop μ-loop
@@ -29,7 +29,7 @@ form-number-requires c κs =
     let i = x .before in
     let h = i .loop-test .taken in
     let A = start i .pre in
-    numbering-read (i .before .loop .inv) (A .room) h (λ T R. query-to R h (x .query-at .ensures) (o .query-operands .ensures)) (A .reads)
+    numbering-read (i .before .loop .inv) (A .room) h (λ T R. query-to R h (x .decode-query .ensures) (o .query-operands .ensures)) (A .reads)
 
 slice-write-numbers : tie.Need-slice-write-numbers Inv-loop μ-loop
 slice-write-numbers c =
@@ -50,7 +50,7 @@ add-kept c =
     let l = numbering-few (i .before .loop .inv) (b .pre .reads) in
     let h = i .loop-test .taken in
     let s = c .kept-if .ensures in
-    omega (arith, b .good .0, one-more (r .holds-at .result && not (isChoice (o .query-operands .result))))
+    omega (arith, b .good .1 .1 .0, one-more (r .holds-at .result && not (isChoice (o .query-operands .result))))
 
 loop-again : tie.Need-loop-again Inv-loop μ-loop
 loop-again c =
@@ -60,9 +60,9 @@ loop-again c =
     let x = o .before in
     let i = x .before in
     let h = i .loop-test .taken in
-    numbering-more (i .before .loop .inv) (start i .pre .room) h (λ T R. query-to R h (x .query-at .ensures) (o .query-operands .ensures))
+    numbering-more (i .before .loop .inv) (start i .pre .room) h (λ T R. query-to R h (x .decode-query .ensures) (o .query-operands .ensures))
     (n .form-number .ensures)
-    (λ T R. query-counts R h (x .query-at .ensures) (o .query-operands .ensures) (r .holds-at .ensures) (c .kept-if .ensures))
+    (λ T R. query-counts R h (x .decode-query .ensures) (o .query-operands .ensures) (r .holds-at .ensures) (c .kept-if .ensures))
 
 returns : tie.Need-returns Inv-loop μ-loop
 returns c = λ T R. filling-all (c .before .loop .inv .filling) (c .loop-test .left) T R (ap (λ (t : List _). length t / 4) (R .queriesAre))

@@ -25,7 +25,7 @@ write-comparison-requires c κs =
     let x = c .before in
     let i = x .before in
     let k = known i in
-    comparison-forms-read (i .before .loop .inv) (i .loop-test .taken) (x .comparison-at .ensures)
+    comparison-forms-read (i .before .loop .inv) (i .loop-test .taken) (x .decode-comparison .ensures)
     (λ j. omega (arith, k .shared-slice-known .given j)) (k .before .pre)
 
 loop-again : tie.Need-loop-again Inv-loop μ-loop
@@ -33,7 +33,7 @@ loop-again c =
     let w = c .before .before in
     let x = w .before .before in
     let i = x .before in
-    comparison-forms-more (i .before .loop .inv) (i .loop-test .taken) (x .comparison-at .ensures) (w .write-comparison .ensures)
+    comparison-forms-more (i .before .loop .inv) (i .loop-test .taken) (x .decode-comparison .ensures) (w .write-comparison .ensures)
 
 pub write-comparisons-spec : {M : Type 1} → statement M
 write-comparisons-spec =

@@ -2,7 +2,7 @@ use native.Mathlib.Omega.{arith}
 use borrow.Author.Needs.{needs}
 use Rattle.sets.proofs.WritingLaws.{none-written}
 use Rattle.at_configuration.proofs.ListLaws.{form-lower}
-use Rattle.kept_forms.proofs.QueryLaws.{relation-reads, project-reads, some-relation, some-project, same-second}
+use Rattle.kept_forms.proofs.QueryLaws.{relation-reads, project-reads, relation-readable, project-readable, same-second}
 use Rattle.kept_forms.proofs.write_query.Statement.{statement}
 use Rattle.kept_forms.proofs.write_query.Tie as tie
 
@@ -15,7 +15,7 @@ relation-word-requires : tie.Need-relation-word-requires
 relation-word-requires c κs =
     let k = c .before .before in
     let start = k .before .before .before .before .before .before .before .before in
-    some-relation (start .pre) (k .x .given .1)
+    relation-readable (start .pre) (k .x .given .1)
 
 put-query-requires-2 : tie.Need-put-query-requires-2
 put-query-requires-2 c κs =
@@ -51,7 +51,7 @@ length-word-requires : tie.Need-length-word-requires
 length-word-requires c κs =
     let k = c .before in
     let start = k .before .before .before .before .before .before .before .before in
-    some-project (start .pre) (k .x3 .given .1)
+    project-readable (start .pre) (k .x3 .given .1)
 
 put-over-requires-2 : tie.Need-put-over-requires-2
 put-over-requires-2 c κs =

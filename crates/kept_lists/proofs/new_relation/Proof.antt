@@ -8,10 +8,10 @@ use Rattle.kept_lists.proofs.new_relation.Statement.{statement}
 use Rattle.kept_lists.proofs.new_relation.Tie as tie
 
 abbrev Inv-loop : tie.InvT-loop
-Inv-loop relations conditions c r kept₀ i₀ kept i = Counting (λ T. PresentReads T conditions relations c) (λ T. present T c) r kept i
+Inv-loop c r expressionRows relations kept₀ i₀ kept i = Counting (λ T. PresentReads T expressionRows relations c) (λ T. present T c) r kept i
 
 abbrev μ-loop : tie.MeasureT-loop
-μ-loop relations conditions c r kept₀ i₀ kept i = r - i
+μ-loop c r expressionRows relations kept₀ i₀ kept i = r - i
 
 -- places of the code that the needs look back to
 abbrev start : tie.In-loop Inv-loop μ-loop → tie.Start Inv-loop μ-loop

@@ -1,16 +1,16 @@
 use Prim.Native.Nat.{_-_}
 use borrow.Author.Needs.{needs}
 use Rattle.at_configuration.proofs.ListLaws.{each-entry, attribute-small}
-use Rattle.kept_lists.proofs.StepLaws.{keeping-all, keeping-length, EntriesWriting, listing-none, listing-room, listing-more}
+use Rattle.kept_lists.proofs.BlockLaws.{keeping-all, keeping-length, EntriesWriting, listing-none, listing-room, listing-more}
 use Rattle.kept_lists.proofs.write_list.Statement.{statement}
 use Rattle.kept_lists.proofs.write_list.Tie as tie
 
 abbrev Inv-loop : tie.InvT-loop
-Inv-loop entries conditions c start count out₀ at kept₀ p₀ i₀ out kept p i =
-    EntriesWriting conditions entries c start count out₀ at out (kept .bits) i p
+Inv-loop c start count expressionRows entries out₀ at kept₀ p₀ i₀ out kept p i =
+    EntriesWriting expressionRows entries c start count out₀ at out (kept .bits) i p
 
 abbrev μ-loop : tie.MeasureT-loop
-μ-loop entries conditions c start count out₀ at kept₀ p₀ i₀ out kept p i = count - i
+μ-loop c start count expressionRows entries out₀ at kept₀ p₀ i₀ out kept p i = count - i
 
 -- places of the code that the needs look back to
 abbrev start-of-loop : tie.At-loop Inv-loop μ-loop → tie.Start Inv-loop μ-loop

@@ -2,18 +2,18 @@ use Prim.Native.Nat.{_/_, _-_}
 use native.Mathlib.Omega.{arith}
 use borrow.Author.Needs.{needs}
 use lib.ListN.{length}
-use Rattle.kept_lists.proofs.StepLaws.{keeping-length}
+use Rattle.kept_lists.proofs.BlockLaws.{keeping-length}
 use Rattle.kept_lists.proofs.ProjectLaws.{Projecting, projecting-none, projecting-rowed, projecting-small}
 use Rattle.kept_lists.proofs.ProjectLaws.{projecting-room, projecting-more, projecting-all}
 use Rattle.kept_lists.proofs.write_project_lists.Statement.{statement}
 use Rattle.kept_lists.proofs.write_project_lists.Tie as tie
 
 abbrev Inv-loop : tie.InvT-loop
-Inv-loop projectEntries queries conditions reach c out₀ at count start₀ p₀ q₀ out start p q =
-    Projecting conditions reach projectEntries queries c out₀ at out q start p
+Inv-loop c expressionRows projectEntries queries reach out₀ at count start₀ p₀ q₀ out start p q =
+    Projecting expressionRows reach projectEntries queries c out₀ at out q start p
 
 abbrev μ-loop : tie.MeasureT-loop
-μ-loop projectEntries queries conditions reach c out₀ at count start₀ p₀ q₀ out start p q = length queries / 4 - q
+μ-loop c expressionRows projectEntries queries reach out₀ at count start₀ p₀ q₀ out start p q = length queries / 4 - q
 
 -- places of the code that the needs look back to
 abbrev start-of-loop : tie.At-loop Inv-loop μ-loop → tie.Start Inv-loop μ-loop
@@ -33,7 +33,7 @@ write-list-if-requires c κs =
     let n = b .before in
     let x = n .before in
     let i = x .before in
-    projecting-room (i .before .loop .inv) (i .loop-test .taken) (x .query-at .ensures) (n .project-length .ensures) (b .holds-at .ensures)
+    projecting-room (i .before .loop .inv) (i .loop-test .taken) (x .decode-query .ensures) (n .project-length .ensures) (b .holds-at .ensures)
     (start-of-loop (i .before) .pre)
 
 add-start : tie.Need-add-start Inv-loop μ-loop
@@ -41,9 +41,10 @@ add-start c =
     let n = project-length c in
     let x = n .before in
     let i = x .before in
-    let l = projecting-small (i .before .loop .inv) (i .loop-test .taken) (x .query-at .ensures) (n .project-length .ensures)
-    (start-of-loop (i .before) .pre) in
-    omega arith
+    let s = start-of-loop (i .before) in
+    let l = projecting-small (i .before .loop .inv) (i .loop-test .taken) (x .decode-query .ensures) (n .project-length .ensures)
+    (s .pre) in
+    omega (arith, s .good .1 .1 .0)
 
 loop-again : tie.Need-loop-again Inv-loop μ-loop
 loop-again c =
@@ -52,7 +53,7 @@ loop-again c =
     let n = b .before in
     let x = n .before in
     let i = x .before in
-    projecting-more (i .before .loop .inv) (i .loop-test .taken) (x .query-at .ensures) (n .project-length .ensures) (b .holds-at .ensures)
+    projecting-more (i .before .loop .inv) (i .loop-test .taken) (x .decode-query .ensures) (n .project-length .ensures) (b .holds-at .ensures)
     (w .write-list-if .ensures)
 
 pub write-project-lists-spec : {M : Type 1} → statement M

@@ -2,19 +2,19 @@ use Prim.Native.Nat.{_/_, _-_}
 use native.Mathlib.Omega.{arith}
 use borrow.Author.Needs.{needs}
 use lib.ListN.{length}
-use Rattle.kept_lists.specs.Steps.{relationFormAt}
-use Rattle.kept_lists.proofs.StepLaws.{keeping-length}
+use Rattle.kept_lists.specs.Blocks.{relationFormAt}
+use Rattle.kept_lists.proofs.BlockLaws.{keeping-length}
 use Rattle.kept_lists.proofs.RelationLaws.{Relating, relating-none, relating-present, relating-small, relating-list}
 use Rattle.kept_lists.proofs.RelationLaws.{forms-room, forms-more, forms-all}
 use Rattle.kept_lists.proofs.write_relation_forms.Statement.{statement}
 use Rattle.kept_lists.proofs.write_relation_forms.Tie as tie
 
 abbrev Inv-loop : tie.InvT-loop
-Inv-loop relationEntries relations conditions c out₀ count start₀ p₀ r₀ out start p r =
-    Relating relationFormAt conditions relationEntries relations c out₀ out r start p
+Inv-loop c expressionRows relationEntries relations out₀ count start₀ p₀ r₀ out start p r =
+    Relating relationFormAt expressionRows relationEntries relations c out₀ out r start p
 
 abbrev μ-loop : tie.MeasureT-loop
-μ-loop relationEntries relations conditions c out₀ count start₀ p₀ r₀ out start p r = length relations / 2 - r
+μ-loop c expressionRows relationEntries relations out₀ count start₀ p₀ r₀ out start p r = length relations / 2 - r
 
 -- places of the code that the needs look back to
 abbrev start-of-loop : tie.At-loop Inv-loop μ-loop → tie.Start Inv-loop μ-loop
@@ -45,9 +45,10 @@ add-start : tie.Need-add-start Inv-loop μ-loop
 add-start c =
     let n = relation-length c in
     let i = n .before in
+    let s = start-of-loop (i .before) in
     let l = relating-small (i .before .loop .inv) (i .loop-test .taken) (n .relation-length .ensures)
-    (start-of-loop (i .before) .pre) in
-    omega arith
+    (s .pre) in
+    omega (arith, s .good .1 .1 .0)
 
 loop-again : tie.Need-loop-again Inv-loop μ-loop
 loop-again c =

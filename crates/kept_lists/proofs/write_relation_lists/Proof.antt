@@ -2,18 +2,18 @@ use Prim.Native.Nat.{_/_, _-_}
 use native.Mathlib.Omega.{arith}
 use borrow.Author.Needs.{needs}
 use lib.ListN.{length}
-use Rattle.kept_lists.specs.Steps.{relationListAt}
-use Rattle.kept_lists.proofs.StepLaws.{keeping-length}
+use Rattle.kept_lists.specs.Blocks.{relationListAt}
+use Rattle.kept_lists.proofs.BlockLaws.{keeping-length}
 use Rattle.kept_lists.proofs.RelationLaws.{Relating, relating-none, relating-present, relating-small, lists-room, lists-more, lists-all}
 use Rattle.kept_lists.proofs.write_relation_lists.Statement.{statement}
 use Rattle.kept_lists.proofs.write_relation_lists.Tie as tie
 
 abbrev Inv-loop : tie.InvT-loop
-Inv-loop relationEntries relations conditions c out₀ count start₀ p₀ r₀ out start p r =
-    Relating relationListAt conditions relationEntries relations c out₀ out r start p
+Inv-loop c expressionRows relationEntries relations out₀ count start₀ p₀ r₀ out start p r =
+    Relating relationListAt expressionRows relationEntries relations c out₀ out r start p
 
 abbrev μ-loop : tie.MeasureT-loop
-μ-loop relationEntries relations conditions c out₀ count start₀ p₀ r₀ out start p r = length relations / 2 - r
+μ-loop c expressionRows relationEntries relations out₀ count start₀ p₀ r₀ out start p r = length relations / 2 - r
 
 -- places of the code that the needs look back to
 abbrev start-of-loop : tie.At-loop Inv-loop μ-loop → tie.Start Inv-loop μ-loop
@@ -37,9 +37,10 @@ add-start : tie.Need-add-start Inv-loop μ-loop
 add-start c =
     let n = relation-length c in
     let i = n .before in
+    let s = start-of-loop (i .before) in
     let l = relating-small (i .before .loop .inv) (i .loop-test .taken) (n .relation-length .ensures)
-    (start-of-loop (i .before) .pre) in
-    omega arith
+    (s .pre) in
+    omega (arith, s .good .1 .1 .0)
 
 loop-again : tie.Need-loop-again Inv-loop μ-loop
 loop-again c =

@@ -18,7 +18,7 @@ use Rattle.reach.proofs.WalkLaws.{walk-nothing, walk-one, walk-both, wa
 use Rattle.reach.proofs.walk.Reads as walk
 use Rattle.reach.proofs.walk.Kinds as walk-kinds
 use Rattle.reach.proofs.+walk.Lts-walk as walk-lts
-use Rattle.decoders.proofs.query_at.Reads as query-at-reads
+use Rattle.decoders.proofs.decode_query.Reads as decode-query-reads
 use Rattle.reach.proofs.join_row.Reads as join-row-reads
 use Rattle.decoders.proofs.query_operands.Reads as query-operands-reads
 use Rattle.sets.proofs.row.Row.intersect.Reads as intersect-reads
@@ -28,7 +28,7 @@ use Rattle.reach.proofs.+walk.{statement}
 use Rattle.reach.proofs.+walk.Tie.{close}
 
 abbrev μ-walk : Measures 3 walk-kinds.ps ℕ
-μ-walk κs a = a .1 .1 .0
+μ-walk κs a = a .0
 
 abbrev walk-at : ℕ → In 3 walk-kinds.ps
 walk-at t = and 3 walk-kinds.ps (is 3 walk-kinds.ps μ-walk t) walk.Pre
@@ -41,8 +41,8 @@ abbrev claims : ℕ → walk-lts.Claims
 claims t = (
   join-row-reads.Asked,
   join-row-reads.Learnt,
-  query-at-reads.Asked,
-  query-at-reads.Learnt,
+  decode-query-reads.Asked,
+  decode-query-reads.Learnt,
   query-operands-reads.Asked,
   query-operands-reads.Learnt,
   walk-below t,
@@ -82,7 +82,7 @@ OwnJoined t = walk-lts.After-join-row (claims t) (walk-at t) walk.Post
 abbrev own-joined : (t : ℕ) → Read t → OwnJoined t
 own-joined t d = d .before .before .before .before
 
-ready : (t : ℕ) (b : WalkStart t) → WalkReady (now (b .args .queries)) (now (b .args .conditions)) (b .args .reach .words) (now (b .args .out))
+ready : (t : ℕ) (b : WalkStart t) → WalkReady (now (b .args .queries)) (now (b .args .expression-rows)) (b .args .reached .words) (now (b .args .out))
     (b .args .form)
 ready t b = b .pre .1
 
@@ -91,7 +91,7 @@ abbrev operands : (t : ℕ) → Read t → Operands
 operands t d = queryOperands (query (now (start t d .args .queries)) (start t d .args .form))
 
 known : (t : ℕ) (d : Read t) → d .query-operands .result ≡ operands t d
-known t d = d .query-operands .ensures ∙ ap queryOperands (d .before .query-at .ensures)
+known t d = d .query-operands .ensures ∙ ap queryOperands (d .before .decode-query .ensures)
 
 is-one : (t : ℕ) (p : One t) → Operands.One (p .to .given .0 .0) ≡ operands t (p .before .before)
 is-one t p = sym (p .to .given .1) ∙ known t (p .before .before)
@@ -110,9 +110,9 @@ low t d to e = let K = ready t (start t d) in free (K .reads) _ (inside-words K)
 
 -- what a call at a lower form asks
 call : (t : ℕ) (b : WalkStart t) (less after : List ℕ) (j : ℕ)
-    → WalkReads (ready t b .tables) (now (b .args .queries)) (now (b .args .conditions)) less
+    → WalkReads (ready t b .tables) (now (b .args .queries)) (now (b .args .expression-rows)) less
     → length after ≡ length (now (b .args .out)) → j < b .args .form
-    → (j < t) × WalkReady (now (b .args .queries)) (now (b .args .conditions)) less after j
+    → (j < t) × WalkReady (now (b .args .queries)) (now (b .args .expression-rows)) less after j
 call t b less after j S e h = let m = b .pre .0 in (omega arith, ready-lower less after j (ready t b) S e h)
 
 -- ---- the needs
@@ -125,8 +125,8 @@ walk-join-row-requires t c κs =
     let r = K .room in
     omega arith
 
-walk-query-at-requires : (t : ℕ) → walk-lts.Need-query-at-requires (claims t) (walk-at t) walk.Post
-walk-query-at-requires t c κs =
+walk-decode-query-requires : (t : ℕ) → walk-lts.Need-decode-query-requires (claims t) (walk-at t) walk.Post
+walk-decode-query-requires t c κs =
     let entry = c .before .before .before .before .before .before .before in
     inside-words (ready t entry)
 
@@ -239,7 +239,7 @@ walk-returns-2 t c =
     record {
       rows = λ T S.
           c .before .before .walk .ensures .rows T S
-          ∙ ap (λ (w : List ℕ). joined w (b .args .reach .words) (λ c x. leads T c x n)) (o .ensures)
+          ∙ ap (λ (w : List ℕ). joined w (b .args .reached .words) (λ c x. leads T c x n)) (o .ensures)
           ∙ walk-one S _ (inside-words (ready t b)) _ n (is-one t p);
     }
 
@@ -262,9 +262,9 @@ walk-returns-3 t c =
     record {
       rows = λ T S.
           c .before .before .walk3 .ensures .rows T S
-          ∙ ap (λ (w : List ℕ). joined w (b .args .reach .words) (λ c x. leads T c x n))
+          ∙ ap (λ (w : List ℕ). joined w (b .args .reached .words) (λ c x. leads T c x n))
           (at-walk2 .walk2 .ensures .rows T S
-          ∙ ap (λ (w : List ℕ). joined w (b .args .reach .words) (λ c x. leads T c x m)) (o .ensures))
+          ∙ ap (λ (w : List ℕ). joined w (b .args .reached .words) (λ c x. leads T c x m)) (o .ensures))
           ∙ walk-both S _ (inside-words (ready t b)) _ m n (is-both t p);
     }
 
@@ -302,7 +302,7 @@ walk-returns-4 t c =
 pub +walk-spec : {M : Type 1} → statement M
 +walk-spec = close μ-walk λ t. walk-lts.spec (claims t) (walk-at t) walk.Post
     (walk-join-row-requires t)
-    (walk-query-at-requires t)
+    (walk-decode-query-requires t)
     (walk-query-operands-requires t)
     (walk-enum-told t)
     (walk-enum-known-to t)

@@ -43,12 +43,12 @@ returns c =
     let a = b .args in
     let fits : (i : ℕ) → getD (now (a .out)) i 0 < 2 ^ 64 =
     λ i. let k = known c .slice-known .given i in omega (arith, k) in
-    let fit : (i : ℕ) → getD (a .reach .words) i 0 < 2 ^ 64 = λ i. let k : Fits w64 (getD (a .reach .words) i 0) = search needs in k .fits in
+    let fit : (i : ℕ) → getD (a .reached .words) i 0 < 2 ^ 64 = λ i. let k : Fits w64 (getD (a .reached .words) i 0) = search needs in k .fits in
     c .before .before .store .ensures
     ∙ ap (withRow 16 (now (a .out)) (a .form))
     (join c .join .ensures
-    ∙ ap (λ (w : List ℕ). rowJoin 16 w (a .reach .words)) (load c .load .ensures))
-    ∙ join-here (now (a .out)) (a .reach .words) (a .form) (b .pre) fits fit
+    ∙ ap (λ (w : List ℕ). rowJoin 16 w (a .reached .words)) (load c .load .ensures))
+    ∙ join-here (now (a .out)) (a .reached .words) (a .form) (b .pre) fits fit
 
 pub join-row-spec : {M : Type 1} → statement M
 join-row-spec = tie.close (tie.spec load-requires join-requires store-requires same-length returns)

@@ -11,7 +11,7 @@ use Rattle.reading.proofs.LineSteps.{stored-same, numbers-none, numbers
 use Rattle.reading.proofs.read_numbers.Reads as read-numbers
 use Rattle.reading.proofs.read_numbers.Kinds as read-numbers-kinds
 use Rattle.reading.proofs.+read_numbers.Lts-read_numbers as read-numbers-lts
-use Rattle.reading.proofs.spaced_at.Reads as spaced-at-reads
+use Rattle.reading.proofs.scan_spaced.Reads as spaced-at-reads
 use Rattle.reading.proofs.+read_numbers.{statement}
 use Rattle.reading.proofs.+read_numbers.Tie.{close}
 
@@ -37,7 +37,7 @@ requires t c κs =
 returns-2 : (t : ℕ) → read-numbers-lts.Need-returns-2 (claims t) (read-numbers-at t) read-numbers.Post
 returns-2 t c =
     let a = c .before .before .before in
-    numbers-stop _ _ _ (a .before .if1 .left) (sym (a .spaced-at .ensures) ∙ c .before .p .given .1)
+    numbers-stop _ _ _ (a .before .if1 .left) (sym (a .scan-spaced .ensures) ∙ c .before .p .given .1)
 
 same-length : (t : ℕ) → read-numbers-lts.Need-same-length (claims t) (read-numbers-at t) read-numbers.Post
 same-length t c =
@@ -51,7 +51,7 @@ returns-3 t c =
     let d = v .before .before in
     let start = d .before .before .before .before in
     let a = start .args in
-    numbers-more (now (a .s)) (a .count) (a .at) (a .to) (now (a .out)) (d .before .if1 .left) (sym (d .spaced-at .ensures) ∙ v .v .given .1)
+    numbers-more (now (a .s)) (a .count) (a .at) (a .to) (now (a .out)) (d .before .if1 .left) (sym (d .scan-spaced .ensures) ∙ v .v .given .1)
     (c .before .before .read-numbers .ensures)
 
 pub +read-numbers-spec : {M : Type 1} → statement M

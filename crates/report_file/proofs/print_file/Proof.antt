@@ -43,10 +43,9 @@ returns c =
 told : (k : tie.After-file2)
     → let f = read-file (k .before .before) in
     let l = f .read-file .last .1 in
-    let n = k .file2 .given .0 in
     (T : Tables) × (readFile (now (start f .args .text)) ≡ File.holds T)
-    × Held T (Outcome.Read (n .0) (n .1 .0) (n .1 .1 .0) (n .1 .1 .1 .0) (n .1 .1 .1 .1 .0) (n .1 .1 .1 .1 .1 .0))
-    (l .0) (l .1 .0) (l .1 .1 .0) (l .1 .1 .1 .0) (l .1 .1 .1 .1 .0) (l .1 .1 .1 .1 .1 .0) (l .1 .1 .1 .1 .1 .1 .0)
+    × Held T (Outcome.Read (k .file2 .given .0 .0)) (l .0) (l .1 .0) (l .1 .1 .0) (l .1 .1 .1 .0) (l .1 .1 .1 .1 .0) (l .1 .1 .1 .1 .1 .0)
+    (l .1 .1 .1 .1 .1 .1 .0)
 told k = read-told _ _ _ _ _ _ _ _ (read-file (k .before .before) .read-file .ensures) (k .file2 .given .1)
 
 print-read-requires : tie.Need-print-read-requires

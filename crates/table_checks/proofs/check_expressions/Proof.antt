@@ -20,13 +20,13 @@ returns c =
     let d = c .before .before in
     c .refuse .ensures
     ∙ passed-first _ _ (d .before .before .before .loop .inv) (d .before .before .loop-test .taken)
-    (rw (d .before .expression-at .ensures) at (d .expression-fits .ensures)) (c .before .if1 .taken) _
+    (rw (d .before .decode-expression .ensures) at (d .expression-fits .ensures)) (c .before .if1 .taken) _
 
 loop-again : tie.Need-loop-again Inv-loop μ-loop
 loop-again c =
     let d = c .before in
     passed-more _ _ (d .before .before .before .loop .inv) (d .before .before .loop-test .taken)
-    (rw (d .before .expression-at .ensures) at (d .expression-fits .ensures)) (c .if1 .left)
+    (rw (d .before .decode-expression .ensures) at (d .expression-fits .ensures)) (c .if1 .left)
 
 returns-2 : tie.Need-returns-2 Inv-loop μ-loop
 unfolding expressionsCheck

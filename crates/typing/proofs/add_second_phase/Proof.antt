@@ -6,7 +6,7 @@ use Rattle.typing.proofs.add_second_phase.Statement.{statement}
 use Rattle.typing.proofs.add_second_phase.Tie as tie
 
 -- places of the code that the needs look back to
-abbrev start : tie.After-clashes → tie.Start
+abbrev start : tie.After-clash-rows → tie.Start
 start p = p .before .before .before .before .before .before .before
 
 abbrev clashing : tie.After-add-clashes-arg → tie.After-fill-gathered-rows

@@ -7,7 +7,7 @@ use Rattle.typing.proofs.check_rows.Tie as tie
 abbrev start : tie.After-shared-slice-known9 → tie.Start
 start p = p .before .before .before .before .before .before .before .before .before
 
-abbrev lowest : tie.After-check-at → tie.After-lowest
+abbrev lowest : tie.After-check-here → tie.After-lowest
 lowest p = p .before .before .before .before
 
 lowest-row-requires : tie.Need-lowest-row-requires
@@ -28,8 +28,8 @@ returns-2 c =
     λ T R. no-configuration R (f .before .before .lowest-row .ensures) (f .form .given .1) (l .before .load .ensures) (l .lowest .ensures)
     (c .enum-told2 .given .1)
 
-check-at-requires : tie.Need-check-at-requires
-check-at-requires c κs =
+check-here-requires : tie.Need-check-here-requires
+check-here-requires c κs =
     let l = c .before .before .before in
     let f = l .before .before .before in
     let r = f .before .before in
@@ -46,7 +46,7 @@ returns-3 c =
     let l = lowest c in
     let f = l .before .before .before in
     λ T R. here-answers R (f .before .before .lowest-row .ensures) (f .form .given .1) (l .before .load .ensures) (l .lowest .ensures)
-    (c .before .before .configuration .given .1) (c .check-at .ensures)
+    (c .before .before .configuration .given .1) (c .check-here .ensures)
 
 pub check-rows-spec : {M : Type 1} → statement M
 check-rows-spec =
@@ -61,5 +61,5 @@ check-rows-spec =
     (λ c. search needs)
     (λ c. search needs)
     returns-2
-    check-at-requires
+    check-here-requires
     returns-3)

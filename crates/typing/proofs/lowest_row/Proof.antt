@@ -5,10 +5,10 @@ use Rattle.typing.proofs.lowest_row.Statement.{statement}
 use Rattle.typing.proofs.lowest_row.Tie as tie
 
 abbrev Inv-loop : tie.InvT-loop
-Inv-loop rows count q₀ q = RowsPassed rows count q
+Inv-loop count rows q₀ q = RowsPassed rows count q
 
 abbrev μ-loop : tie.MeasureT-loop
-μ-loop rows count q₀ q = count - q
+μ-loop count rows q₀ q = count - q
 
 loop-holds : tie.Need-loop-holds Inv-loop μ-loop
 loop-holds c = passed-none _ _

@@ -4,8 +4,8 @@ use Rattle.typing_at.proofs.check_small.Statement.{statement}
 use Rattle.typing_at.proofs.check_small.Tie as tie
 
 -- places of the code that the needs look back to
-abbrev start : tie.After-sets → tie.Start
-start p = p .before .before .before .before .before .before .before .before .before .before .before .before .before .before
+abbrev start : tie.After-form-sets → tie.Start
+start p = p .before .before .before .before .before .before .before .before .before .before .before .before .before
 
 pub check-small-spec : {M : Type 1} → statement M
 check-small-spec =
@@ -14,7 +14,6 @@ check-small-spec =
     (λ c. search needs)
     (λ c. search needs)
     (λ c. search needs)
-    (λ c. search needs)
     (λ c κs. size-enough 16 (start c .pre))
     (λ c. search needs)
-    (λ c. c .before .before .before .before .before .before .check-with .ensures))
+    (λ c. c .before .before .before .before .before .check-with .ensures))

@@ -1,52 +1,48 @@
 -- Configuration by configuration: the answer and the column rows are those of the permitted configurations below `from`.
-use Prim.Native.Nat.{_-_, _/_, _≤_, _<_}
+use Prim.Native.Nat.{_-_, _≤_, _<_}
 use mathlib.Core.Path.{sym, _∙_}
 use native.Mathlib.Omega.{arith}
 use borrow.Author.Needs.{needs}
-use lib.ListN.{length}
-use Rattle.typing_at.specs.Steps.{SetsLent}
+use Rattle.typing_at.specs.Here.{SetsLent}
 use Rattle.typing_at.proofs.EachSteps.{SetsKept, kept-none, kept-more, kept-lent}
-use Rattle.typing_at.proofs.EachSteps.{EachPassed, each-none, report-form, report-place, each-all, each-here, each-between, each-more}
+use Rattle.typing_at.proofs.EachSteps.{EachPassed, each-none, each-all, each-here, each-between, each-more}
 use Rattle.typing_at.proofs.check_with.Statement.{statement}
 use Rattle.typing_at.proofs.check_with.Tie as tie
 
 abbrev Inv-loop : tie.InvT-loop
-Inv-loop relationEntries projectEntries relations comparisons queries kinds conditions permitted items reach columns₀ named₀ clashing₀ related₀ sets₀
-    report answer₀ from₀ columns named clashing related sets answer from =
-    SetsKept named₀ clashing₀ related₀ sets₀ named clashing related sets
-    × EachPassed conditions (permitted .words) reach relationEntries projectEntries relations comparisons queries kinds items columns answer from
+Inv-loop scope expressionRows relationEntries projectEntries relations comparisons queries kinds reach columns₀ named₀ clashing₀ sets₀
+    permitted answer₀ from₀ columns named clashing sets answer from =
+    SetsKept named₀ clashing₀ sets₀ named clashing sets
+    × EachPassed scope expressionRows relationEntries projectEntries relations comparisons queries kinds reach columns answer from
 
 abbrev μ-loop : tie.MeasureT-loop
-μ-loop relationEntries projectEntries relations comparisons queries kinds conditions permitted items reach columns₀ named₀ clashing₀ related₀ sets₀
-    report answer₀ from₀ columns named clashing related sets answer from =
+μ-loop scope expressionRows relationEntries projectEntries relations comparisons queries kinds reach columns₀ named₀ clashing₀ sets₀
+    permitted answer₀ from₀ columns named clashing sets answer from =
     1024 - from
 
 -- ---- places: back from where each part is worked out to the one before
 
-abbrev first : tie.After-slice-known5 Inv-loop μ-loop → tie.Start Inv-loop μ-loop
+abbrev first : tie.After-permitted Inv-loop μ-loop → tie.Start Inv-loop μ-loop
 first p = p .before .before .before .before .before .before .before .before .before .before .before .before .before
 
 abbrev start : tie.At-loop Inv-loop μ-loop → tie.Start Inv-loop μ-loop
 start p = first (p .before)
 
-abbrev found : tie.After-check-here Inv-loop μ-loop → tie.After-next Inv-loop μ-loop
-found p = p .before .before .before .before .before .before
-
 abbrev sought : tie.After-next Inv-loop μ-loop → tie.After-lowest-from Inv-loop μ-loop
 sought p = p .before .before
 
-abbrev checked : tie.After-slice-known9 Inv-loop μ-loop → tie.After-check-here Inv-loop μ-loop
-checked p = p .before .before .before .before .before .before .before .before
+abbrev found : tie.After-fill-here Inv-loop μ-loop → tie.After-next Inv-loop μ-loop
+found p = p .before .before .before .before .before
 
-abbrev set : tie.After-show-at Inv-loop μ-loop → tie.After-of-bits Inv-loop μ-loop
-set p = p .before .before
+abbrev checked : tie.After-show-at-arg Inv-loop μ-loop → tie.After-fill-here Inv-loop μ-loop
+checked p = p .before .before .before .before .before .before .before
 
 abbrev shown : tie.After-sooner-of Inv-loop μ-loop → tie.After-show-at Inv-loop μ-loop
 shown p = p .before .before .before
 
 -- the words for the sets are there at each turn
 lent : (l : tie.At-loop Inv-loop μ-loop)
-    → SetsLent (start l .pre .readable .tables) (l .loop .named) (l .loop .clashing) (l .loop .related) (l .loop .sets)
+    → SetsLent (start l .pre .readable .tables) (l .loop .named-sets) (l .loop .clash-sets) (l .loop .form-sets)
 lent l = kept-lent (l .loop .inv .0) (start l .pre .lent)
 
 -- the configuration that is found is not below `from`, and is below 1,024
@@ -56,60 +52,55 @@ between n =
     let l = f .before in
     each-between (start l .pre .readable) (l .loop .inv .1) (f .lowest-from .ensures) (n .next .given .1)
 
+same-length : tie.Need-same-length Inv-loop μ-loop
+same-length c =
+    let l = c .before .before .before in
+    l .loop .inv .1 .size ∙ sym (each-none (start l .pre .readable) .size)
+
 returns : tie.Need-returns Inv-loop μ-loop
 returns c =
     let f = c .before .before in
     let l = f .before in
     each-all (start l .pre .readable) (l .loop .inv .1) (f .lowest-from .ensures) (c .enum-told .given .1)
 
-check-here-requires : tie.Need-check-here-requires Inv-loop μ-loop
-check-here-requires c κs =
-    let n = c .before .before .before .before .before in
+fill-here-requires : tie.Need-fill-here-requires Inv-loop μ-loop
+fill-here-requires c κs =
+    let n = c .before .before .before .before in
     let f = sought n in
     let l = f .before in
     each-here (start l .pre .readable) (l .loop .inv .1) (f .lowest-from .ensures) (n .next .given .1) (lent l)
 
 -- they are as long as before when the sets are worked out
-kept : (h : tie.After-check-here Inv-loop μ-loop)
+kept : (h : tie.After-fill-here Inv-loop μ-loop)
     → let a = start (sought (found h) .before) .args in
-    let x = h .check-here .last .1 .1 .1 .1 .1 .1 .1 .1 .1 in
-    SetsKept (a .named .now) (a .clashing .now) (a .related .now) (a .sets .now) (x .0) (x .1 .0) (x .1 .1 .0) (x .1 .1 .1 .0)
+    let x = h .fill-here .last .1 .1 .1 .1 .1 .1 .1 .1 .1 in
+    SetsKept (a .named-sets .now) (a .clash-sets .now) (a .form-sets .now) (x .0) (x .1 .0) (x .1 .1 .0)
 kept h =
-    let k = h .check-here .kept .1 .1 .1 .1 .1 .1 .1 .1 .1 in
-    kept-more (sought (found h) .before .loop .inv .0) (k .0) (k .1 .0) (k .1 .1 .0) (k .1 .1 .1 .0)
-
--- the report's word among the sets
-read : (p : tie.After-slice-known9 Inv-loop μ-loop)
-    → let h = checked p in
-    length (start (sought (found h) .before) .args .queries .now) / 4 - 1 < length (h .check-here .last .1 .1 .1 .1 .1 .1 .1 .1 .1 .1 .1 .1 .0)
-read p =
-    let h = checked p in
-    let s = start (sought (found h) .before) in
-    report-place (s .pre .readable) (kept-lent (kept h) (s .pre .lent))
+    let k = h .fill-here .kept .1 .1 .1 .1 .1 .1 .1 .1 .1 in
+    kept-more (sought (found h) .before .loop .inv .0) (k .0) (k .1 .0) (k .1 .1 .0)
 
 show-at-requires : tie.Need-show-at-requires Inv-loop μ-loop
 show-at-requires c κs =
-    let n = found (checked (c .before .before .before)) in
+    let n = found (checked c) in
     let l = sought n .before in
-    (start l .pre .readable .most, between n .1, l .loop .inv .1 .size)
+    (start l .pre .readable .reads .scoped .bounded .most, between n .1, l .loop .inv .1 .size)
 
 add-from : tie.Need-add-from Inv-loop μ-loop
-add-from c = let b = between (found (checked (set (shown c) .before .before))) in omega arith
+add-from c = let b = between (found (checked (shown c .before))) in omega arith
 
 loop-less : tie.Need-loop-less Inv-loop μ-loop
-loop-less c = let b = between (found (checked (set (shown c) .before .before))) in omega arith
+loop-less c = let b = between (found (checked (shown c .before))) in omega arith
 
 loop-again : tie.Need-loop-again Inv-loop μ-loop
 loop-again c =
     let s = shown c in
-    let b = set s in
-    let h = checked (b .before .before) in
+    let h = checked (s .before) in
     let n = found h in
     let f = sought n in
     let l = f .before in (
       kept h,
-      each-more (start l .pre .readable) (l .loop .inv .1) (f .lowest-from .ensures) (n .next .given .1) (h .check-here .ensures) (b .of-bits .ensures)
-          (s .show-at .kept .1 .1 .1 .0) (s .show-at .ensures) (c .sooner-of .ensures),
+      each-more (start l .pre .readable) (l .loop .inv .1) (f .lowest-from .ensures) (n .next .given .1) (h .fill-here .ensures) (s .show-at .kept .1 .1 .1 .0)
+          (s .show-at .ensures) (c .sooner-of .ensures),
     )
 
 pub check-with-spec : {M : Type 1} → statement M
@@ -118,21 +109,16 @@ check-with-spec =
     (tie.spec
     Inv-loop
     μ-loop
-    (λ c. let l = report-form (first c .pre .readable) in omega arith)
     (λ c. (kept-none, each-none (first c .pre .readable)))
     (λ c κs. search needs)
     (λ c. search needs)
     (λ c. search needs)
-    (λ c. let l = c .before .before .before in l .loop .inv .1 .size ∙ sym (each-none (start l .pre .readable) .size))
-    (λ c. search needs)
+    same-length
     (λ c. search needs)
     (λ c. search needs)
     (λ c. search needs)
     returns
-    check-here-requires
-    (λ c. let l = report-form (start (sought (found (checked c)) .before) .pre .readable) in omega arith)
-    (λ c. read (c .before))
-    (λ c κs. search needs)
+    fill-here-requires
     show-at-requires
     (λ c κs. search needs)
     add-from

@@ -6,11 +6,11 @@ use Rattle.typing_at.proofs.forms_here.Statement.{statement}
 use Rattle.typing_at.proofs.forms_here.Tie as tie
 
 abbrev Inv-loop : tie.InvT-loop
-Inv-loop entries relations queries conditions reach c named clashing sets count start₀ q₀ start q =
-    FormsPassed conditions entries relations queries reach c named clashing sets q start
+Inv-loop c expressionRows entries relations queries reach named clashing sets count start₀ q₀ start q =
+    FormsPassed expressionRows entries relations queries reach c named clashing sets q start
 
 abbrev μ-loop : tie.MeasureT-loop
-μ-loop entries relations queries conditions reach c named clashing sets count start₀ q₀ start q = count - q
+μ-loop c expressionRows entries relations queries reach named clashing sets count start₀ q₀ start q = count - q
 
 -- places of the code that the needs look back to
 abbrev start : tie.In-loop Inv-loop μ-loop → tie.Start Inv-loop μ-loop
@@ -19,23 +19,23 @@ start p = p .before .before .before .before .before .before .before .before .bef
 form-here-requires : tie.Need-form-here-requires Inv-loop μ-loop
 form-here-requires c κs =
     let i = c .before in
-    here-readable (i .before .loop .inv) (i .loop-test .taken) (c .query-at .ensures) (start i .pre)
+    here-readable (i .before .loop .inv) (i .loop-test .taken) (c .decode-query .ensures) (start i .pre)
 
 returns : tie.Need-returns Inv-loop μ-loop
 returns c =
     let f = c .before .before in
     let x = f .before in
     let i = x .before in
-    forms-refused (i .before .loop .inv) (i .loop-test .taken) (x .query-at .ensures) (f .form-here .ensures) (c .enum-told .given .1)
+    forms-refused (i .before .loop .inv) (i .loop-test .taken) (x .decode-query .ensures) (f .form-here .ensures) (c .enum-told .given .1)
 
 add-start : tie.Need-add-start Inv-loop μ-loop
 add-start c =
     let f = c .before .before .before in
     let x = f .before in
     let i = x .before in
-    let l = forms-inside (i .before .loop .inv) (i .loop-test .taken) (x .query-at .ensures) (f .form-here .ensures) (c .project-length .ensures)
-    (start i .pre) in
-    let g = start i .good .0 in
+    let s = start i in
+    let l = forms-inside (i .before .loop .inv) (i .loop-test .taken) (x .decode-query .ensures) (f .form-here .ensures) (c .project-length .ensures)
+    (s .pre) in
     omega arith
 
 loop-again : tie.Need-loop-again Inv-loop μ-loop
@@ -44,7 +44,7 @@ loop-again c =
     let f = t .before .before in
     let x = f .before in
     let i = x .before in
-    forms-more (i .before .loop .inv) (i .loop-test .taken) (x .query-at .ensures) (f .form-here .ensures) (c .project-length .ensures)
+    forms-more (i .before .loop .inv) (i .loop-test .taken) (x .decode-query .ensures) (f .form-here .ensures) (c .project-length .ensures)
     (t .enum-told2 .given .1)
 
 pub forms-here-spec : {M : Type 1} → statement M

@@ -17,7 +17,8 @@ returns-3 c =
     let g = c .before in
     let y = g .before .before in
     let x = y .before .before .before in
-    ap (λ (t : Bool). cond t (Verdict.Refused (y .y .given .0 .0)) (Verdict.Refused (x .x .given .0 .0))) (sym (c .if1 .taken) ∙ g .goes-before .ensures)
+    ap (λ (t : Bool). cond t (Verdict.Refused (y .y .given .0 .0)) (Verdict.Refused (x .x .given .0 .0)))
+    (sym (c .if1 .taken) ∙ g .goes-before .ensures)
     ∙ sym (ap₂ sooner (x .x .given .1) (y .y .given .1))
 
 returns-4 : tie.Need-returns-4

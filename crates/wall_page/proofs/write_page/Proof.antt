@@ -6,53 +6,54 @@ use denote.Ref.{now}
 use borrow.Author.Needs.{needs}
 use lib.ListN.{length}
 use Rattle.sets.proofs.WritingLaws.{same-length}
-use Rattle.report.specs.Tables.{Tables, tablesOf}
+use Rattle.report.specs.Tables.{Tables}
+use Rattle.report.specs.Expressions.{tablesUnder}
 use Rattle.judging.proofs.JudgingLaws.{Columns, own-columns, shifted-few}
 use Rattle.wall_page.proofs.PageLaws.{refused-answers, lines-few, late-answers, refused-left, page-read, page-left}
 use Rattle.wall_page.proofs.write_page.Statement.{statement}
 use Rattle.wall_page.proofs.write_page.Tie as tie
 
 -- places of the code that the needs look back to
-abbrev start : tie.After-typed-columns → tie.Start
+abbrev start : tie.After-check-into-columns → tie.Start
 start y = y .before .before .before .before .before .before .before .before .before
 
-abbrev typed : tie.After-enum-told → tie.After-typed-columns
-typed t = t .before .before .before
+abbrev prelude : tie.After-enum-told → tie.After-check-into-columns
+prelude t = t .before .before .before
 
-abbrev tables : tie.After-typed-columns → Tables
+abbrev tables : tie.After-check-into-columns → Tables
 tables y =
     let a = start y .args in
-    tablesOf (a .features) (a .attributes) (a .model) (a .expressions .now) (a .entries .now) (a .relations .now) (a .comparisons .now)
+    tablesUnder (a .head) (a .expressions .now) (a .entries .now) (a .relations .now) (a .comparisons .now)
     (a .queries .now) (a .kinds .now)
 
 returns : tie.Need-returns
 returns c =
     let k = c .before in
     let y = k .before .before .before in
-    refused-answers (tables y) (y .typed-columns .ensures .answers) (now (start y .args .page)) (k .checked .given .1)
+    refused-answers (tables y) (y .check-into-columns .ensures .answers) (now (start y .args .page)) (k .checked .given .1)
 
 -- the rows of tables that pass
 rows : (t : tie.After-enum-told)
-    → let y = typed t .typed-columns in Columns (tables (typed t)) (y .result .permitted .words) (y .last .1 .1 .1 .1 .1 .1 .1 .1 .1 .0)
-rows t = own-columns (typed t .typed-columns .ensures) (t .enum-told .given .1)
+    → let y = prelude t .check-into-columns in Columns (tables (prelude t)) (y .result .permitted .words) (y .last .1 .1 .1 .1 .1 .1 .1 .0)
+rows t = own-columns (prelude t .check-into-columns .ensures) (t .enum-told .given .1)
 
 shl-count : tie.Need-shl-count
-shl-count c = let f = rows c .formed .few in omega arith
+shl-count c = let f = rows (c .before) .formed .few in omega arith
 
 permitted-count-requires : tie.Need-permitted-count-requires
-permitted-count-requires c κs = shifted-few (rows c .formed) refl
+permitted-count-requires c κs = shifted-few (rows (c .before) .formed) refl
 
 mul-refuse-if : tie.Need-mul-refuse-if
-mul-refuse-if c = let l = lines-few _ (c .permitted-count .ensures) (shifted-few (rows (c .before) .formed) refl) in omega arith
+mul-refuse-if c = let l = lines-few _ (c .permitted-count .ensures) (shifted-few (rows (c .before .before) .formed) refl) in omega arith
 
 put-page-requires : tie.Need-put-page-requires
 put-page-requires c κs =
     let k = c .before .before in
     let n = k .before .before in
     let p = n .before in
-    let t = p .before in
-    let y = typed t in
-    page-read (tables y) (y .typed-columns .ensures .answers) (now (start y .args .page)) (t .enum-told .given .1) (rows t)
+    let t = p .before .before in
+    let y = prelude t in
+    page-read (tables y) (y .check-into-columns .ensures .answers) (now (start y .args .page)) (t .enum-told .given .1) (rows t)
     (p .permitted-count .ensures) (n .refuse-if .ensures) (k .enum-told2 .given .1)
 
 same-long : tie.Need-same-length
@@ -63,10 +64,10 @@ returns-2 : tie.Need-returns-2
 returns-2 c =
     let n = c .before .before in
     let p = n .before in
-    let t = p .before in
-    let y = typed t in
+    let t = p .before .before in
+    let y = prelude t in
     let lent = now (start y .args .page) in
-    let a = y .typed-columns .ensures .answers in
+    let a = y .check-into-columns .ensures .answers in
     let f = t .enum-told .given .1 in
     late-answers (tables y) a lent f (rows t) (p .permitted-count .ensures) (n .refuse-if .ensures) (c .page-answer .ensures)
     (⊎-elim

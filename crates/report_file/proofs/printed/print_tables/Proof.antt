@@ -3,7 +3,8 @@ use Prim.Native.Nat.{_≤_}
 use native.Mathlib.Omega.{arith}
 use borrow.Author.Needs.{needs}
 use lib.ListN.{length}
-use Rattle.report.specs.Tables.{Tables, tablesOf}
+use Rattle.report.specs.Tables.{Tables}
+use Rattle.report.specs.Expressions.{tablesUnder}
 use Rattle.printing.specs.Lines.{refusalLine}
 use Rattle.printing.proofs.PrintLaws.{refusal-room}
 use Rattle.judging.proofs.JudgingLaws.{own-columns}
@@ -12,16 +13,16 @@ use Rattle.report_file.proofs.printed.print_tables.Statement.{statement
 use Rattle.report_file.proofs.printed.print_tables.Tie as tie
 
 -- places of the code that the needs look back to
-abbrev start : tie.After-typed-columns → tie.Start
+abbrev start : tie.After-check-into-columns → tie.Start
 start y = y .before .before .before .before .before .before .before .before .before
 
-abbrev typed : tie.After-enum-told → tie.After-typed-columns
-typed t = t .before .before .before
+abbrev prelude : tie.After-enum-told → tie.After-check-into-columns
+prelude t = t .before .before .before
 
-abbrev tables : tie.After-typed-columns → Tables
+abbrev tables : tie.After-check-into-columns → Tables
 tables y =
     let a = start y .args in
-    tablesOf (a .features) (a .attributes) (a .model) (a .expressions .now) (a .entries .now) (a .relations .now) (a .comparisons .now)
+    tablesUnder (a .head) (a .expressions .now) (a .entries .now) (a .relations .now) (a .comparisons .now)
     (a .queries .now) (a .kinds .now)
 
 -- the fields of a refusal are numbers of 64 bits
@@ -36,22 +37,22 @@ returns c =
     let put = c .before .before in
     let k = put .before .before .before in
     let y = k .before .before .before in
-    refusal-printed (start y .args .layout) (tables y) (y .typed-columns .ensures .answers) (k .checked .given .1)
+    refusal-printed (start y .args .layout) (tables y) (y .check-into-columns .ensures .answers) (k .checked .given .1)
     (prints (short (put .before)) (start y .pre) (put .put-refused .ensures))
 
 print-columns-requires : tie.Need-print-columns-requires
 print-columns-requires c κs =
     let t = c .before .before in
-    let y = typed t in
-    record { tables = tables y; reads = accepted-reads (own-columns (y .typed-columns .ensures) (t .enum-told .given .1)); room = start y .pre }
+    let y = prelude t in
+    record { tables = tables y; reads = accepted-reads (own-columns (y .check-into-columns .ensures) (t .enum-told .given .1)); room = start y .pre }
 
 returns-2 : tie.Need-returns-2
 returns-2 c =
     let put = c .before .before in
     let t = put .before .before .before in
-    let y = typed t in
-    acceptance-printed (start y .args .layout) (tables y) (y .typed-columns .ensures .answers) (t .enum-told .given .1)
-    (put .print-columns .ensures (tables y) (accepted-reads (own-columns (y .typed-columns .ensures) (t .enum-told .given .1))))
+    let y = prelude t in
+    acceptance-printed (start y .args .layout) (tables y) (y .check-into-columns .ensures .answers) (t .enum-told .given .1)
+    (put .print-columns .ensures (tables y) (accepted-reads (own-columns (y .check-into-columns .ensures) (t .enum-told .given .1))))
 
 pub print-tables-spec : {M : Type 1} → statement M
 print-tables-spec =

@@ -1,0 +1,69 @@
+-- The parts of the call after typing.
+use Prim.Native.Nat.{ℕ, _<_, _≤_}
+use mathlib.Core.Path.{_≡_}
+use mathlib.Core.List.{List, _++_}
+use lib.ListN.{length}
+use Rattle.sets.specs.Rows.{rowOf}
+use Rattle.sets.specs.Writing.{Room}
+use Rattle.report.specs.Tables.{Tables}
+use Rattle.report.specs.Expressions.{configurations, permitted}
+use Rattle.report.specs.Verdicts.{firstOf}
+use Rattle.report.specs.Calls.{permittedCondition, roomConditions}
+use Rattle.report.specs.Formed.{Formed}
+use Rattle.report.specs.declared.Verdict.{Verdict}
+use Rattle.expression_rows.specs.ExpressionRows.{TruthFilled, Prepared, ReachFilled}
+use Rattle.at_configuration.specs.AtConfiguration.{RelationReads}
+use Rattle.kept_lists.specs.Keeping.{relationLists, projectLists, ProjectReads}
+use Rattle.configuring.specs.Promises.{Rooms}
+
+-- 20 and 21 at c, with these tables lent for writing
+abbrev pub lateVerdict : Tables → ℕ → List ℕ → List ℕ → List ℕ → List ℕ → Verdict
+lateVerdict T c newEntries newRelations newComparisons newQueries =
+    firstOf (permittedCondition c T ++ roomConditions (length newEntries) (length newRelations) (length newComparisons) (length newQueries) T)
+
+-- tables 1 to 4
+pub record SourceReads (T : Tables) (entries relations comparisons queries : List ℕ) : Type 0 where
+  pub entriesAre : entries ≡ T .entries
+  pub relationsAre : relations ≡ T .relations
+  pub comparisonsAre : comparisons ≡ T .comparisons
+  pub queriesAre : queries ≡ T .queries
+
+-- besides, the permitted configurations, of at most 10 features
+pub record LateReads (T : Tables) (permits entries relations comparisons queries : List ℕ) : Type 0 where
+  pub few : T .features ≤ 10
+  pub permitting : permits ≡ rowOf 16 (permitted T)
+  pub source : SourceReads T entries relations comparisons queries
+
+-- tables 1 to 4, the expression rows and the reach rows of tables that have passed the form checks
+pub record ConfigureReads (T : Tables) (model : ℕ) (expressionRows reach entries relations comparisons queries : List ℕ) : Type 0 where
+  pub formed : Formed T
+  pub number : model ≡ T .model
+  pub filled : TruthFilled T expressionRows
+  pub reaching : ReachFilled T reach
+  pub source : SourceReads T entries relations comparisons queries
+
+pub record ConfigureReadable (model : ℕ) (expressionRows reach entries relations comparisons queries : List ℕ) : Type 0 where
+  pub tables : Tables
+  pub reads : ConfigureReads tables model expressionRows reach entries relations comparisons queries
+
+-- what table 1 is written from: its parts, tables 2 and 4
+pub record EntriesReads (T : Tables) (expressionRows reach relationEntries projectEntries relations queries : List ℕ) (c : ℕ) : Type 0 where
+  pub lists : RelationReads T expressionRows relationEntries relations c
+  pub projects : ProjectReads T expressionRows reach projectEntries queries c
+
+pub record EntriesWritable (expressionRows reach relationEntries projectEntries relations queries : List ℕ) (c : ℕ) (out : List ℕ) : Type 0 where
+  pub tables : Tables
+  pub reads : EntriesReads tables expressionRows reach relationEntries projectEntries relations queries c
+  pub room : Room (relationLists tables c ++ projectLists tables c) out 0
+
+-- the prepared tables, a configuration of their features, and the reach rows
+pub record KeptReads (T : Tables) (expressionRows reach relationEntries projectEntries relations comparisons queries : List ℕ) (c : ℕ) : Type 0 where
+  pub prepared : Prepared T expressionRows relationEntries projectEntries relations comparisons queries
+  pub inside : c < configurations T
+  pub reaching : ReachFilled T reach
+
+pub record KeptWritable (expressionRows reach relationEntries projectEntries relations comparisons queries : List ℕ) (c : ℕ)
+    (newEntries newRelations newComparisons newQueries : List ℕ) : Type 0 where
+  pub tables : Tables
+  pub reads : KeptReads tables expressionRows reach relationEntries projectEntries relations comparisons queries c
+  pub rooms : Rooms tables newEntries newRelations newComparisons newQueries

@@ -1,0 +1,3 @@
+pub mod ExpressionRows
+pub mod TypingReads
+pub mod RowRules

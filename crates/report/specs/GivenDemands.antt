@@ -1,0 +1,57 @@
+-- "First fault first", and demand 3, of a call whatever it is given (specs/Calls).
+use Prim.Native.Nat.{ℕ}
+use mathlib.Core.Path.{_≡_}
+use mathlib.Core.Bool.{true, false}
+use mathlib.Core.Logic.{_↔_}
+use Rattle.report.specs.Tables.{Tables, kindOf}
+use Rattle.report.specs.Expressions.{permitted}
+use Rattle.report.specs.ColumnRows.{columnRows, shown}
+use Rattle.report.specs.PlainAlgebra.{columns, passes}
+use Rattle.report.specs.ConfiguredReport.{configuredReport, configuredSchema}
+use Rattle.report.specs.Verdicts.{firstOf, Foremost, NoneHolds}
+use Rattle.report.specs.Checks.{isEarly, isTypingFault}
+use Rattle.report.specs.Formed.{Formed}
+use Rattle.report.specs.Calls.{Call, Given, conditionsTo, answerTo}
+use Rattle.report.specs.TypingFaults.{Broken, NamedBy}
+use Rattle.report.specs.WrittenTables.{WrittenTyped}
+use Rattle.report.specs.declared.Refusal.{Refusal}
+use Rattle.report.specs.declared.Verdict.{Verdict}
+
+-- ---- what theorems on a call ask of what it is given
+
+-- where none of the first conditions holds, the tables are formed
+abbrev pub Forms : Given → Type 0
+Forms G = firstOf (G .first) ≡ Verdict.Accepted → Formed (G .tables)
+
+-- the first conditions refuse by numbers of the checks before typing
+abbrev pub EarlyFirst : Given → Type 0
+EarlyFirst G = (r : Refusal) → firstOf (G .first) ≡ Verdict.Refused r → isEarly (r .number) ≡ true
+
+-- ---- what they say
+
+-- "first fault first", of any call
+pub record FirstFaultTo (G : Given) (call : Call) : Type 0 where
+  pub refuses : (r : Refusal) → (answerTo G call ≡ Verdict.Refused r) ↔ Foremost (conditionsTo G call) r
+  pub accepts : (answerTo G call ≡ Verdict.Accepted) ↔ NoneHolds (conditionsTo G call)
+
+-- the configured report passes the plain rules at every permitted configuration
+abbrev pub PassesThroughout : Tables → Type 0
+PassesThroughout T = (c : ℕ) → permitted T c ≡ true → passes (kindOf T) (configuredSchema T c) (configuredReport T c) ≡ true
+
+-- demand 3: what an answer v to a call that got as far as typing says of the tables T
+pub record Demanded (T : Tables) (v : Verdict) : Type 0 where
+  -- it refuses for a typing fault exactly when, at some permitted configuration, the configured report breaks a plain rule
+  pub broken : (isTypingFault v ≡ true) ↔ Broken T
+  -- it then names one, and the form, the configuration and the item are the lowest
+  pub named : isTypingFault v ≡ true → NamedBy T v
+  -- its last sentence
+  pub never : PassesThroughout T → isTypingFault v ≡ false
+  -- its first sentence: where it accepts, the report passes at every permitted configuration, with the columns shown there
+  pub passing : v ≡ Verdict.Accepted → PassesThroughout T
+  pub showing : v ≡ Verdict.Accepted → (c : ℕ) → permitted T c ≡ true
+      → columns (configuredSchema T c) (configuredReport T c) ≡ shown (columnRows T) c
+  -- and what configuring writes there
+  pub writing : v ≡ Verdict.Accepted → (c : ℕ) → permitted T c ≡ true → WrittenTyped T c
+
+abbrev pub DemandsTo : Given → Call → Type 0
+DemandsTo G call = Demanded (G .tables) (answerTo G call)

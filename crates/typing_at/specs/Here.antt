@@ -1,0 +1,97 @@
+-- What the private functions work out at one configuration c, and what each reads of tables T; `..Readable`: there are such tables.
+use Prim.Native.Nat.{ℕ, _/_, _%_, _^_, _≤_}
+use mathlib.Core.Path.{_≡_}
+use mathlib.Core.Bool.{cond, _&&_}
+use mathlib.Core.List.{List}
+use lib.Bits.{bitOr}
+use lib.Dec.{ltb, eqb}
+use lib.ListN.{length, getD}
+use Rattle.sets.specs.Bits.{bit}
+use Rattle.sets.specs.Lists.{table, NumbersAre}
+use Rattle.report.specs.Tables.{Tables, comparisonCount, queryCount, entriesOfProjects}
+use Rattle.report.specs.Typing.{names, clashes, setOf}
+use Rattle.report.specs.declared.Query.{Query}
+use Rattle.expression_rows.specs.ExpressionRows.{ReachFilled}
+use Rattle.expression_rows.specs.TypingReads.{TypingReadable}
+use Rattle.expression_rows.specs.declared.Scope.{Scope}
+use Rattle.at_configuration.specs.AtConfiguration.{AtReads, RelationReads}
+use Rattle.faults_at.specs.SetsAt.{FormFaultsReads}
+use Rattle.typing_at.specs.TypingAt.{HereReadable}
+
+-- ---- one form
+
+-- x is query form q; `namedSets`, `clashSets` and `formSets` have what its faults are worked out from
+pub record FormHereReads (T : Tables) (q : ℕ) (expressionRows entries relations reach : List ℕ) (c : ℕ) (namedSets clashSets formSets : List ℕ) (start : ℕ)
+    (x : Query) : Type 0 where
+  pub rule : FormFaultsReads T q expressionRows entries relations c namedSets formSets start x
+  pub clashed : NumbersAre (comparisonCount T) (clashes T c) clashSets
+  pub reaching : ReachFilled T reach
+
+pub record FormHereReadable (q : ℕ) (expressionRows entries relations reach : List ℕ) (c : ℕ) (namedSets clashSets formSets : List ℕ) (start : ℕ) (x : Query)
+    : Type 0 where
+  pub tables : Tables
+  pub reads : FormHereReads tables q expressionRows entries relations reach c namedSets clashSets formSets start x
+
+-- ---- all forms
+
+-- the tables, the reach rows, and the sets at c of the comparisons and of the query forms
+pub record FormsHereReads (T : Tables) (expressionRows entries relations queries reach : List ℕ) (c : ℕ) (namedSets clashSets formSets : List ℕ) : Type 0 where
+  pub reads : AtReads T expressionRows c
+  pub entriesAre : entries ≡ entriesOfProjects T
+  pub relationsAre : relations ≡ T .relations
+  pub queriesAre : queries ≡ T .queries
+  pub reaching : ReachFilled T reach
+  pub compared : NumbersAre (comparisonCount T) (names T c) namedSets
+  pub clashed : NumbersAre (comparisonCount T) (clashes T c) clashSets
+  pub formed : NumbersAre (queryCount T) (setOf T c) formSets
+
+pub record FormsHereReadable (expressionRows entries relations queries reach : List ℕ) (c : ℕ) (namedSets clashSets formSets : List ℕ) : Type 0 where
+  pub tables : Tables
+  pub reads : FormsHereReads tables expressionRows entries relations queries reach c namedSets clashSets formSets
+
+-- ---- one configuration
+
+-- what the sets of the query forms are worked out from
+pub record FormSetsReads (T : Tables) (c : ℕ) (expressionRows relationEntries projectEntries relations queries : List ℕ) : Type 0 where
+  pub related : RelationReads T expressionRows relationEntries relations c
+  pub entriesAre : projectEntries ≡ entriesOfProjects T
+  pub queriesAre : queries ≡ T .queries
+
+pub record FormSetsReadable (c : ℕ) (expressionRows relationEntries projectEntries relations queries lent : List ℕ) : Type 0 where
+  pub tables : Tables
+  pub reads : FormSetsReads tables c expressionRows relationEntries projectEntries relations queries
+  pub room : queryCount tables ≤ length lent
+
+-- a word for each comparison, twice, and each query form
+pub record SetsLent (T : Tables) (namedSets clashSets formSets : List ℕ) : Type 0 where
+  pub comparisons : comparisonCount T ≤ length namedSets
+  pub clashes : comparisonCount T ≤ length clashSets
+  pub forms : queryCount T ≤ length formSets
+
+pub record HereFillable (c : ℕ)
+    (expressionRows relationEntries projectEntries relations comparisons queries kinds reach namedSets clashSets formSets : List ℕ) : Type 0 where
+  pub readable : HereReadable c expressionRows relationEntries projectEntries relations comparisons queries kinds reach
+  pub lent : SetsLent (readable .tables) namedSets clashSets formSets
+
+-- ---- each configuration
+
+-- the tables, and words for the sets at one configuration
+pub record EachFillable (scope : Scope)
+    (expressionRows relationEntries projectEntries relations comparisons queries kinds reach columns namedSets clashSets formSets : List ℕ) : Type 0 where
+  pub readable : TypingReadable scope expressionRows relationEntries projectEntries relations comparisons queries kinds reach columns
+  pub lent : SetsLent (readable .tables) namedSets clashSets formSets
+
+-- the tables have at most so many comparisons and query forms
+pub record SizeReadable (most : ℕ) (scope : Scope)
+    (expressionRows relationEntries projectEntries relations comparisons queries kinds reach columns : List ℕ) : Type 0 where
+  pub readable : TypingReadable scope expressionRows relationEntries projectEntries relations comparisons queries kinds reach columns
+  pub comparisonsFew : length comparisons / 5 ≤ most
+  pub formsFew : length queries / 4 ≤ most
+
+-- ---- column rows
+
+-- the words of column rows, where those of the attributes below `items` that the set has show c besides
+abbrev pub shownWith : ℕ → ℕ → ℕ → List ℕ → List ℕ
+shownWith items c s words =
+    table (length words)
+    (λ i. cond (ltb (i / 16) items && (eqb (i % 16) (c / 64) && bit s (i / 16))) (bitOr (getD words i 0) (2 ^ (c % 64))) (getD words i 0))
