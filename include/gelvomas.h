@@ -3,12 +3,19 @@
    staticlib gelvomas` writes (x86-64 Linux).
 
    gelvomas_check, gelvomas_configure, gelvomas_find and gelvomas_page are proved:
-   they read and write only what is said here, allocate nothing, keep nothing, end
-   on any input, and may be called from several threads at once. gelvomas_configure
-   takes at most 450 KiB of stack and the others at most 400 KiB, which is measured
-   and not proved. gelvomas_check_tables, gelvomas_configure_tables,
+   they read and write only what is said here, allocate nothing, keep nothing, and
+   end on any input. gelvomas_check_tables, gelvomas_configure_tables,
    gelvomas_find_tables and gelvomas_page_tables, at the end, call them with the
-   tables in a struct; they are short, and not proved. */
+   tables in a struct; they are short, and not proved.
+
+   They may be called from several threads at once, as long as no thread writes to
+   what a call of another is given or lent. This is argued and not proved: they keep
+   nothing between calls (docs/ASSUMPTIONS.md).
+
+   gelvomas_configure takes at most 450 KiB of stack and the others at most 400 KiB,
+   which is measured and not proved. A thread that calls them needs as much. Where
+   threads have less by default (128 KiB with musl), give it more, as by
+   pthread_attr_setstacksize. */
 
 #ifndef GELVOMAS_H
 #define GELVOMAS_H
@@ -52,7 +59,7 @@ extern "C" {
 #define GELVOMAS_MAX_PAGE 74752
 
 /* The set of attribute a alone, a below 64. Sets are joined by |. */
-#define GELVOMAS_ATTRIBUTE(a) ((uint64_t)1 << (a))
+#define GELVOMAS_ATTRIBUTE(a) (UINT64_C(1) << (a))
 
 /* Kinds of expressions. */
 enum gelvomas_expression {

@@ -10,7 +10,7 @@ use Rattle.sets.specs.Lists.{concat}
 use Rattle.sets.specs.Bits.{bit}
 use Rattle.sets.specs.Rows.{rowOf, rowJoin, rowIntersect, within, RowsAre}
 use Rattle.sets.proofs.BitLaws.{bit-none, bit-and, bit-or}
-use Rattle.sets.proofs.RowLaws.{rowOf-same, rowOf-row, join-within, intersect-within, minus-within, rows-are}
+use Rattle.sets.proofs.RowLaws.{rowOf-same, rowOf-row, none-within, join-within, intersect-within, minus-within, rows-are}
 use Rattle.report.specs.Tables.{Tables, kindOf, relationCount, comparisonCount, queryCount}
 use Rattle.report.specs.Typing.{present, relationSet, gathered, setOf}
 use Rattle.report.specs.Configuring.{written}
@@ -25,9 +25,6 @@ module _ (n : ℕ) where
   -- tests that agree have one row
   pub row-same : (p q : ℕ → Bool) → ((c : ℕ) → p c ≡ q c) → rowOf 16 (within n p) ≡ rowOf 16 (within n q)
   row-same p q e = rowOf-same 16 (within n p) (within n q) (λ c h. ap (λ (t : Bool). ltb c (2 ^ n) && t) (e c))
-
-  pub none-within : rowOf 16 (λ c. false) ≡ rowOf 16 (within n (λ c. false))
-  none-within = rowOf-same 16 (λ c. false) (within n (λ c. false)) (λ c h. sym (and-false (ltb c (2 ^ n))))
 
   -- a choice: the row of the side that the test takes
   pub choice-within : (h p q : ℕ → Bool)
@@ -79,7 +76,7 @@ module _ (T : Tables) (a : ℕ) where
 
   -- of the empty set, of a union, of an intersection
   pub has-none : rowOf 16 (λ c. false) ≡ hasRow T a (λ c. 0)
-  has-none = none-within (T .features) ∙ row-same (T .features) (λ c. false) (λ c. bit 0 a) (λ c. sym (bit-none a))
+  has-none = none-within 16 (T .features) ∙ row-same (T .features) (λ c. false) (λ c. bit 0 a) (λ c. sym (bit-none a))
 
   module _ (f g : ℕ → ℕ) where
     pub has-or : rowJoin 16 (hasRow T a f) (hasRow T a g) ≡ hasRow T a (λ c. bitOr (f c) (g c))

@@ -8,7 +8,7 @@ use lib.Bits.{bitOr}
 use lib.ListN.{length}
 use Rattle.sets.specs.Lists.{concat}
 use Rattle.sets.specs.Rows.{rowOf, rowJoin, withRow, within, RowsAre}
-use Rattle.sets.proofs.RowLaws.{join-within}
+use Rattle.sets.proofs.RowLaws.{join-within, none-within}
 use Rattle.report.specs.Tables.{Tables, comparison, comparisonCount, expressionCount, kindIn, kindOf}
 use Rattle.report.specs.Typing.{at, gatheredOf, gathered}
 use Rattle.report.specs.Operands.{comparisonOperands}
@@ -21,10 +21,10 @@ use Rattle.report.proofs.StepLaws.{gathered-in}
 use Rattle.comparisons.specs.Gathering.{ownOf, shows}
 use Rattle.comparisons.specs.declared.Gathered.{Gathered}
 use Rattle.comparisons.proofs.OwnLaws.{shows-or}
+use Rattle.expression_rows.proofs.RowsFilling.{RowsFilling, filling-more, filling-all}
 use Rattle.attribute_rows.specs.AttributeRows.{gatheredRow, GatheredReads, GatheredReadable}
 use Rattle.attribute_rows.specs.RowRules.{gatheredStep, OperandsLower, GatheredRead}
-use Rattle.attribute_rows.proofs.AttributeLaws.{row-same, none-within, taken-within, choice-of, gathered-wide}
-use Rattle.attribute_rows.proofs.FillLaws.{RowsFilling, filling-more, filling-all}
+use Rattle.attribute_rows.proofs.AttributeLaws.{row-same, taken-within, choice-of, gathered-wide}
 
 -- the operands of a comparison that fits as form f
 operands-lower : (m n f : ℕ) (x : Comparison) → ComparisonLower m n f x → OperandsLower n f (comparisonOperands x)
@@ -46,7 +46,7 @@ operands-at {T} F f h = operands-lower (T .attributes) (expressionCount T) f (co
 all-or-none : (n : ℕ) {full : List ℕ} → full ≡ rowOf 16 (within n (λ c. true)) → (t : Bool)
     → cond t full (rowOf 16 (λ c. false)) ≡ rowOf 16 (within n (λ c. t))
 all-or-none n whole true = whole
-all-or-none n whole false = none-within n
+all-or-none n whole false = none-within 16 n
 
 module _ {T : Tables} {expressionRows comparisons kinds full : List ℕ} (R : GatheredReads T expressionRows comparisons kinds full)
     (what : Gathered) (a : ℕ)
@@ -70,17 +70,16 @@ module _ {T : Tables} {expressionRows comparisons kinds full : List ℕ} (R : Ga
       choice-of (R .filled .each e (l .0)) (B .each b (l .1)) (B .each d (l .2))
       ∙ taken-within (T .features) (λ c. at T c e) (λ c k. shows what a (gatheredAt c k)) b d
 
-  gathered-is : f < length comparisons / 5 → {x : Comparison} {own : Bool} {to : Operands} {row : List ℕ} → x ≡ comparison comparisons f
-      → own ≡ shows what a (ownOf (kindIn kinds) what x) → to ≡ comparisonOperands x → row ≡ gatheredStep expressionRows rows full own to
-      → row ≡ gatheredRow T what a f
-  gathered-is h e shown operands step =
+  gathered-is : f < length comparisons / 5 → {x : Comparison} {row : List ℕ} → x ≡ comparison comparisons f
+      → row ≡ gatheredStep expressionRows rows full (shows what a (ownOf (kindIn kinds) what x)) (comparisonOperands x) → row ≡ gatheredRow T what a f
+  gathered-is h e step =
       let F = R .formed in
       let k : f < comparisonCount T = rw (R .comparisonsAre) at h in
       let y = comparison (T .comparisons) f in
       let same = e ∙ ap (λ (t : List ℕ). comparison t f) (R .comparisonsAre) in
       step
-      ∙ ap₂ (gatheredStep expressionRows rows full)
-      (shown ∙ ap₂ (λ (l : List ℕ) (x : Comparison). shows what a (ownOf (kindIn l) what x)) (R .kindsAre) same) (operands ∙ ap comparisonOperands same)
+      ∙ ap₂ (λ (l : List ℕ) (z : Comparison). gatheredStep expressionRows rows full (shows what a (ownOf (kindIn l) what z)) (comparisonOperands z))
+      (R .kindsAre) same
       ∙ gathered-rule (ownOf (kindOf T) what y) (comparisonOperands y) (operands-at F f k)
       ∙ row-same (T .features) (λ c. shows what a (gatheredOf T c (gatheredAt c) (ownOf (kindOf T) what y) (comparisonOperands y)))
       (λ c. shows what a (gatheredAt c f)) (λ c. ap (shows what a) (sym (gathered-in F c f k (ownOf (kindOf T) what))))
@@ -103,13 +102,12 @@ module _ (what : Gathered) {expressionRows comparisons kinds full : List ℕ} {a
           below = let m = A .room in let s = S .size in omega arith;
         }
 
-    pub gathered-more : {own : Bool} {to : Operands} {row after : List ℕ} → own ≡ shows what a (ownOf (kindIn kinds) what x)
-        → to ≡ comparisonOperands x → row ≡ gatheredStep expressionRows rows full own to
+    pub gathered-more : {row after : List ℕ}
+        → row ≡ gatheredStep expressionRows rows full (shows what a (ownOf (kindIn kinds) what x)) (comparisonOperands x)
         → length after ≡ length rows → after ≡ withRow 16 rows f row
         → RowsFilling (λ T. GatheredReads T expressionRows comparisons kinds full) (λ T. gatheredRow T what) a (length comparisons / 5) lent after
         (f + 1)
-    gathered-more shown operands step =
-        filling-more (λ T. gathered-wide T what) S h (λ T R B. gathered-is R what a B h e shown operands step)
+    gathered-more step = filling-more (λ T. gathered-wide T what) S h (λ T R B. gathered-is R what a B h e step)
 
   pub gathered-all : length comparisons / 5 ≤ f → (T : Tables) → GatheredReads T expressionRows comparisons kinds full
       → rows ≡ written (concat (comparisonCount T) (gatheredRow T what a)) lent

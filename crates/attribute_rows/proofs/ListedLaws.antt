@@ -20,10 +20,10 @@ use Rattle.report.specs.Typing.{at, joinedSet, relationSet}
 use Rattle.report.specs.Configuring.{written}
 use Rattle.report.proofs.FormedFacts.{entry-expression, relation-expression}
 use Rattle.report.proofs.EntryParts.{relation-part, relation-in-part}
+use Rattle.expression_rows.proofs.RowsFilling.{RowsFilling, filling-none, filling-more, filling-all}
 use Rattle.attribute_rows.specs.AttributeRows.{hasRow, listRow, relationRow, ListRowReads, ListRowReadable, RelationRowReads, RelationRowReadable}
 use Rattle.attribute_rows.specs.RowRules.{entryRow, EntryRead, RelationAt, SomeRelation}
 use Rattle.attribute_rows.proofs.AttributeLaws.{row-same, relation-wide, has-none, has-where}
-use Rattle.attribute_rows.proofs.FillLaws.{RowsFilling, filling-none, filling-more, filling-all}
 
 -- ---- one entry: what the code found of it (E says which entry of which table)
 

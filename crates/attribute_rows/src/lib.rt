@@ -20,6 +20,7 @@ ghost use lib.ListN.{length};
 ghost use Rattle.sets.specs.Lists.{concat};
 ghost use Rattle.sets.specs.Rows.{rowOf, rowIn, rowJoin, rowIntersect, rowMinus};
 ghost use Rattle.report.specs.Tables.{Tables, kindIn, relationCount, comparisonCount};
+ghost use Rattle.report.specs.Operands.{comparisonOperands};
 ghost use Rattle.report.specs.Configuring.{written};
 ghost use Rattle.comparisons.specs.Gathering.{shows, ownOf};
 ghost use Rattle.attribute_rows.specs.AttributeRows.{listRow, relationRow, gatheredRow, ListRowReads, ListRowReadable};
@@ -107,10 +108,9 @@ fn chosen_row(e: usize, b: usize, d: usize, expression_rows: &[u64], rows: &[u64
     )
 }
 
-// The row of comparison x, which has these operands, from `rows`, which has those of lower comparisons. Without operands it is `full`, which has all
-// configurations, or empty: what a comparison gives by itself it gives at all of them. What it gives by itself is looked at there alone.
+// The row of comparison x from `rows`, which has those of lower comparisons. Without operands it is `full`, which has all configurations, or empty: what
+// a comparison gives by itself it gives at all of them. What it gives by itself is looked at there alone.
 fn gathered_row(
-    to: Operands,
     x: Comparison,
     what: Gathered,
     a: usize,
@@ -119,12 +119,13 @@ fn gathered_row(
     kinds: &[u16],
     rows: &[u64],
 ) -> Row
-    requires { ⌜ GatheredRead (now «expression_rows») (now rows) to ⌝ }
+    requires { ⌜ GatheredRead (now «expression_rows») (now rows) (comparisonOperands x) ⌝ }
     ensures { λ r.
         ⌜ r .words
         ≡ gatheredStep (now («expression_rows» .entry)) (now (rows .entry)) (full .words) (shows what a (ownOf (kindIn (now (kinds .entry))) what x))
-        to ⌝ }
+        (comparisonOperands x) ⌝ }
 {
+    let to = comparison_operands(x);
     match to {
         Operands::Nothing => row_if(own_shows(what, x, a, kinds), full),
         Operands::One(b) => Row::load(rows, b),
@@ -152,8 +153,7 @@ pub fn fill_gathered_rows(
     let mut f = 0;
     while f < count {
         let x = decode_comparison(comparisons, f);
-        let to = comparison_operands(x);
-        let r = gathered_row(to, x, what, a, full, expression_rows, kinds, &*rows);
+        let r = gathered_row(x, what, a, full, expression_rows, kinds, &*rows);
         r.store(&mut *rows, f);
         f += 1;
     }

@@ -3,6 +3,7 @@ use Prim.Native.Nat.{ℕ, _+_, _*_, _/_, _%_, _^_, _≤_, _<_}
 use mathlib.Core.Path.{_≡_, refl, sym, ap, ap₂, _∙_}
 use mathlib.Core.Bool.{Bool, true, false, not, _&&_}
 use mathlib.Core.List.{List, [], _∷_, _++_}
+use mathlib.Core.Logic.{_↔_}
 use native.Mathlib.Nat.{div-add-mod'}
 use native.Mathlib.Decide.{decLt}
 use native.Mathlib.Omega.{arith}
@@ -164,9 +165,13 @@ module _ {v : Verdict} {U : Tables} {newEntries newRelations newComparisons newQ
       go Verdict.Accepted = refl
       go (Verdict.Refused r) = refl
 
-  -- and has the refusal that the verdict has
-  pub configured-refused : {x : Refusal} → v ≡ Verdict.Refused x → r ≡ Configured.Refused x
-  configured-refused e = L .answers ∙ ap (λ (v : Verdict). configuredAnswer v U) e
+  -- and a refusal exactly where the verdict is that
+  pub configured-refused : (x : Refusal) → (r ≡ Configured.Refused x) ↔ (v ≡ Verdict.Refused x)
+  configured-refused x = (λ e. go v (sym (L .answers) ∙ e), λ e. L .answers ∙ ap (λ (v : Verdict). configuredAnswer v U) e)
+    where
+      go : (v : Verdict) → configuredAnswer v U ≡ Configured.Refused x → v ≡ Verdict.Refused x
+      go Verdict.Accepted e = absurd (let z : _≡_ {A = ℕ} 0 1 = cc in omega arith)
+      go (Verdict.Refused y) e = cc
 
 -- as many words as so many forms have are the table that was written
 read : {new after : List ℕ} (lent : List ℕ) (count width : ℕ) → after ≡ written new lent → count ≡ length new / width → length new % width ≡ 0

@@ -12,17 +12,20 @@ use Rattle.report.specs.Tables.{Tables, query, relationLength, relationStart, p
 use Rattle.report.specs.Expressions.{permitted, tablesOf}
 use Rattle.report.specs.ColumnRows.{columnRows}
 use Rattle.report.specs.ConfiguredReport.{plainQueryAt, keptAttributes}
-use Rattle.report.specs.Verdicts.{refusal, after}
-use Rattle.report.specs.FormChecks.{listFits}
-use Rattle.report.specs.Calls.{Call, answer, configuring}
+use Rattle.report.specs.Verdicts.{refusal, after, Foremost}
+use Rattle.report.specs.FormChecks.{listFits, comparisonOk}
+use Rattle.report.specs.Calls.{Call, whole, conditions, answer, Sound, GetsAsFarAsTyping, checking, configuring}
 use Rattle.report.specs.Repeats.{relationRepeats, projectRepeats, NoRepeats, answerBefore, configuredBefore}
-use Rattle.report.specs.Kinds.{Differing, KindFault, AllKinds0, answerBeforeKinds}
-use Rattle.report.specs.Examples.{h1, rampTwice, quay, arrivals, kinds012, arrivalByCount, lacking}
+use Rattle.report.specs.Kinds.{IsKind2, Differing, KindFault, AllKinds0, answerBeforeKinds}
+use Rattle.report.specs.Examples.{h1, rampTwice, quay, arrivals, kinds012, arrivalByCount, arrivalBy, lacking}
 use Rattle.report.specs.declared.Verdict.{Verdict}
 use Rattle.report.proofs.ExamplesHold.{computed}
 use Rattle.report.proofs.Guards.{h1-accepted}
+use Rattle.report.proofs.CallLaws.{gets-given}
+use Rattle.report.proofs.Refusing.{configure-gets, configuring-own}
 use Rattle.report.proofs.KindLaws.{kinds-0-before}
-use Rattle.report.proofs.KindCalls.{accepted-one-kind}
+use Rattle.report.proofs.KindMembers.{seven-asks}
+use Rattle.report.proofs.KindCalls.{accepted-one-kind, exactly-25}
 use Rattle.checking.specs.Promises.{Checks}
 use Rattle.configuring.specs.declared.Configured.{Configured}
 use Rattle.configuring.specs.Promises.{Rooms, Leaves, Configures}
@@ -34,7 +37,7 @@ use Rattle.demands.specs.FoundWritten.{FoundWritten}
 use Rattle.demands.specs.FoundConfiguration.{columnsAt, HoldsAll, LowestWith, NoneWith}
 use Rattle.demands.specs.PageLines.{lineOf, lineAt, LineShows}
 use Rattle.demands.specs.ExactlyOne.{IsKind6, OneOn}
-use Rattle.demands.proofs.Demands.{found-written}
+use Rattle.demands.proofs.Demands.{configure-foremost, found-written}
 use Rattle.demands.proofs.Finding.{find-found, find-none}
 use Rattle.demands.proofs.Joined.{configure-once, configure-before}
 use Rattle.demands.proofs.WallPage.{page-shows}
@@ -61,6 +64,10 @@ h4-configures = record { answers = refl; entries = refl; relations = refl; compa
 pub past-refused : Configures (h1 2) 65536 lent1 lent2 [] lent4 (Configured.Refused (refusal 20 0 0 65536)) lent1 lent2 [] lent4
 unfolding computed
 past-refused = record { answers = refl; entries = refl; relations = refl; comparisons = refl; queries = refl }
+
+-- so no condition before that holds
+pub past-foremost : Foremost (conditions (h1 2) (configuring 65536 12 2 0 8)) (refusal 20 0 0 65536)
+past-foremost = configure-foremost (h1 2) 65536 lent1 lent2 [] lent4 _ lent1 lent2 [] lent4 past-refused (refusal 20 0 0 65536) .0 refl
 
 -- 21: a table with room for what is written, and shorter than its source
 pub short-refused : Configures (h1 2) 0 (replicate 9 9) lent2 [] lent4 (Configured.Refused (refusal 21 1 0 0)) (replicate 9 9) lent2 [] lent4
@@ -206,8 +213,26 @@ pub arrival-refused : Checks compared (replicate 1024 9) (Verdict.Refused (refus
 unfolding computed
 arrival-refused = (refl, refl)
 
+arrival-gets : GetsAsFarAsTyping compared (checking 1024)
+unfolding computed
+arrival-gets = refl
+
 pub arrival-fault : KindFault compared (refusal 25 1 0 0)
 arrival-fault = check-25 compared (replicate 1024 9) (replicate 1024 9) (refusal 25 1 0 0) arrival-refused refl
+
+-- so `configure` refuses it by the same, whatever it is given
+pub arrival-configure : (c r1 r2 r3 r4 : ℕ) → answer compared (configuring c r1 r2 r3 r4) ≡ Verdict.Refused (refusal 25 1 0 0)
+arrival-configure c r1 r2 r3 r4 = exactly-25 compared (configuring-own c r1 r2 r3 r4) (configure-gets compared sound c r1 r2 r3 r4) 1 0 0 .1 arrival-fault
+  where
+    sound : Sound compared
+    sound = gets-given (whole compared) (checking 1024) arrival-gets
+
+-- an arrival compared with 830, and 3 for the constant's kind: 7 finds nothing in the form
+constant-words : IsKind2 (arrivals (arrivalBy 3) 0 kinds012) 0 0 0 830 3
+constant-words = record { kind = refl; operatorIs = refl; attributeIs = refl; constantIs = refl; wordCIs = refl }
+
+pub constant-seven : comparisonOk (arrivals (arrivalBy 3) 0 kinds012) 0 ≡ true
+constant-seven = seven-asks constant-words .1 (lit≤ tt, lit≤ tt)
 
 -- of the same with one kind for both it is accepted, and so no sides differ
 pub counts-agree : Checks (arrivals arrivalByCount 0 (1 ∷ 1 ∷ 2 ∷ [])) (replicate 1024 9) Verdict.Accepted (columnRows (arrivals arrivalByCount 0 (1 ∷ 1 ∷ 2 ∷ [])))

@@ -24,8 +24,9 @@ use Rattle.configuring.specs.declared.Configured.{Configured}
 use Rattle.configuring.specs.Promises.{configuredAnswer, tableAfter, Configures}
 use Rattle.finding.specs.declared.FindAnswer.{FindAnswer}
 use Rattle.finding.specs.Finding.{finding, lowestWanted, foundAnswer, Finds}
+use Rattle.printing.specs.Page.{page}
 use Rattle.wall_page.specs.declared.PageAnswer.{PageAnswer}
-use Rattle.wall_page.specs.Page.{page, lineCount, writingPage, pageAnswer, PageWritten}
+use Rattle.wall_page.specs.Page.{lineCount, writingPage, pageAnswer, PageWritten}
 
 -- ---- "Both sides must have one kind at every configuration that reaches them"
 

@@ -1,9 +1,9 @@
--- Demands 2 and 3, of the calls `check` and `configure`: each theorem takes what their promises say (`Checks` in checking/specs/Promises, `Configures`
--- in configuring/specs/Promises), for every set of tables T. The demands' terms are defined in the crate report: `Rules` and `ruledRows` (the typing
--- rules) in specs/Rules, `permitted` in specs/Expressions, `passes` and `columns` (the plain rules) in specs/PlainAlgebra, `configuredReport` and
--- `configuredSchema` in specs/ConfiguredReport, `configured` (the tables written) in specs/Configuring, `shown` in specs/ColumnRows, `Sound` and
--- `GetsAsFarAsTyping` in specs/Calls, `isTypingFault` in specs/Checks, `Broken` and `Named` in specs/TypingFaults, `WrittenAccepted` in
--- specs/WrittenTables.
+-- Demands 1 to 3, of the calls `check` and `configure`: each theorem takes what their promises say (`Checks` in checking/specs/Promises, `Configures`
+-- in configuring/specs/Promises), for every set of tables T. The demands' terms are defined in the crate report: `conditions`, `Sound` and
+-- `GetsAsFarAsTyping` in specs/Calls, `Foremost` in specs/Verdicts, `Rules` and `ruledRows` (the typing rules) in specs/Rules, `permitted` in
+-- specs/Expressions, `passes` and `columns` (the plain rules) in specs/PlainAlgebra, `configuredReport` and `configuredSchema` in
+-- specs/ConfiguredReport, `configured` (the tables written) in specs/Configuring, `shown` in specs/ColumnRows, `isTypingFault` in specs/Checks, `Broken`
+-- and `Named` in specs/TypingFaults, `RulesThroughout` and `PassesThroughout` in specs/GivenDemands, `WrittenAccepted` in specs/WrittenTables.
 use Prim.Native.Nat.{ℕ}
 use mathlib.Core.Path.{_≡_, refl, sym, ap, _∙_}
 use mathlib.Core.Bool.{Bool, true, false, not}
@@ -17,26 +17,54 @@ use Rattle.report.specs.Expressions.{permitted}
 use Rattle.report.specs.Typing.{setOf}
 use Rattle.report.specs.ColumnRows.{columnRows, shown}
 use Rattle.report.specs.Rules.{Rules, ruledRows}
-use Rattle.report.specs.Configuring.{configured}
+use Rattle.report.specs.Configuring.{configured, written}
 use Rattle.report.specs.PlainAlgebra.{columns, passes}
 use Rattle.report.specs.ConfiguredReport.{configuredReport, configuredSchema}
-use Rattle.report.specs.Verdicts.{refusal, refuseIf, after, firstOf}
-use Rattle.report.specs.Checks.{isTypingFault}
-use Rattle.report.specs.Calls.{Call, answer, Sound, GetsAsFarAsTyping, OwnNumbers, checking, roomConditions, configuring}
+use Rattle.report.specs.Verdicts.{refusal, refuseIf, after, firstOf, Foremost}
+use Rattle.report.specs.Checks.{typingCheck, isTypingFault}
+use Rattle.report.specs.Calls.{Call, conditions, answer, Sound, GetsAsFarAsTyping, OwnNumbers, checking, roomConditions, configuring}
 use Rattle.report.specs.TypingFaults.{Broken, Named}
 use Rattle.report.specs.WrittenTables.{WrittenAccepted}
+use Rattle.report.specs.GivenDemands.{RulesThroughout, PassesThroughout}
+use Rattle.report.specs.declared.Refusal.{Refusal}
 use Rattle.report.specs.declared.Verdict.{Verdict}
 use Rattle.report.proofs.VerdictLaws.{both-accepted, if-accepted}
 use Rattle.report.proofs.FirstFault.{first-own}
-use Rattle.report.proofs.Formed.{formed}
-use Rattle.report.proofs.RulesLaws.{accepted-sets, accepted-rules, accepted-rows}
+use Rattle.report.proofs.CallLaws.{refused-foremost, sound-formed}
+use Rattle.report.proofs.TypingLaws.{typing-passes}
+use Rattle.report.proofs.RulesLaws.{rules-plain, rules-throughout, accepted-sets, accepted-rules, accepted-rows}
 use Rattle.report.proofs.WrittenAccepted.{called-sound, called-typed, called-own, checked-passes, checked-columns, accepted-written, configure-accepted}
 use Rattle.report.proofs.Refusing.{check-gets, configure-gets, check-typing, checking-own, configuring-own, refused-broken, refused-named, never-refused}
 use Rattle.checking.specs.Promises.{Checks}
 use Rattle.configuring.specs.declared.Configured.{Configured}
-use Rattle.configuring.specs.Promises.{configuredAnswer, Rooms, Leaves, Configures, isConfiguredFault}
+use Rattle.configuring.specs.Promises.{configuredAnswer, tableAfter, Rooms, Leaves, Configures, isConfiguredFault}
 use Rattle.configuring.proofs.ConfigureLaws.{room-accepted, read-back, configured-fault, configured-refused}
 use Rattle.demands.specs.FoundWritten.{FoundWritten}
+
+-- ---- demand 1: "what it cannot accept it refuses by the number, place, item and configuration in document 01, first fault first; a refused call changes
+-- no lent word"
+
+-- of any call: its answer r is `refused x` where it is refused by x
+module _ (T : Tables) (call : Call) {A : Type 0} (refused : Refusal → A) {r : A}
+    (says : (x : Refusal) → (r ≡ refused x) ↔ (answer T call ≡ Verdict.Refused x)) where
+  -- it is refused exactly by the first of its conditions that hold
+  pub call-foremost : (x : Refusal) → (r ≡ refused x) ↔ Foremost (conditions T call) x
+  call-foremost x = let f = refused-foremost T call x in (λ e. f .0 (says x .0 e), λ h. says x .1 (f .1 h))
+
+  -- and then what was lent to it is as it was
+  pub call-unchanged : {B : Type 0} (new : B) {lent left : B} → left ≡ after (answer T call) new lent → (x : Refusal) → r ≡ refused x → left ≡ lent
+  call-unchanged new {lent} stored x e = stored ∙ ap (λ (v : Verdict). after v new lent) (says x .0 e)
+
+-- checking
+module _ (T : Tables) (rows rows′ : List ℕ) (r : Verdict) (checks : Checks T rows r rows′) where
+  says : (x : Refusal) → (r ≡ Verdict.Refused x) ↔ (answer T (checking (length rows)) ≡ Verdict.Refused x)
+  says x = (λ e. sym (checks .0) ∙ e, λ e. checks .0 ∙ e)
+
+  pub check-foremost : (x : Refusal) → (r ≡ Verdict.Refused x) ↔ Foremost (conditions T (checking (length rows))) x
+  check-foremost = call-foremost T (checking (length rows)) Verdict.Refused says
+
+  pub check-unchanged : (x : Refusal) → r ≡ Verdict.Refused x → rows′ ≡ rows
+  check-unchanged = call-unchanged T (checking (length rows)) Verdict.Refused says (columnRows T) (checks .1)
 
 -- a check that accepts leaves the column rows
 pub left-rows : (T : Tables) (rows rows′ : List ℕ) → Checks T rows Verdict.Accepted rows′ → rows′ ≡ columnRows T
@@ -50,7 +78,7 @@ module _ (T : Tables) (sound : Sound T) (rows rows′ : List ℕ) (r : Verdict) 
   answers = checks .0 ∙ ap (λ (n : ℕ). answer T (checking n)) full
 
   -- the rules accept where at each permitted configuration some sets keep them
-  pub check-accepts : (r ≡ Verdict.Accepted) ↔ ((c : ℕ) → permitted T c ≡ true → (S : ℕ → ℕ) × Rules T c S)
+  pub check-accepts : (r ≡ Verdict.Accepted) ↔ RulesThroughout T
   check-accepts = let a = accepted-rules T sound in (λ e. a .0 (sym answers ∙ e), λ f. answers ∙ a .1 f)
 
   -- the rows of any such sets are those written
@@ -62,6 +90,23 @@ module _ (T : Tables) (sound : Sound T) (rows rows′ : List ℕ) (r : Verdict) 
   -- and where it accepts there are such sets, one for each form that is reached (RulesLaws: `rules-one`)
   pub check-ruled : r ≡ Verdict.Accepted → (S : ℕ → ℕ → ℕ) × ((c : ℕ) → permitted T c ≡ true → Rules T c (S c)) × (rows′ ≡ ruledRows T S)
   check-ruled e = let keep = accepted-sets T sound (sym answers ∙ e) in (setOf T, keep, check-writes (setOf T) keep)
+
+-- ---- docs/FORMAT.md, "Typing rules and plain rules agree", for all tables sound in form and schema
+
+module _ (T : Tables) (sound : Sound T) where
+  -- "The report passes the typing rules exactly when, at every permitted configuration, the configured report passes the plain rules under the
+  -- configured schema."
+  pub report-agrees : RulesThroughout T ↔ PassesThroughout T
+  report-agrees = rules-throughout (sound-formed T sound)
+
+  -- so it is at each of these configurations by itself
+  pub rules-agree : (c : ℕ) → permitted T c ≡ true
+      → ((S : ℕ → ℕ) × Rules T c S) ↔ (passes (kindOf T) (configuredSchema T c) (configuredReport T c) ≡ true)
+  rules-agree = rules-plain (sound-formed T sound)
+
+  -- and of the checks of typing, 15 to 19 and 25
+  pub typing-agrees : (typingCheck T ≡ Verdict.Accepted) ↔ PassesThroughout T
+  typing-agrees = typing-passes (sound-formed T sound)
 
 -- ---- "Found afterwards, whichever configuration that the feature model permits was chosen: the configured report passes the plain rules under the
 -- configured schema, and its columns are exactly those the rows show at that configuration. Done before: a schema and report, whatever they are,
@@ -75,12 +120,30 @@ found-afterwards T rows rows′ k c chosen =
       checked-columns T (length rows) accepted c chosen ∙ ap (λ (l : List ℕ). shown l c) (sym (left-rows T rows rows′ k)),
     )
 
--- ---- The same found in the tables that `configure` writes at that configuration
+-- ---- configuring: demand 1, and the same found in the tables that it writes at that configuration
 
 module _ (T : Tables) (c : ℕ) (newEntries newRelations newComparisons newQueries : List ℕ) (r : Configured)
     (newEntries′ newRelations′ newComparisons′ newQueries′ : List ℕ)
     (configures : Configures T c newEntries newRelations newComparisons newQueries r newEntries′ newRelations′ newComparisons′ newQueries′)
   where
+    abbrev writing : Call
+    writing = configuring c (length newEntries) (length newRelations) (length newComparisons) (length newQueries)
+
+    pub configure-foremost : (x : Refusal) → (r ≡ Configured.Refused x) ↔ Foremost (conditions T writing) x
+    configure-foremost = call-foremost T writing Configured.Refused (configured-refused configures)
+
+    pub configure-unchanged : (x : Refusal) → r ≡ Configured.Refused x
+        → (newEntries′ ≡ newEntries) × (newRelations′ ≡ newRelations) × (newComparisons′ ≡ newComparisons) × (newQueries′ ≡ newQueries)
+    configure-unchanged x e = (
+      same (configured T c .entries) (configures .entries),
+      same (configured T c .relations) (configures .relations),
+      same (configured T c .comparisons) (configures .comparisons),
+      same (configured T c .queries) (configures .queries),
+    )
+      where
+        same : (new : List ℕ) {lent left : List ℕ} → left ≡ tableAfter (answer T writing) new lent → left ≡ lent
+        same new {lent} stored = call-unchanged T writing Configured.Refused (configured-refused configures) (written new lent) stored x e
+
     -- after a check that accepted, with tables lent of any length that check 21 takes, and any words in them
     pub found-written : (rows rows′ : List ℕ) → Checks T rows Verdict.Accepted rows′ → permitted T c ≡ true
         → Rooms T newEntries newRelations newComparisons newQueries
@@ -113,9 +176,6 @@ module _ (T : Tables) (c : ℕ) (newEntries newRelations newComparisons newQueri
 
     -- From `configure` alone, where it answers that it has written
     module _ (a b d e : ℕ) (written : r ≡ Configured.Written a b d e) where
-      abbrev writing : Call
-      writing = configuring c (length newEntries) (length newRelations) (length newComparisons) (length newQueries)
-
       accepts : answer T writing ≡ Verdict.Accepted
       accepts = go (answer T writing) (sym written ∙ configures .answers)
         where
@@ -171,7 +231,7 @@ module _ (T : Tables) {call : Call} (own : OwnNumbers call) (gets : GetsAsFarAsT
   pub call-names : fault ≡ true → Named T call
   call-names e = refused-named T own gets (sym same ∙ e)
 
-  pub call-never : ((c : ℕ) → permitted T c ≡ true → passes (kindOf T) (configuredSchema T c) (configuredReport T c) ≡ true) → fault ≡ false
+  pub call-never : PassesThroughout T → fault ≡ false
   call-never h = same ∙ never-refused T own gets h
 
 module _ (T : Tables) (sound : Sound T) where
@@ -200,7 +260,7 @@ module _ (T : Tables) (sound : Sound T) where
     pub check-names : isTypingFault r ≡ true → (n : Named T call) × (r ≡ Verdict.Refused (n .refuses))
     check-names e = let n = call-names T (checking-own (length rows)) gets same e in (n, checks .0 ∙ n .answers)
 
-    pub check-never : ((c : ℕ) → permitted T c ≡ true → passes (kindOf T) (configuredSchema T c) (configuredReport T c) ≡ true) → isTypingFault r ≡ false
+    pub check-never : PassesThroughout T → isTypingFault r ≡ false
     check-never = call-never T (checking-own (length rows)) gets same
 
   -- configuring
@@ -221,8 +281,7 @@ module _ (T : Tables) (sound : Sound T) where
 
     pub configure-names : isConfiguredFault r ≡ true → (n : Named T called) × (r ≡ Configured.Refused (n .refuses))
     configure-names e =
-        let n = call-names T own reaches (configured-fault configures) e in (n, configured-refused configures (n .answers))
+        let n = call-names T own reaches (configured-fault configures) e in (n, configured-refused configures (n .refuses) .1 (n .answers))
 
-    pub configure-never : ((d : ℕ) → permitted T d ≡ true → passes (kindOf T) (configuredSchema T d) (configuredReport T d) ≡ true)
-        → isConfiguredFault r ≡ false
+    pub configure-never : PassesThroughout T → isConfiguredFault r ≡ false
     configure-never = call-never T own reaches (configured-fault configures)

@@ -21,11 +21,12 @@ use Rattle.report.specs.Verdicts.{refusal, refuseIf, _gives_, Foremost}
 use Rattle.report.specs.Checks.{isEarly, isTypingFault}
 use Rattle.report.specs.Calls.{whole, conditions, answer, Sound, GetsAsFarAsTyping, OwnNumbers}
 use Rattle.report.specs.TypingFaults.{Broken, Named}
+use Rattle.report.specs.GivenDemands.{PassesThroughout}
 use Rattle.report.specs.declared.Refusal.{Refusal}
 use Rattle.report.specs.declared.Verdict.{Verdict}
 use Rattle.report.proofs.VerdictLaws.{accepted-not-refused, then-next}
 use Rattle.report.proofs.FirstFault.{first-none, first-one}
-use Rattle.report.proofs.CallLaws.{given-answer, own-gets, refused-foremost}
+use Rattle.report.proofs.CallLaws.{given-answer, own-gets}
 use Rattle.report.proofs.RulesMembers.{subset-members}
 use Rattle.report.proofs.ReachLaws.{reached-report}
 use Rattle.report.proofs.RulesLaws.{rules-sets}
@@ -36,7 +37,7 @@ use Rattle.checking.specs.Promises.{Checks}
 use Rattle.finding.specs.declared.FindAnswer.{FindAnswer}
 use Rattle.finding.specs.Finding.{finding, hasWanted, lowestWanted, foundAnswer, Finds, isFindFault}
 use Rattle.demands.specs.FoundConfiguration.{columnsAt, HoldsAll, LowestWith, NoneWith}
-use Rattle.demands.proofs.Demands.{found-afterwards, call-refuses, call-names, call-never}
+use Rattle.demands.proofs.Demands.{call-foremost, found-afterwards, call-refuses, call-names, call-never}
 
 -- ---- the search, in sets that are the report's at each permitted configuration
 
@@ -107,12 +108,11 @@ module _ (T : Tables) (wanted : ℕ) (r : FindAnswer) (finds : Finds T wanted r)
 
   -- ---- demand 1: it is refused exactly by the first of its conditions that hold
 
+  says : (x : Refusal) → (r ≡ FindAnswer.Refused x) ↔ (verdict ≡ Verdict.Refused x)
+  says x = (λ e. refused-part verdict (lowestWanted T wanted) (sym e ∙ finds), λ e. told-by e)
+
   pub find-foremost : (x : Refusal) → (r ≡ FindAnswer.Refused x) ↔ Foremost (conditions T (finding wanted)) x
-  find-foremost x =
-      let f = refused-foremost T (finding wanted) x in (
-        λ e. f .0 (refused-part verdict (lowestWanted T wanted) (sym e ∙ finds)),
-        λ h. told-by (f .1 h),
-      )
+  find-foremost = call-foremost T (finding wanted) FindAnswer.Refused says
 
   -- ---- "return the lowest permitted configuration whose set holds them all, or none when no permitted configuration has them"
 
@@ -186,7 +186,7 @@ module _ (T : Tables) (wanted : ℕ) (r : FindAnswer) (finds : Finds T wanted r)
         → (r ≡ FindAnswer.Refused x) ↔ ((x ≡ refusal 22 0 0 0) × ((a : ℕ) × (T .attributes ≤ a) × (bit wanted a ≡ true)))
     find-refused narrow x =
         let h = from-member 64 wanted (T .attributes) narrow in (
-          λ e. go (h .0) (hasFrom wanted (T .attributes)) refl (sym find-late ∙ refused-part verdict (lowestWanted T wanted) (sym e ∙ finds)),
+          λ e. go (h .0) (hasFrom wanted (T .attributes)) refl (sym find-late ∙ says x .0 e),
           λ q. told-by (find-late ∙ ap₂ refuseIf (h .1 (q .1)) (sym (q .0))),
         )
       where
@@ -227,5 +227,5 @@ module _ (T : Tables) (sound : Sound T) (wanted : ℕ) where
         let n = call-names T (finding-own wanted) which-find find-fault e in
         (n, told-by T wanted r finds (n .answers))
 
-    pub find-never : ((c : ℕ) → permitted T c ≡ true → passes (kindOf T) (configuredSchema T c) (configuredReport T c) ≡ true) → isFindFault r ≡ false
+    pub find-never : PassesThroughout T → isFindFault r ≡ false
     find-never = call-never T (finding-own wanted) which-find find-fault

@@ -29,25 +29,28 @@ use Rattle.report.specs.Checks.{isEarly, isTypingFault}
 use Rattle.report.specs.Calls.{Call, whole, conditions, answer, Sound, GetsAsFarAsTyping, OwnNumbers}
 use Rattle.report.specs.Formed.{Formed}
 use Rattle.report.specs.TypingFaults.{Broken, Named}
+use Rattle.report.specs.GivenDemands.{PassesThroughout}
 use Rattle.report.specs.declared.Refusal.{Refusal}
 use Rattle.report.specs.declared.Verdict.{Verdict}
 use Rattle.report.proofs.VerdictLaws.{accepted-not-refused, if-accepted, then-next}
 use Rattle.report.proofs.FirstFault.{first-none, first-one}
-use Rattle.report.proofs.CallLaws.{given-answer, own-gets, refused-foremost}
+use Rattle.report.proofs.CallLaws.{given-answer, own-gets}
 use Rattle.report.proofs.ReachLaws.{reached-report}
 use Rattle.report.proofs.RulesLaws.{rules-sets}
 use Rattle.report.proofs.TypingLaws.{permitted-within, permitted-1024}
 use Rattle.report.proofs.Refusing.{own-early}
 use Rattle.report.proofs.WrittenAccepted.{called-sound, called-typed, called-own, called-formed, called-passes, called-columns}
 use Rattle.checking.specs.Promises.{Checks}
+use Rattle.printing.specs.Page.{aligned, mark, pageLine, page}
+use Rattle.printing.proofs.PageLineLaws.{line-length}
+use Rattle.printing.proofs.PageLineBytes.{line-configuration, line-mark, line-marks, line-number, line-space, line-space2, line-feed}
+use Rattle.printing.proofs.PageLaws.{page-byte}
 use Rattle.wall_page.specs.declared.PageAnswer.{PageAnswer}
-use Rattle.wall_page.specs.Page.{aligned, mark, pageLine, page, lineCount, writingPage, pageAnswer, PageWritten, isPageFault}
-use Rattle.wall_page.proofs.LineLaws.{line-length}
-use Rattle.wall_page.proofs.LineBytes.{line-configuration, line-mark, line-marks, line-number, line-space, line-space2, line-feed}
-use Rattle.wall_page.proofs.PageLaws.{page-length, page-byte}
+use Rattle.wall_page.specs.Page.{lineCount, writingPage, pageAnswer, PageWritten, isPageFault}
+use Rattle.wall_page.proofs.PageLaws.{page-length}
 use Rattle.demands.specs.FoundConfiguration.{columnsAt}
 use Rattle.demands.specs.PageLines.{lineOf, lineAt, LineShows, PageShows}
-use Rattle.demands.proofs.Demands.{found-afterwards, call-refuses, call-names, call-never}
+use Rattle.demands.proofs.Demands.{call-foremost, call-unchanged, found-afterwards, call-refuses, call-names, call-never}
 
 -- ---- one line
 
@@ -97,11 +100,14 @@ module _ (T : Tables) (lent : List ℕ) (r : PageAnswer) (bytes : List ℕ) (wri
 
   -- ---- demand 1: it is refused exactly by the first of its conditions that hold, and a refused call changes no byte
 
+  says : (x : Refusal) → (r ≡ PageAnswer.Refused x) ↔ (answer T call ≡ Verdict.Refused x)
+  says x = (refused-answer, told-by)
+
   pub page-foremost : (x : Refusal) → (r ≡ PageAnswer.Refused x) ↔ Foremost (conditions T call) x
-  page-foremost x = let f = refused-foremost T call x in (λ e. f .0 (refused-answer e), λ h. told-by (f .1 h))
+  page-foremost = call-foremost T call PageAnswer.Refused says
 
   pub page-unchanged : (x : Refusal) → r ≡ PageAnswer.Refused x → bytes ≡ lent
-  page-unchanged x e = writes .stored ∙ ap (λ (v : Verdict). after v (written (page T) lent) lent) (refused-answer e)
+  page-unchanged = call-unchanged T call PageAnswer.Refused says (written (page T) lent) (writes .stored)
 
   -- ---- the lines
 
@@ -243,5 +249,5 @@ module _ (T : Tables) (sound : Sound T) (lent : List ℕ) where
     page-names e =
         let n = call-names T (page-own (length lent)) which-page page-fault e in (n, told-by T lent r bytes writes (n .answers))
 
-    pub page-never : ((c : ℕ) → permitted T c ≡ true → passes (kindOf T) (configuredSchema T c) (configuredReport T c) ≡ true) → isPageFault r ≡ false
+    pub page-never : PassesThroughout T → isPageFault r ≡ false
     page-never = call-never T (page-own (length lent)) which-page page-fault

@@ -11,7 +11,7 @@ use Rattle.sets.specs.Bits.{bit}
 use Rattle.sets.specs.Rows.{rowIn}
 use Rattle.report.specs.Tables.{Tables}
 use Rattle.report.specs.Expressions.{permitted}
-use Rattle.wall_page.specs.Page.{aligned}
+use Rattle.printing.specs.Page.{aligned}
 
 -- the number of the line of c: how many permitted configurations are lower
 abbrev pub lineOf : Tables → ℕ → ℕ

@@ -10,7 +10,7 @@ use Rattle.sets.specs.Lists.{concat}
 use Rattle.sets.specs.Bits.{bit}
 use Rattle.sets.specs.Rows.{rowOf, rowIn, rowJoin, rowIntersect, rowMinus, withRow, within}
 use Rattle.sets.proofs.ListLaws.{concat-length}
-use Rattle.sets.proofs.RowLaws.{rowOf-same, rowOf-row, within-all, join-within, intersect-rowOf, intersect-within, complement-within}
+use Rattle.sets.proofs.RowLaws.{rowOf-same, rowOf-row, within-all, none-within, join-within, intersect-rowOf, intersect-within, complement-within}
 use Rattle.sets.proofs.RowLaws.{rowIn-concat, withRow-more}
 use Rattle.report.specs.Tables.{Tables, expression, expressionCount}
 use Rattle.report.specs.Expressions.{exactlyOneOn, truthOf, holds}
@@ -37,13 +37,6 @@ lower-more n m f g h k (Expression.And a b) l = omega arith
 lower-more n m f g h k (Expression.Or a b) l = omega arith
 lower-more n m f g h k (Expression.ExactlyOne a b) l = omega arith
 
-none-row : (n : ℕ) → rowOf 16 (λ c. false) ≡ rowOf 16 (within n (λ c. false))
-none-row n = rowOf-same 16 (λ c. false) (within n (λ c. false)) (λ c h. go (ltb c (2 ^ n)))
-  where
-    go : (t : Bool) → false ≡ (t && false)
-    go true = refl
-    go false = refl
-
 -- what holds whatever the number of features, of the configurations of n
 whole-row : (n : ℕ) (p : ℕ → Bool) → rowIntersect 16 (rowOf 16 (within n (λ c. true))) (rowOf 16 p) ≡ rowOf 16 (within n p)
 whole-row n p =
@@ -54,7 +47,7 @@ module _ (n : ℕ) (expressions rows : List ℕ) (f : ℕ) (below : (e : ℕ) �
   step-truth : (x : Expression) → ExpressionLower n f x
       → stepRow (rowOf 16 (within n (λ c. true))) rows x ≡ rowOf 16 (within n (λ c. truthOf c (holds expressions c) x))
   step-truth Expression.Malformed l = absurd l
-  step-truth Expression.False l = none-row n
+  step-truth Expression.False l = none-within 16 n
   step-truth Expression.True l = refl
   step-truth (Expression.Feature a) l = whole-row n (λ c. bit c a)
   step-truth (Expression.Not a) l =

@@ -3,3 +3,5 @@ pub mod FillLaws
 pub mod PermittedLaws
 pub mod CheckLaws
 pub mod PreparedLaws
+pub mod RowsFilling
+pub mod ColumnLaws

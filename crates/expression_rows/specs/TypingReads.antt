@@ -1,4 +1,4 @@
--- What typing reads of tables that have passed the form checks, whichever way it goes.
+-- What typing reads of tables that have passed the form checks, and what it answers and leaves, whichever way it goes.
 use Prim.Native.Nat.{ℕ, _≤_}
 use mathlib.Core.Path.{_≡_}
 use mathlib.Core.Bool.{true}
@@ -7,6 +7,9 @@ use lib.ListN.{replicate}
 use Rattle.sets.specs.Rows.{rowOf, within}
 use Rattle.report.specs.Tables.{Tables, relationCount}
 use Rattle.report.specs.Expressions.{permitted}
+use Rattle.report.specs.ColumnRows.{columnRows}
+use Rattle.report.specs.Checks.{typingCheck}
+use Rattle.report.specs.declared.Verdict.{Verdict}
 use Rattle.expression_rows.specs.ExpressionRows.{Prepared, ReachFilled}
 use Rattle.expression_rows.specs.declared.Scope.{Scope}
 
@@ -40,3 +43,8 @@ pub record TypingReadable (scope : Scope) (expressionRows relationEntries projec
   pub tables : Tables
   pub reads : TypingReads tables scope expressionRows relationEntries projectEntries relations comparisons queries kinds reach
   pub clear : columns ≡ replicate 1024 0
+
+-- the answer, and the column rows that are left whatever it is
+pub record Checked (T : Tables) (answer : Verdict) (columns : List ℕ) : Type 0 where
+  pub answers : answer ≡ typingCheck T
+  pub shows : columns ≡ columnRows T

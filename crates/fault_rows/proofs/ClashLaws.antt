@@ -22,8 +22,8 @@ use Rattle.report.proofs.FormedFacts.{query-at}
 use Rattle.report.proofs.TypingLaws.{permitted-within, permitted-1024, fails-permitted}
 use Rattle.comparisons.specs.declared.Gathered.{Gathered}
 use Rattle.expression_rows.specs.ExpressionRows.{reachRow}
+use Rattle.expression_rows.proofs.RowsFilling.{RowsFilling, filling-more, filling-rest, filling-all}
 use Rattle.attribute_rows.specs.AttributeRows.{gatheredRow}
-use Rattle.attribute_rows.proofs.FillLaws.{RowsFilling, filling-more, filling-rest, filling-all}
 use Rattle.fault_rows.specs.FaultRows.{failsRow, failsAt, failingRow, ClashReads, ClashReadable}
 use Rattle.fault_rows.specs.FaultRules.{clashStep, ClashRead, firstFound}
 use Rattle.fault_rows.proofs.FormLaws.{cut-within}

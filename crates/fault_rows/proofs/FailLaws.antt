@@ -13,21 +13,22 @@ use Rattle.sets.specs.Bits.{bit}
 use Rattle.sets.specs.Rows.{wordOf, rowOf, rowIn, rowIntersect, withRow, within, RowsAre}
 use Rattle.sets.proofs.ListLaws.{table-same, concat-length}
 use Rattle.sets.proofs.BitLaws.{bitsOf-none}
-use Rattle.sets.proofs.RowLaws.{rowOf-same, rowOf-row, intersect-rowOf, rows-are, rows-all}
+use Rattle.sets.proofs.RowLaws.{rowOf-same, intersect-rowOf, rows-are, rows-all}
 use Rattle.report.specs.Tables.{Tables, relationCount, comparisonCount, queryCount, report}
 use Rattle.report.specs.Expressions.{permitted}
 use Rattle.report.specs.Typing.{setOf, reached, faults}
-use Rattle.report.specs.ColumnRows.{hasColumn}
+use Rattle.report.specs.ColumnRows.{hasColumn, columnRow}
 use Rattle.report.specs.Configuring.{written}
 use Rattle.report.specs.Formed.{Formed}
 use Rattle.report.proofs.FormedFacts.{counts, report-in}
 use Rattle.comparisons.specs.declared.Gathered.{Gathered}
 use Rattle.expression_rows.specs.declared.Scope.{Scope}
 use Rattle.expression_rows.specs.TypingReads.{Items, TypingReads}
+use Rattle.expression_rows.proofs.RowsFilling.{RowsFilling, filling-none, filling-more, filling-all}
+use Rattle.report.proofs.TypingLaws.{column-wide}
 use Rattle.attribute_rows.specs.AttributeRows.{relationRow, gatheredRow, RelationRowReads, RelationRowReadable, GatheredReads, GatheredReadable}
 use Rattle.attribute_rows.proofs.AttributeLaws.{relations-are, gathered-are}
-use Rattle.attribute_rows.proofs.FillLaws.{RowsFilling, filling-none, filling-more, filling-all}
-use Rattle.fault_rows.specs.FaultRows.{faultyRow, failsRow, columnRow, FailReadable, FailsFilled}
+use Rattle.fault_rows.specs.FaultRows.{faultyRow, failsRow, FailReadable, FailsFilled}
 use Rattle.fault_rows.specs.FaultRules.{FormRowsReads, FormRowsReadable, FormsFilled, storedColumn, ColumnRead}
 use Rattle.fault_rows.proofs.TypeLaws.{faulty-wide}
 use Rattle.fault_rows.proofs.FaultLaws.{faulty-fails}
@@ -133,9 +134,6 @@ module _ (T : Tables) (items : ℕ) where
       → RowsAre 16 (queryCount T) (faultyRow T items) faultRows
   faulty-rows lent = rows-are 16 (queryCount T) (faultyRow T items) (λ q l. faulty-wide T items q) _
 
-column-wide : (T : Tables) (x a : ℕ) → length (columnRow T a) ≡ 16
-column-wide T x a = rowOf-row 16 (hasColumn T a) .size
-
 -- the items below a have been looked at
 pub record Failing (scope : Scope)
     (expressionRows relationEntries projectEntries relations comparisons queries kinds reach lent before faultRows columns : List ℕ)
@@ -225,7 +223,7 @@ module _ {scope : Scope} {expressionRows relationEntries projectEntries relation
               ∙ ap (written (concat (queryCount T) (faultyRow T (a + 1)))) (S .faulty T R)
               ∙ written-over (concat (queryCount T) (faultyRow T (a + 1))) (concat (queryCount T) (faultyRow T a)) lent
               (faulty-length T (a + 1) ∙ sym (faulty-length T a));
-          shown = filling-more column-wide (S .shown) h (λ T R B. failing-row R) wide stored;
+          shown = filling-more (λ T x. column-wide T) (S .shown) h (λ T R B. failing-row R) wide stored;
         }
 
     pub failing-all : scope .items ≤ a → (T : Tables)
@@ -233,7 +231,7 @@ module _ {scope : Scope} {expressionRows relationEntries projectEntries relation
         → FailsFilled T (scope .items) lent faultRows before columns
     failing-all h T R =
         let e : a ≡ scope .items = (let m = S .shown .most in omega arith) in
-        record { rows = rw e at (S .faulty T R); shown = filling-all column-wide (S .shown) h T R refl }
+        record { rows = rw e at (S .faulty T R); shown = filling-all (λ T x. column-wide T) (S .shown) h T R refl }
 
 -- for the caller: the rows that were filled are of the configurations at which each form fails
 pub fails-rows : {T : Tables} → Formed T → {items : ℕ} → Items T items → {lent faultRows before columns : List ℕ}

@@ -16,10 +16,10 @@ use Rattle.report.specs.Tables.{Tables, query, queryCount, relationsEnd, projec
 use Rattle.report.specs.Typing.{reached, faults}
 use Rattle.report.specs.declared.Query.{Query}
 use Rattle.report.proofs.EntryParts.{project-part, project-in-part}
+use Rattle.expression_rows.proofs.RowsFilling.{RowsFilling, filling-none, filling-more, filling-rest, filling-all}
 use Rattle.attribute_rows.specs.AttributeRows.{listRow, setRow, ListRowReads, ListRowReadable}
 use Rattle.attribute_rows.specs.RowRules.{setStep, SetRead}
 use Rattle.attribute_rows.proofs.AttributeLaws.{set-wide, sets-are}
-use Rattle.attribute_rows.proofs.FillLaws.{RowsFilling, filling-none, filling-more, filling-rest, filling-all}
 use Rattle.attribute_rows.proofs.SetLaws.{set-read, set-is}
 use Rattle.fault_rows.specs.FaultRows.{faultRow, faultyRow}
 use Rattle.fault_rows.specs.FaultRules.{faultStep, FaultRead, FormRowsReads, FormRowsReadable, FormsFilled}

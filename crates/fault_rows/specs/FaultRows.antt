@@ -12,11 +12,11 @@ use Rattle.sets.specs.Rows.{rowOf, RowsAre}
 use Rattle.report.specs.Tables.{Tables, comparisonCount, queryCount}
 use Rattle.report.specs.Expressions.{configurations}
 use Rattle.report.specs.Typing.{reached, faults, fails}
-use Rattle.report.specs.ColumnRows.{hasColumn}
 use Rattle.report.specs.Configuring.{written}
 use Rattle.report.specs.Formed.{Formed}
 use Rattle.comparisons.specs.declared.Gathered.{Gathered}
 use Rattle.expression_rows.specs.ExpressionRows.{ReachFilled}
+use Rattle.report.specs.ColumnRows.{columnRow}
 use Rattle.expression_rows.specs.TypingReads.{TypingReads}
 use Rattle.expression_rows.specs.declared.Scope.{Scope}
 use Rattle.attribute_rows.specs.AttributeRows.{gatheredRow}
@@ -40,10 +40,6 @@ module _ (T : Tables) where
 
   abbrev pub failingRow : ℕ → List ℕ
   failingRow q = rowOf 16 (failsAt q)
-
-  -- the column row of attribute a
-  abbrev pub columnRow : ℕ → List ℕ
-  columnRow a = rowOf 16 (hasColumn T a)
 
 -- there are tables that are read so; `faultRows` has only zeros and room for a row a form, and `columns` room for a row an item
 pub record FailReadable (scope : Scope)

@@ -5,12 +5,11 @@ use mathlib.Core.Path.{_≡_}
 use mathlib.Core.Bool.{cond}
 use mathlib.Core.List.{List}
 use lib.ListN.{length}
-use Rattle.sets.specs.Lists.{table, NumbersAre}
+use Rattle.sets.specs.Lists.{NumbersAre}
 use Rattle.report.specs.Tables.{Tables, comparison, query, relationCount, comparisonCount, queryCount}
-use Rattle.report.specs.Tables.{relationStart, projectedBefore, entriesOfProjects}
+use Rattle.report.specs.Tables.{relationStart, entriesOfProjects}
 use Rattle.report.specs.Operands.{comparisonOperands}
 use Rattle.report.specs.Typing.{present, relationSet, names, clashes, setOf}
-use Rattle.report.specs.Configuring.{written}
 use Rattle.report.specs.Formed.{Formed}
 use Rattle.report.specs.declared.Operands.{Operands}
 use Rattle.report.specs.declared.Query.{Query}
@@ -70,16 +69,11 @@ pub record SetsReads (T : Tables) (expressionRows entries queries relationSets :
   pub queriesAre : queries ≡ T .queries
   pub related : NumbersAre (relationCount T) (presentSet T c) relationSets
 
-pub record SetsReadable (expressionRows entries queries relationSets : List ℕ) (c q : ℕ) (lent : List ℕ) : Type 0 where
+-- and room for the sets of all
+pub record SetsReadable (expressionRows entries queries relationSets : List ℕ) (c : ℕ) (lent : List ℕ) : Type 0 where
   pub tables : Tables
   pub reads : SetsReads tables expressionRows entries queries relationSets c
-  pub inside : q ≤ queryCount tables
-  pub room : q ≤ length lent
-
--- the sets of the forms below q stand over `lent`, and the list of form q starts at `start`
-pub record SetsFilled (T : Tables) (c q : ℕ) (lent sets : List ℕ) (start : ℕ) : Type 0 where
-  pub stored : sets ≡ written (table q (setOf T c)) lent
-  pub starts : start ≡ projectedBefore (T .queries) q
+  pub room : length queries / 4 ≤ length lent
 
 -- x is query form q, `sets` has the sets of lower forms and `relationSets` those of the relations
 pub record QueryAt (T : Tables) (q : ℕ) (expressionRows entries relationSets : List ℕ) (c : ℕ) (sets : List ℕ) (start : ℕ) (x : Query) : Type 0 where

@@ -19,14 +19,14 @@ ghost use Prim.Native.Nat.{ℕ, _+_, _^_, _<_};
 ghost use lib.Bits.{bitAnd, bitOr, bitXor};
 ghost use lib.ListN.{length, getD};
 ghost use Rattle.sets.specs.Lists.{table};
-ghost use Rattle.report.specs.Tables.{Tables, kindOf, relationCount, comparisonCount};
+ghost use Rattle.report.specs.Tables.{Tables, kindOf, relationCount, comparisonCount, queryCount};
 ghost use Rattle.report.specs.Typing.{present, gatheredOf, gathered, setRule, setOf, faultsOf, clashesIn};
 ghost use Rattle.report.specs.Configuring.{written};
 ghost use Rattle.comparisons.specs.Gathering.{ownOf};
 ghost use Rattle.at_configuration.specs.AtConfiguration.{PresentReads, PresentReadable, RelationReads};
 ghost use Rattle.faults_at.specs.SetsAt.{presentSet, RelationSetsReadable, RelationSetReadable};
 ghost use Rattle.faults_at.specs.SetsAt.{ComparisonAt, SomeComparison, GatheredReads, GatheredReadable};
-ghost use Rattle.faults_at.specs.SetsAt.{SetsReads, SetsReadable, SetsFilled, QueryAt, SomeQuery, FormFaultsReads, FormFaultsReadable};
+ghost use Rattle.faults_at.specs.SetsAt.{SetsReads, SetsReadable, QueryAt, SomeQuery, FormFaultsReads, FormFaultsReadable};
 ghost use Rattle.faults_at.specs.SetsAt.{FormClashesReads, FormClashesReadable};
 
 // The set of relation r, whose list starts at `start`: none where it is absent.
@@ -191,26 +191,26 @@ fn set_at(
     }
 }
 
-// Fills `form_sets` with the sets of the query forms below q, and answers where the list of form q starts.
+// Fills `form_sets` with the sets of all query forms.
 pub fn fill_sets(
     c: usize,
-    q: usize,
     expression_rows: &[u64],
     project_entries: &[u16],
     queries: &[u16],
     relation_sets: &[u64],
     form_sets: &mut [u64],
-) -> usize
-    requires { ⌜ SetsReadable (now «expression_rows») (now «project_entries») (now queries) (now «relation_sets») c q (now «form_sets») ⌝ }
-    ensures { λ start.
+)
+    requires { ⌜ SetsReadable (now «expression_rows») (now «project_entries») (now queries) (now «relation_sets») c (now «form_sets») ⌝ }
+    ensures { λ _.
         ⌜ ((T : Tables) → SetsReads T (now («expression_rows» .entry)) (now («project_entries» .entry)) (now (queries .entry))
         (now («relation_sets» .entry)) c
-        → SetsFilled T c q (now («form_sets» .entry)) (now («form_sets» .exit)) start) ⌝ }
+        → now («form_sets» .exit) ≡ written (table (queryCount T) (setOf T c)) (now («form_sets» .entry))) ⌝ }
 {
+    let count = queries.len() / 4;
     let mut start = 0;
-    let mut p = 0;
-    while p < q {
-        let x = decode_query(queries, p);
+    let mut q = 0;
+    while q < count {
+        let x = decode_query(queries, q);
         let s = set_at(
             x,
             c,
@@ -220,11 +220,10 @@ pub fn fill_sets(
             relation_sets,
             &*form_sets,
         );
-        form_sets[p] = s.bits;
+        form_sets[q] = s.bits;
         start += project_length(x);
-        p += 1;
+        q += 1;
     }
-    start
 }
 
 // Relation r if it is absent at c, as a set of items.

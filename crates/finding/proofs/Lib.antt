@@ -1,3 +1,2 @@
 pub mod WantedLaws
 pub mod FindLaws
-pub mod FindExamplesHold

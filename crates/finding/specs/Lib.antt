@@ -1,3 +1,2 @@
 pub mod Finding
 pub mod ColumnSearch
-pub mod FindExamples

@@ -32,9 +32,8 @@ use Rattle.expression_rows.proofs.PreparedLaws.{prepare}
 use Rattle.reach.specs.Reach.{reachRows, ReachReads}
 use Rattle.reach.proofs.ReachRows.{reach-rows}
 use Rattle.forms.proofs.Chain.{stops, goes-on}
-use Rattle.expression_rows.specs.TypingReads.{Items, TypingReads}
+use Rattle.expression_rows.specs.TypingReads.{Items, TypingReads, Checked}
 use Rattle.expression_rows.specs.declared.Scope.{Scope}
-use Rattle.typing.specs.Typed.{Checked}
 use Rattle.judging.specs.Judging.{meaningCheck, reportCheck, earlyCheck, JudgeReads, JudgeReadable, Judged, ColumnsReadable, ColumnsJudged}
 use Rattle.judging.specs.Judging.{TablesFillable, TablesFilled, TablesReadable, TablesJudged, ColumnsChecked, RowsLent, RowsChecked}
 

@@ -187,7 +187,7 @@ fn relation_word(c: usize, a: usize, expression_rows: &[u64], relations: &[u16])
     new_relation(c, a, expression_rows, relations) as u16
 }
 
-// How many of the `count` entries from `start` on hold at c, as a word.
+// How many of the `count` entries from `start` on are kept at c, as a word.
 fn length_word(
     c: usize,
     start: usize,

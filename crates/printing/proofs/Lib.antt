@@ -2,3 +2,6 @@ pub mod Pieces
 pub mod LinePieces
 pub mod ColumnLaws
 pub mod PrintLaws
+pub mod PageLineLaws
+pub mod PageLineBytes
+pub mod PageLaws

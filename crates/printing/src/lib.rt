@@ -1,8 +1,10 @@
-// Numbers, lines and the print of an answer, written into lent bytes. Each function writes at a position and returns the position after.
+// Numbers, lines, the print of an answer and the wall page, written into lent bytes. Each function writes at a position and returns the position after.
 mod columns;
+mod page;
 
 pub use columns::put_accepted;
 pub use columns::shown_at;
+pub use page::put_page;
 use report::Refusal;
 use sets::AttributeSet;
 ghost use Prim.Native.Nat.{_<_};

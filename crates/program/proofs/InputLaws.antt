@@ -5,10 +5,10 @@ use mathlib.Core.List.{List}
 use native.Mathlib.Omega.{arith}
 use lib.ListN.{length, take}
 use Rattle.io.specs.Counts.{Counts}
-use Rattle.report_file.specs.Layouts.{textAs}
-use Rattle.report_file.specs.Printing.{Prints}
-use Rattle.report_file.specs.declared.Layout.{Layout}
-use Rattle.program.specs.Running.{Within, InputPrinted}
+use Rattle.harbour_print.specs.Layouts.{textAs}
+use Rattle.harbour_print.specs.Printing.{Prints}
+use Rattle.harbour_print.specs.declared.Layout.{Layout}
+use Rattle.program.specs.Running.{Within, SomePrinted, InputPrinted}
 use Rattle.program.specs.declared.Input.{Input}
 use Rattle.program.specs.declared.Printed.{Printed}
 
@@ -18,8 +18,13 @@ read-counts text w e = rw e at w
 
 -- it counts bytes of a print
 pub bytes-printed : (layout : Layout) {answer : Printed} {n : ℕ} (before after : List ℕ) → InputPrinted layout answer before after → answer ≡ Printed.Bytes n
-    → (text : List ℕ) × (length text ≤ 65537) × Prints (textAs layout text) before after n
+    → SomePrinted layout n before after
 bytes-printed layout before after w e = rw e at w
+
+-- or there was no input, and nothing has changed
+pub nothing-printed : (layout : Layout) {answer : Printed} (before after : List ℕ) → InputPrinted layout answer before after → answer ≡ Printed.NoInput
+    → after ≡ before
+nothing-printed layout before after w e = rw e at w
 
 -- what is printed of the bytes that were read
 pub printed-read : (layout : Layout) {n k : ℕ} (text : List ℕ) {before after : List ℕ} → length text ≤ 65537 → Counts n text

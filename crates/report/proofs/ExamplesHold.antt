@@ -2,9 +2,9 @@
 use Prim.Native.Nat.{ℕ, zero, suc, _+_, _*_, _%_, _^_}
 use native.Mathlib.Nat.{zero-div}
 use lib.Dec.{eqb}
-use mathlib.Core.Path.{_≡_, refl, sym, ap, ap₂, _∙_, fun-ext}
+use mathlib.Core.Path.{_≡_, refl, sym, ap, _∙_, fun-ext}
 use mathlib.Core.Bool.{Bool, true, false, cond, _&&_}
-use mathlib.Core.List.{List, [], _∷_, _++_, map, map-append}
+use mathlib.Core.List.{List, [], _∷_, map}
 use Rattle.sets.specs.Lists.{table, concat}
 use Rattle.sets.specs.Bits.{bit, bitsOf, digit}
 use Rattle.report.specs.Tables.{Tables, report}
@@ -20,8 +20,7 @@ use Rattle.report.specs.Calls.{answerTo}
 use Rattle.report.specs.Text.{decimal, numbersIn}
 use Rattle.report.specs.HarbourFile.{linesOf, fileLines, fileOf}
 use Rattle.report.specs.Print.{print}
-use Rattle.report.specs.Examples.{Case, Outcome, outcomeBy, outcome, Example}
-use Rattle.report.specs.Examples.{harbourExamples, repeatExamples, quayExamples, kindExamples, examples}
+use Rattle.report.specs.Examples.{Case, Outcome, outcomeBy, outcome, Example, Hold, examples}
 
 -- to unfold this is to unfold all that an outcome is computed with
 unfoldable pub computed : Unit {0}
@@ -39,7 +38,7 @@ abbrev wordFrom : ℕ → List ℕ → ℕ
 wordFrom a [] = 0
 wordFrom a (s ∷ sets) = wordFrom a sets * 2 + digit (bit s a)
 
-unfoldable sharedRows : Tables → List ℕ
+unfoldable pub sharedRows : Tables → List ℕ
 sharedRows T =
     let sets = table 16 (λ w. table 64 (λ j. shownAt T (w * 64 + j))) in
     concat 64 (λ a. map (wordFrom a) sets)
@@ -73,35 +72,11 @@ rows-shared T =
 outcome-shared : outcomeBy sharedRows ≡ outcome
 outcome-shared = ap outcomeBy (fun-ext rows-shared)
 
--- that each of some examples gives what it says
-abbrev Hold : List Example → Type 0
-Hold xs = map (λ (e : Example). outcomeBy sharedRows (e .of)) xs ≡ map (λ (e : Example). e .gives) xs
-
-hold-both : (xs ys : List Example) → Hold xs → Hold ys → Hold (xs ++ ys)
-hold-both xs ys p q = map-append _ xs ys ∙ ap₂ _++_ p q ∙ sym (map-append _ xs ys)
-
--- by computation, in four parts: what one declaration may compute is limited
-harbours-hold : Hold harbourExamples
-unfolding computed sharedRows
-harbours-hold = refl
-
-repeats-hold : Hold repeatExamples
-unfolding computed sharedRows
-repeats-hold = refl
-
-quays-hold : Hold quayExamples
-unfolding computed sharedRows
-quays-hold = refl
-
-kinds-hold : Hold kindExamples
-unfolding computed sharedRows
-kinds-hold = refl
-
-shared-hold : Hold examples
-shared-hold =
-    hold-both harbourExamples (repeatExamples ++ quayExamples ++ kindExamples) harbours-hold
-    (hold-both repeatExamples (quayExamples ++ kindExamples) repeats-hold (hold-both quayExamples kindExamples quays-hold kinds-hold))
+-- examples hold where they do so with the shared rows, by which they are computed
+pub hold-shared : (xs : List Example) → map (λ (e : Example). outcomeBy sharedRows (e .of)) xs ≡ map (λ (e : Example). e .gives) xs → Hold xs
+hold-shared xs h = ap (λ (o : Case → Outcome). map (λ (e : Example). o (e .of)) xs) (sym outcome-shared) ∙ h
 
 -- each of them gives what docs/FORMAT.md says
-pub examples-hold : map (λ (e : Example). outcome (e .of)) examples ≡ map (λ (e : Example). e .gives) examples
-examples-hold = ap (λ (o : Case → Outcome). map (λ (e : Example). o (e .of)) examples) (sym outcome-shared) ∙ shared-hold
+pub examples-hold : Hold examples
+unfolding computed sharedRows
+examples-hold = hold-shared examples refl

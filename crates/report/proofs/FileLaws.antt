@@ -103,10 +103,6 @@ group-iff text g h = (
         go true f = absurd (let z = one-group text j g (omega arith) h f e in omega arith)
         go false f = f
 
--- and how many groups there are where it is none's
-pub group-none : (text : List ℕ) → ((g : ℕ) → g < length groups → isLineOf (groupAt g) text ≡ false) → groupNumber groups text ≡ length groups
-group-none text h = number-first (groupOf [] (shapeOf 0 0 0)) text groups (length groups) (omega arith) (λ l. absurd (omega arith)) h
-
 -- the line that a group's word and fitting numbers make
 pub line-group : (g : ℕ) (ns : List ℕ) → g < length groups → length ns ≡ groupAt g .shape .width → ((i : ℕ) → i < length ns → getD ns i 0 ≤ 65535)
     → groupNumber groups (line (groupAt g .word) ns) ≡ g
@@ -114,7 +110,7 @@ line-group g ns h c s =
     group-iff (line (groupAt g .word) ns) g h .1
     (line-of-iff (groupAt g) (line (groupAt g .word) ns) (group-word g) .1 (record { numbers = ns; count = c; small = s; spelled = refl }))
 
--- ---- the files that are not looked into, and the empty one
+-- ---- the files that are not looked into
 
 -- a longer file gives 0
 pub file-long : (text : List ℕ) → 65536 < length text → fileOf text ≡ File.unread 0
@@ -125,11 +121,6 @@ file-long text h = rw (lt-ltb 65536 (length text) h, fileOf)
 pub file-short : (text : List ℕ) → length text ≤ 65536 → fileOf text ≡ fileLines (linesOf text)
 unfolding fileOf
 file-short text h = rw (le-ltb 65536 (length text) h, fileOf)
-
--- no line is no head: line 1
-pub file-empty : fileOf [] ≡ File.unread 1
-unfolding fileOf fileLines linesOf
-file-empty = refl
 
 -- ---- the first bad line
 

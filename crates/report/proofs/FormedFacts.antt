@@ -10,25 +10,20 @@ use borrow.Author.Tests.{ltb-true}
 use lib.ListN.{length}
 use lib.Dec.{ltb}
 use Rattle.sets.proofs.SearchLaws.{some-at}
-use Rattle.report.specs.Tables.{Tables, entryAttribute, entryExpression, relationExpression, relationLength, expression, comparison, query}
+use Rattle.report.specs.Tables.{Tables, entryAttribute, entryExpression, relationExpression, relationLength, comparison, query}
 use Rattle.report.specs.Tables.{expressionCount, entryCount, relationCount, comparisonCount, queryCount, report}
-use Rattle.report.specs.Tables.{relationStart, projectLength, projectedBefore, relationsEnd, projectStart}
+use Rattle.report.specs.Tables.{relationStart, projectLength, relationsEnd, projectStart}
 use Rattle.report.specs.Operands.{comparisonOperands, queryOperands, sidesIn}
 use Rattle.report.specs.FormChecks.{isOperand, listFits, listsEnd}
-use Rattle.report.specs.Formed.{Formed, ExpressionLower, ComparisonLower, OperandsBelow, SidesBelow, Free, OperandsFree, QueryLower}
+use Rattle.report.specs.Formed.{Formed, ComparisonLower, OperandsBelow, SidesBelow, Free, OperandsFree, QueryLower}
 use Rattle.report.specs.declared.Query.{Query}
-use Rattle.report.proofs.FormFacts.{expression-lower, comparison-lower, comparison-below, sides-below, list-inside, query-lower}
+use Rattle.report.proofs.FormFacts.{comparison-lower, comparison-below, sides-below, list-inside, query-lower}
 use Rattle.report.proofs.FormFacts.{operands-free, among-free, free-below, Listing, project, unlisted, listing}
 
--- lists start one after another, those of the relations
+-- the lists of the relations start one after another
 pub relation-starts : (relations : List ℕ) (r s : ℕ) → r ≤ s → relationStart relations r ≤ relationStart relations s
 relation-starts relations r =
     le-ind (λ (s : ℕ). relationStart relations r ≤ relationStart relations s) (le-refl (relationStart relations r)) (λ s h ih. omega arith)
-
--- and those of the project forms
-pub projected-grows : (queries : List ℕ) (p q : ℕ) → p ≤ q → projectedBefore queries p ≤ projectedBefore queries q
-projected-grows queries p =
-    le-ind (λ (q : ℕ). projectedBefore queries p ≤ projectedBefore queries q) (le-refl (projectedBefore queries p)) (λ q h ih. omega arith)
 
 -- how many forms each table has, and how many words
 pub record Counts (T : Tables) : Type 0 where
@@ -64,10 +59,7 @@ module _ {T : Tables} (F : Formed T) where
 
   -- ---- each form
 
-  -- each form of tables 0, 3 and 4 fits
-  pub expression-at : (f : ℕ) → f < expressionCount T → ExpressionLower (T .features) f (expression (T .expressions) f)
-  expression-at f h = expression-lower (T .features) f (expression (T .expressions) f) (F .expressionsOk f h)
-
+  -- each form of tables 3 and 4 fits
   pub comparison-at : (f : ℕ) → f < comparisonCount T → ComparisonLower (T .attributes) (expressionCount T) f (comparison (T .comparisons) f)
   comparison-at f h = comparison-lower (T .attributes) (expressionCount T) f (comparison (T .comparisons) f) (F .comparisonsOk f h)
 

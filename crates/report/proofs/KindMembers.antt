@@ -1,25 +1,68 @@
--- What is at fault in a select whose comparison compares two kinds, in the words of specs/Kinds: the left attributes of the comparisons that it
--- reaches and whose sides have two kinds. It asks nothing of the tables.
-use Prim.Native.Nat.{ℕ, _^_}
-use mathlib.Core.Path.{_≡_, refl, sym, ap, _∙_}
-use mathlib.Core.Bool.{Bool, true, false, cond, _||_, false≢true}
+-- What the words of a comparison with a constant say; and what is at fault in a select whose comparison compares two kinds, in the words of specs/Kinds:
+-- the left attributes of the comparisons that it reaches and whose sides have two kinds. It asks nothing of the tables.
+use Prim.Native.Nat.{ℕ, _^_, _≤_, _<_}
+use mathlib.Core.Path.{_≡_, refl, sym, ap, ap₂, _∙_}
+use mathlib.Core.Bool.{Bool, true, false, cond, _||_, not, false≢true}
 use mathlib.Core.Logic.{_↔_, ⊎-elim}
-use borrow.Author.Tests.{eqb-true}
+use borrow.Author.Tests.{eqb-true, leb-true, le-leb}
 use lib.Dec.{eqb}
 use lib.Bits.{bitOr, or-zero-l, or-zero-r}
 use Rattle.sets.specs.Bits.{bit}
 use Rattle.sets.proofs.BitLaws.{bit-none, bit-pow, bit-or, bits-equal}
-use Rattle.report.specs.Tables.{Tables, kindOf, comparison, query}
+use Rattle.report.specs.Tables.{Tables, kindOf, word, comparisonOf, comparison, query, expressionCount}
 use Rattle.report.specs.Operands.{comparisonOperands, comparisonSides, sidesIn}
 use Rattle.report.specs.Typing.{taken, onward, reached, kindsDiffer, leftOf, clashOf, gatheredOf, gathered, compares, clashes, clashesIn, faults, fails}
-use Rattle.report.specs.Kinds.{Differing}
+use Rattle.report.specs.FormChecks.{constantKind, comparisonFits, comparisonOk, constantOk}
+use Rattle.report.specs.Kinds.{IsKind2, Differing}
 use Rattle.report.specs.declared.Comparison.{Comparison}
 use Rattle.report.specs.declared.Query.{Query}
 use Rattle.report.specs.declared.Operands.{Operands}
 use Rattle.report.specs.declared.Sides.{Sides}
 use Rattle.report.proofs.ValueLaws.{value-related}
+use Rattle.report.proofs.FormFacts.{comparison-lower}
+use Rattle.report.proofs.FitLaws.{comparison-fits}
 use Rattle.report.proofs.PassingOn.{or-either, or-first, or-second, same-number}
 use Rattle.report.proofs.TreeLaws.{holds-where}
+
+-- ---- "A constant's kind stands in word c of comparison kind 2, which 7 no longer wants 0"
+
+module _ {T : Tables} {f operator attribute constant wordC : ℕ} (K : IsKind2 T f operator attribute constant wordC) where
+  kind-2 : comparison (T .comparisons) f ≡ Comparison.Constant operator attribute constant wordC
+  kind-2 =
+      ap
+      (λ (kind : ℕ).
+      comparisonOf kind (word (T .comparisons) 5 f 1) (word (T .comparisons) 5 f 2) (word (T .comparisons) 5 f 3) (word (T .comparisons) 5 f 4))
+      (K .kind)
+      ∙ ap₂ (λ (o a : ℕ). Comparison.Constant o a (word (T .comparisons) 5 f 3) (word (T .comparisons) 5 f 4)) (K .operatorIs) (K .attributeIs)
+      ∙ ap₂ (Comparison.Constant operator attribute) (K .constantIs) (K .wordCIs)
+
+  -- the constant's kind is word c
+  pub constant-kind : constantKind (sidesIn (T .comparisons) f) ≡ wordC
+  constant-kind = ap (λ (x : Comparison). constantKind (comparisonSides x)) kind-2
+
+  -- and that is what the attribute's kind is held against
+  pub constant-differs : kindsDiffer (kindOf T) (sidesIn (T .comparisons) f) ≡ not (eqb (kindOf T attribute) wordC)
+  constant-differs = ap (λ (x : Comparison). kindsDiffer (kindOf T) (comparisonSides x)) kind-2
+
+  -- 7 asks of the form an operator up to 5 and an attribute below m, and nothing of word c
+  pub seven-asks : (comparisonOk T f ≡ true) ↔ ((operator ≤ 5) × (attribute < T .attributes))
+  seven-asks =
+      rw kind-2 (
+        comparison-lower (T .attributes) (expressionCount T) f (Comparison.Constant operator attribute constant wordC),
+        comparison-fits (T .attributes) (expressionCount T) f (Comparison.Constant operator attribute constant wordC),
+      )
+
+  -- 24 asks that it is a kind
+  pub constant-asks : (constantOk T f ≡ true) ↔ (wordC ≤ 2)
+  constant-asks = rw constant-kind (leb-true wordC 2, le-leb wordC 2)
+
+-- so whatever word c is, 7 answers the same of the form
+pub seven-same : {T U : Tables} {f operator attribute constant wordC wordC′ : ℕ} → T .attributes ≡ U .attributes
+    → IsKind2 T f operator attribute constant wordC → IsKind2 U f operator attribute constant wordC′ → comparisonOk T f ≡ comparisonOk U f
+seven-same {T} {U} {f} {operator} {attribute} {constant} {wordC} {wordC′} same K L =
+    ap (comparisonFits (T .attributes) (expressionCount T) f) (kind-2 K)
+    ∙ ap (λ (m : ℕ). comparisonFits m (expressionCount U) f (Comparison.Constant operator attribute constant wordC′)) same
+    ∙ sym (ap (comparisonFits (U .attributes) (expressionCount U) f) (kind-2 L))
 
 -- ---- one comparison
 

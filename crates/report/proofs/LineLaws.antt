@@ -6,7 +6,7 @@ use mathlib.Core.Bool.{Bool, true, false, cond, not, _&&_, false≢true}
 use mathlib.Core.List.{List, [], _∷_, _++_, append-assoc, append-nil, flatten}
 use native.Mathlib.Nat.{le-of-suc-le-suc, not-suc-le-zero}
 use native.Mathlib.Omega.{arith}
-use lib.ListN.{length, getD, length-append}
+use lib.ListN.{length, getD}
 use lib.Dec.{leb, eqb}
 use borrow.Author.Tests.{leb-true, le-leb, eq-eqb, eqb-true, ne-eqb, not-true}
 use Rattle.report.specs.Text.{decimal, spaced, bracket, line, same, isDigit, numbersIn}
@@ -131,14 +131,6 @@ lines-at text = from [] text refl
             → (t : Bool) → eqb b 10 ≡ t → EachLine (linesFrom begun (b ∷ rest))
         go on new true e = rw (line-ends begun b rest e) (first e new)
         go on new false e = rw (line-goes-on begun b rest e) (on (every-append noFeed begun (b ∷ []) p (rw e)))
-
--- no line is empty
-pub line-not-empty : (text : List ℕ) (i : ℕ) → i < length (linesOf text) → 0 < length (getD (linesOf text) i [])
-line-not-empty text i h = let l = lines-at text i h in go l (l .fed) refl
-  where
-    go : (l : LineAt (linesOf text) i) (t : Bool) → l .fed ≡ t → 0 < length (getD (linesOf text) i [])
-    go l true e = rw (l .whole, e) (omega (arith, length-append (l .front) (10 ∷ [])))
-    go l false e = rw (l .whole, e, append-nil (l .front)) (l .some e)
 
 -- bytes without a line feed, and one after them, are the first line
 pub first-line : (front rest : List ℕ) → every noFeed front ≡ true → linesOf (front ++ (10 ∷ rest)) ≡ (front ++ (10 ∷ [])) ∷ linesOf rest

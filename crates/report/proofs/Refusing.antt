@@ -36,7 +36,7 @@ use Rattle.report.proofs.CallLaws.{given-answer, given-before, own-gets
 use Rattle.report.proofs.TextLaws.{every}
 use Rattle.report.proofs.PassingOn.{or-either}
 use Rattle.report.proofs.LeadLaws.{formAt}
-use Rattle.report.proofs.TreeLaws.{operandsPass, operands-pass, reached-permitted, fails-where, holds-where, reached-passes, compared-where, lowest-breaks, report-passes}
+use Rattle.report.proofs.TreeLaws.{operandsPass, operands-pass, reached-permitted, fails-where, holds-where, reached-passes, compared-where, alike-where, lowest-breaks, report-passes}
 use Rattle.report.proofs.TreeLaws.{reached-part}
 use Rattle.report.proofs.TypingLaws.{permitted-within, fails-permitted, typing-accepted, typing-passes, typing-refused, fault-number, fault-item}
 
@@ -251,16 +251,16 @@ other-phase T c q n = holds-where T c q 1 .1 (λ r. go (formAt T q) n)
     go (Query.Intersection a b) n = refl
 
 -- the number of a rule is below 25
-pub rule-below : (y : Query) → ruleNumber y ≢ 25
-rule-below Query.Malformed e = omega arith
-rule-below Query.Empty e = omega arith
-rule-below (Query.Relation a) e = omega arith
-rule-below (Query.Select a b) e = omega arith
-rule-below (Query.Project a b) e = omega arith
-rule-below (Query.Choice a b d) e = omega arith
-rule-below (Query.Product a b) e = omega arith
-rule-below (Query.Union a b) e = omega arith
-rule-below (Query.Intersection a b) e = omega arith
+pub rule-below : (y : Query) → ruleNumber y < 25
+rule-below Query.Malformed = omega arith
+rule-below Query.Empty = omega arith
+rule-below (Query.Relation a) = omega arith
+rule-below (Query.Select a b) = omega arith
+rule-below (Query.Project a b) = omega arith
+rule-below (Query.Choice a b d) = omega arith
+rule-below (Query.Product a b) = omega arith
+rule-below (Query.Union a b) = omega arith
+rule-below (Query.Intersection a b) = omega arith
 
 -- 16 is of the first phase of a select
 first-number : (phase : ℕ) (y : Query) → faultNumber phase y ≡ 16 → (phase ≡ 0) × (a : ℕ) × (b : ℕ) × (y ≡ Query.Select a b)
@@ -279,7 +279,7 @@ first-number (suc phase) y e = absurd (omega arith)
 clash-select : (T : Tables) (phase c q : ℕ) → faultNumber phase (formAt T q) ≡ 25 → faults T c phase q ≢ 0
     → (0 < phase) × (a : ℕ) × (b : ℕ) × (formAt T q ≡ Query.Select a b)
 unfolding faults
-clash-select T zero c q e n = absurd (rule-below (formAt T q) e)
+clash-select T zero c q e n = absurd (omega (arith, rule-below (formAt T q), e))
 clash-select T (suc zero) c q e n = go (formAt T q) refl n
   where
     go : (y : Query) → formAt T q ≡ y → clashesIn T c y ≢ 0 → (0 < 1) × (a : ℕ) × (b : ℕ) × (formAt T q ≡ Query.Select a b)
@@ -328,10 +328,14 @@ module _ {T : Tables} (F : Formed T) where
         compared-where F (r .configuration) (r .place) (s .0) (s .1) (s .2) here (below-forms (r .configuration) here)
         ∙ ne-eqb (faults T (r .configuration) 0 (r .place)) 0 (rw (is-first is16) at (fails-where T (r .configuration) (r .place) (f .phase) .0 (f .failing) .1));
     comparedAlways = λ is25 c e.
-        let s = clash-select T (f .phase) (r .configuration) (r .place) (sym (f .numbered) ∙ is25)
-        (fails-where T (r .configuration) (r .place) (f .phase) .0 (f .failing) .1) in
+        let s = kind-select is25 in
         compared-where F c (r .place) (s .1) (s .2) (s .3) e (below-forms c e)
         ∙ eq-eqb (faults T c 0 (r .place)) 0 (holds-where T c (r .place) 0 .0 (f .lowerPhases 0 c (let z = s .0 in omega arith) (within c (r .place) e)) e);
+    twoKinds = λ is25.
+        let s = kind-select is25 in
+        let second : f .phase ≡ 1 = (let l = s .0 in let n = f .isPhase in omega arith) in
+        alike-where F (r .configuration) (r .place) (s .1) (s .2) (f .inside) (s .3)
+        ∙ ne-eqb (faults T (r .configuration) 1 (r .place)) 0 (rw second at (fails-where T (r .configuration) (r .place) (f .phase) .0 (f .failing) .1));
   }
     where
       here : reached T (r .configuration) (r .place) ≡ true
@@ -356,6 +360,11 @@ module _ {T : Tables} (F : Formed T) where
 
       the-select : r .number ≡ 16 → (a : ℕ) × (b : ℕ) × (formAt T (r .place) ≡ Query.Select a b)
       the-select is16 = let s = first-number (f .phase) (formAt T (r .place)) (sym (f .numbered) ∙ is16) in (s .1, s .2, s .3)
+
+      kind-select : r .number ≡ 25 → (0 < f .phase) × (a : ℕ) × (b : ℕ) × (formAt T (r .place) ≡ Query.Select a b)
+      kind-select is25 =
+          clash-select T (f .phase) (r .configuration) (r .place) (sym (f .numbered) ∙ is25)
+          (fails-where T (r .configuration) (r .place) (f .phase) .0 (f .failing) .1)
 
       first-phase : r .number ≡ 16 → (c : ℕ) → c < r .configuration → fails T c 0 (r .place) ≡ false
       first-phase is16 c l = ap (λ (i : ℕ). fails T c i (r .place)) (sym (is-first is16)) ∙ f .lowerConfigurations c l

@@ -1,4 +1,5 @@
--- Checking accepts exactly where the typing rules do (specs/Rules), and the column rows are those of the rules.
+-- The typing rules (specs/Rules) hold exactly where the configured report passes the plain rules; checking accepts exactly where they do, and the column
+-- rows are those of the rules.
 use Prim.Native.Nat.{ℕ, _^_, _<_}
 use mathlib.Core.Path.{_≡_, refl, sym, ap, ap₂, _∙_, fun-ext}
 use mathlib.Core.Bool.{Bool, true, false, cond, _&&_, _||_}
@@ -10,13 +11,16 @@ use Rattle.sets.specs.Bits.{bit, difference}
 use Rattle.sets.specs.Lists.{concat}
 use Rattle.sets.specs.Rows.{rowOf}
 use Rattle.sets.proofs.BitLaws.{xor-zero, subset-and}
-use Rattle.report.specs.Tables.{Tables, queryCount, report}
+use Rattle.report.specs.Tables.{Tables, kindOf, queryCount, report}
 use Rattle.report.specs.Expressions.{permitted}
 use Rattle.report.specs.Typing.{taken, reached, relationSet, projectSet, names, setRule, setOf, faultsOf, clashesIn, faults, fails, keeps}
 use Rattle.report.specs.ColumnRows.{hasColumn, columnRows, shown}
 use Rattle.report.specs.Rules.{Rule, Rules, ruledRows}
+use Rattle.report.specs.PlainAlgebra.{passes}
+use Rattle.report.specs.ConfiguredReport.{configuredReport, configuredSchema}
 use Rattle.report.specs.Formed.{Formed}
 use Rattle.report.specs.Calls.{answer, Sound, checking}
+use Rattle.report.specs.GivenDemands.{RulesThroughout, PassesThroughout}
 use Rattle.report.specs.declared.Query.{Query}
 use Rattle.report.specs.declared.Verdict.{Verdict}
 use Rattle.report.proofs.ValueLaws.{strong}
@@ -26,10 +30,10 @@ use Rattle.report.proofs.KindMembers.{no-clash}
 use Rattle.report.proofs.PassingOn.{passesTo, same-number, or-first, or-second}
 use Rattle.report.proofs.LeadLaws.{formAt, passed-lower}
 use Rattle.report.proofs.ReachLaws.{reached-in, reached-next, reached-report}
-use Rattle.report.proofs.TreeLaws.{reached-permitted, keeps-where}
-use Rattle.report.proofs.TypingLaws.{permitted-within, shown-columns}
+use Rattle.report.proofs.TreeLaws.{keeps-where, report-passes}
+use Rattle.report.proofs.TypingLaws.{permitted-within, typing-passes, shown-columns}
 use Rattle.report.proofs.CallLaws.{sound-formed}
-use Rattle.report.proofs.Refusing.{accepted-exactly}
+use Rattle.report.proofs.Refusing.{check-typing, accepted-exactly}
 
 -- ---- one form
 
@@ -101,6 +105,21 @@ module _ {T : Tables} (F : Formed T) (c : ℕ) (ok : permitted T c ≡ true) whe
   pub rules-shown : (S : ℕ → ℕ) → Rules T c S → S (report T) ≡ shown (columnRows T) c
   rules-shown S k = rules-sets S k (report T) (reached-report F c ok) .0 ∙ sym (shown-columns F c ok)
 
+-- ---- typing rules and plain rules
+
+module _ {T : Tables} (F : Formed T) where
+  -- at a permitted configuration there are sets that keep the typing rules exactly where the configured report passes the plain rules
+  pub rules-plain : (c : ℕ) → permitted T c ≡ true
+      → ((S : ℕ → ℕ) × Rules T c S) ↔ (passes (kindOf T) (configuredSchema T c) (configuredReport T c) ≡ true)
+  rules-plain c ok =
+      let sets = rules-exactly F c ok in
+      let plain = report-passes F c ok in
+      (λ s. plain .1 (sets .0 s), λ e. sets .1 (plain .0 e))
+
+  -- so at all of them
+  pub rules-throughout : RulesThroughout T ↔ PassesThroughout T
+  rules-throughout = (λ k c ok. rules-plain c ok .0 (k c ok), λ p c ok. rules-plain c ok .1 (p c ok))
+
 -- ---- the column rows
 
 module _ {T : Tables} (F : Formed T) (S : ℕ → ℕ → ℕ) (keep : (c : ℕ) → permitted T c ≡ true → Rules T c (S c)) where
@@ -125,13 +144,12 @@ module _ (T : Tables) (sound : Sound T) where
   accepted-sets e c p = sets-rules (sound-formed T sound) c p (λ q phase. accepted-exactly T sound .0 e c q phase (permitted-within T c p))
 
   -- of sound tables a check with 1,024 words of rows accepts exactly where at each permitted configuration there are sets that keep the rules
-  pub accepted-rules : (answer T (checking 1024) ≡ Verdict.Accepted) ↔ ((c : ℕ) → permitted T c ≡ true → (S : ℕ → ℕ) × Rules T c S)
-  accepted-rules = (
-    λ e c p. (setOf T c, accepted-sets e c p),
-    λ f. accepted-exactly T sound .1
-        (λ c q phase h l.
-        keeps-where T c q .1 (λ r. let p = reached-permitted T c q r in rules-sets (sound-formed T sound) c p (f c p .0) (f c p .1) q r .1) phase),
-  )
+  pub accepted-rules : (answer T (checking 1024) ≡ Verdict.Accepted) ↔ RulesThroughout T
+  accepted-rules =
+      let same = check-typing T sound in
+      let typed = typing-passes (sound-formed T sound) in
+      let ruled = rules-throughout (sound-formed T sound) in
+      (λ e. ruled .1 (typed .0 (sym same ∙ e)), λ k. same ∙ typed .1 (ruled .0 k))
 
   -- there the report has one set, and the column rows show it
   pub accepted-shown : (c : ℕ) → permitted T c ≡ true → (S : ℕ → ℕ) → Rules T c S → S (report T) ≡ shown (columnRows T) c

@@ -6,7 +6,7 @@ use mathlib.Core.List.{List}
 use lib.Dec.{eqb}
 use lib.Bits.{bitAnd, bitOr}
 use Rattle.report.specs.Tables.{Tables, expression, comparison, query, projectStart}
-use Rattle.report.specs.Tables.{expressionCount, comparisonCount, queryCount}
+use Rattle.report.specs.Tables.{comparisonCount, queryCount}
 use Rattle.report.specs.Operands.{comparisonOperands, queryOperands}
 use Rattle.report.specs.Expressions.{truthOf, holds}
 use Rattle.report.specs.Typing.{at, onward, passesOn, leads, projectSet, gatheredOf, gathered, setRule, setOf}
@@ -19,7 +19,7 @@ use Rattle.report.specs.declared.Comparison.{Comparison}
 use Rattle.report.specs.declared.Query.{Query}
 use Rattle.report.specs.declared.Operands.{Operands}
 use Rattle.report.proofs.ValueLaws.{value-step}
-use Rattle.report.proofs.FormedFacts.{expression-at, comparison-operands, query-operands}
+use Rattle.report.proofs.FormedFacts.{comparison-operands, query-operands}
 
 -- the alternative that a choice takes is one of two lower ones
 pub taken-below : (t : Bool) {b d n : ℕ} → (b < n) × (d < n) → cond t b d < n
@@ -160,10 +160,6 @@ module _ (T : Tables) (c q : ℕ) (l : OperandsBelow q (queryOperands (query (T 
 -- ---- the same of a form of accepted tables
 
 module _ {T : Tables} (F : Formed T) (c : ℕ) where
-  -- table 0
-  pub holds-in : (f : ℕ) → f < expressionCount T → holds (T .expressions) c f ≡ truthOf c (holds (T .expressions) c) (expression (T .expressions) f)
-  holds-in f h = holds-step (T .features) (T .expressions) c f (expression-at F f h)
-
   module _ (f : ℕ) (h : f < comparisonCount T) where
     -- table 3
     pub gathered-in : (own : Comparison → ℕ)

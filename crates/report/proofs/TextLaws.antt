@@ -121,10 +121,6 @@ decimal-length = decimal-ind (λ n ds. (k : ℕ) → 0 < k → n < 10 ^ k → le
         let b = before (suc k) (omega arith) (omega (arith, pow-suc 10 (suc k), div-add-mod' n 10)) in
         omega (arith, length-append (decimal (n / 10)) ((48 + n % 10) ∷ []))
 
--- what a harbour file may hold has at most five
-pub decimal-short : (n : ℕ) → n ≤ 65535 → length (decimal n) ≤ 5
-decimal-short n h = decimal-length n 5 (omega arith) (omega arith)
-
 -- ---- the numbers in a text
 
 -- a decimal is read back: what follows goes on from its value

@@ -20,7 +20,7 @@ use Rattle.report.specs.Typing.{clashOf, clashes, setRule, setOf, faults
 use Rattle.report.specs.PlainAlgebra.{PlainComparison, PlainQuery, named, oneKind, inSchema, attributesIn, columns, passes}
 use Rattle.report.specs.ConfiguredReport.{plainComparisonOf, plainComparisonAt, plainQueryOf, plainQueryAt, configuredReport, configuredSchema}
 use Rattle.report.specs.Formed.{Formed, OperandsBelow}
-use Rattle.report.specs.TypingFaults.{PartOf, comparedThere}
+use Rattle.report.specs.TypingFaults.{PartOf, comparedThere, comparedAlike}
 use Rattle.report.specs.declared.Comparison.{Comparison}
 use Rattle.report.specs.declared.Query.{Query}
 use Rattle.report.specs.declared.Operands.{Operands}
@@ -372,6 +372,15 @@ module _ {T : Tables} (F : Formed T) (c : ℕ) where
       ap (comparedThere (configuredSchema T c)) (plain-query-in F c q h ∙ ap (plainQueryOf T c (plainQueryAt T c) q) e)
       ∙ ap₂ (λ (x y : ℕ). eqb (difference x y) 0) (named-names T c a) s
       ∙ ap (λ (y : Query). eqb (faultsOf T c q y) 0) (sym e)
+
+  -- in a select both sides of all that is compared have one kind exactly where the second phase finds nothing
+  pub alike-where : (q a b : ℕ) → q < queryCount T → formAt T q ≡ Query.Select a b
+      → comparedAlike (kindOf T) (plainQueryAt T c q) ≡ eqb (faults T c 1 q) 0
+  unfolding faults
+  alike-where q a b h e =
+      ap (comparedAlike (kindOf T)) (plain-query-in F c q h ∙ ap (plainQueryOf T c (plainQueryAt T c) q) e)
+      ∙ one-kind T c a
+      ∙ ap (λ (y : Query). eqb (clashesIn T c y) 0) (sym e)
 
   -- at a permitted configuration the configured report passes exactly where no form fails
   pub report-passes : permitted T c ≡ true → (passes (kindOf T) (configuredSchema T c) (configuredReport T c) ≡ true)

@@ -19,10 +19,9 @@ use Rattle.sets.proofs.ListLaws.{concat-length}
 use Rattle.sets.proofs.RowLaws.{rowIn-concat, rowBit-rowOf, rowOf-row}
 use Rattle.report.specs.Tables.{Tables, kindOf, queryCount, report}
 use Rattle.report.specs.Expressions.{configurations, permitted}
-use Rattle.report.specs.Typing.{reached, present, setOf, faultsOf, faultsIn, faults, fails}
-use Rattle.report.specs.ColumnRows.{hasColumn, columnRows, shown}
+use Rattle.report.specs.Typing.{present, setOf, faultsOf, faultsIn, faults, fails}
+use Rattle.report.specs.ColumnRows.{hasColumn, columnRow, columnRows, shown}
 use Rattle.report.specs.PlainAlgebra.{passes}
-use Rattle.report.specs.Rules.{Rule}
 use Rattle.report.specs.ConfiguredReport.{configuredReport, configuredSchema}
 use Rattle.report.specs.Verdicts.{refusal, refuseAt}
 use Rattle.report.specs.Checks.{ruleNumber, faultNumber, faultRefusal, phaseAt, typingAt, typingCheck, isOfTyping, isTypingFault}
@@ -33,9 +32,8 @@ use Rattle.report.specs.declared.Refusal.{Refusal}
 use Rattle.report.specs.declared.Verdict.{Verdict}
 use Rattle.report.proofs.VerdictLaws.{accepted-not-refused, at-accepted, first-accepted, accepted-first, refused-first, first-refused}
 use Rattle.report.proofs.FormedFacts.{report-in}
-use Rattle.report.proofs.SetLaws.{kept-sets, set-narrow, narrow-word, faults-narrow}
+use Rattle.report.proofs.SetLaws.{set-narrow, narrow-word, faults-narrow}
 use Rattle.report.proofs.LeadLaws.{formAt}
-use Rattle.report.proofs.ReachLaws.{reached-in}
 use Rattle.report.proofs.TreeLaws.{reached-permitted, fails-where, keeps-where, report-passes}
 
 -- ---- a permitted configuration is one
@@ -86,13 +84,6 @@ module _ {T : Tables} (F : Formed T) where
         keeps-where T c q .1
         (λ r. let p = reached-permitted T c q r in keeps-where T c q .0 (λ phase. report-passes F c p .0 (f c p) q phase l) r) phase),
   )
-
-  -- then every form keeps its rule wherever it is reached, and has the set that the typing rules give it
-  pub typing-keeps : typingCheck T ≡ Verdict.Accepted → (c q : ℕ) → reached T c q ≡ true → Rule T c (setOf T c) q (formAt T q)
-  typing-keeps e c q r =
-      let p = reached-permitted T c q r in
-      let h = reached-in F c p q r in
-      kept-sets F c q h (keeps-where T c q .0 (λ phase. typing-accepted T .0 e c q phase (permitted-within T c p) h) r)
 
 -- ---- what it names where it refuses
 
@@ -209,20 +200,20 @@ module _ {T : Tables} (F : Formed T) (r : Refusal) (f : TypingFault T r) where
 -- ---- the column rows
 
 module _ (T : Tables) where
-  rows-wide : (a : ℕ) → a < 64 → length (rowOf 16 (hasColumn T a)) ≡ 16
-  rows-wide a h = rowOf-row 16 (hasColumn T a) .size
+  pub column-wide : (a : ℕ) → length (columnRow T a) ≡ 16
+  column-wide a = rowOf-row 16 (hasColumn T a) .size
 
   -- they are 1,024 words
   pub rows-length : length (columnRows T) ≡ 1024
   unfolding columnRows
-  rows-length = concat-length (λ a. rowOf 16 (hasColumn T a)) 16 64 rows-wide
+  rows-length = concat-length (columnRow T) 16 64 (λ a h. column-wide a)
 
   -- bit c of row a says whether c is permitted and the report's set at c has attribute a
   pub row-shows : (a c : ℕ) → a < 64 → c < 1024 → rowBit (rowIn 16 (columnRows T) a) c ≡ hasColumn T a c
   unfolding columnRows
   row-shows a c h l =
       ap (λ (x : List ℕ). rowBit x c)
-      (ap (λ (x : List ℕ). rowIn 16 x a) (sym (append-nil (columnRows T))) ∙ rowIn-concat 16 64 (λ a. rowOf 16 (hasColumn T a)) [] rows-wide a h)
+      (ap (λ (x : List ℕ). rowIn 16 x a) (sym (append-nil (columnRows T))) ∙ rowIn-concat 16 64 (columnRow T) [] (λ i l. column-wide i) a h)
       ∙ rowBit-rowOf 16 (hasColumn T a) c l
 
   -- they show nothing where c is not permitted

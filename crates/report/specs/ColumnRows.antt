@@ -13,9 +13,13 @@ use Rattle.report.specs.Typing.{setOf}
 abbrev pub hasColumn : Tables → ℕ → ℕ → Bool
 hasColumn T a c = permitted T c && bit (setOf T c (report T)) a
 
--- the column rows: 64 rows, one an attribute, each of sixteen words
+-- the column row of attribute a, of sixteen words
+abbrev pub columnRow : Tables → ℕ → List ℕ
+columnRow T a = rowOf 16 (hasColumn T a)
+
+-- the column rows: 64 rows, one an attribute
 unfoldable pub columnRows : Tables → List ℕ
-columnRows T = concat 64 (λ a. rowOf 16 (hasColumn T a))
+columnRows T = concat 64 (columnRow T)
 
 -- what rows "show" at c: the attributes whose bit for c is 1
 abbrev pub shown : List ℕ → ℕ → ℕ

@@ -6,6 +6,7 @@ use mathlib.Core.Logic.{_↔_}
 use Rattle.report.specs.Tables.{Tables, kindOf}
 use Rattle.report.specs.Expressions.{permitted}
 use Rattle.report.specs.ColumnRows.{columnRows, shown}
+use Rattle.report.specs.Rules.{Rules}
 use Rattle.report.specs.PlainAlgebra.{columns, passes}
 use Rattle.report.specs.ConfiguredReport.{configuredReport, configuredSchema}
 use Rattle.report.specs.Verdicts.{firstOf, Foremost, NoneHolds}
@@ -33,6 +34,10 @@ EarlyFirst G = (r : Refusal) → firstOf (G .first) ≡ Verdict.Refused r → is
 pub record FirstFaultTo (G : Given) (call : Call) : Type 0 where
   pub refuses : (r : Refusal) → (answerTo G call ≡ Verdict.Refused r) ↔ Foremost (conditionsTo G call) r
   pub accepts : (answerTo G call ≡ Verdict.Accepted) ↔ NoneHolds (conditionsTo G call)
+
+-- the typing rules hold at every permitted configuration: there are sets that keep them
+abbrev pub RulesThroughout : Tables → Type 0
+RulesThroughout T = (c : ℕ) → permitted T c ≡ true → (S : ℕ → ℕ) × Rules T c S
 
 -- the configured report passes the plain rules at every permitted configuration
 abbrev pub PassesThroughout : Tables → Type 0

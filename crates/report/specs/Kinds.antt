@@ -1,14 +1,14 @@
 -- Kinds, in the words of document 02: what is at fault where they differ, and what was checked before comparisons had kinds
 -- (docs/changes/05-a-time-is-not-a-count.md). proofs/KindLaws says what has not changed, proofs/KindMembers what is at fault.
-use Prim.Native.Nat.{ℕ, _^_, _<_}
+use Prim.Native.Nat.{ℕ, _*_, _^_, _<_}
 use mathlib.Core.Path.{_≡_}
 use mathlib.Core.Bool.{true, false, _&&_, not}
 use mathlib.Core.List.{List}
 use lib.Dec.{eqb}
-use lib.ListN.{replicate}
+use lib.ListN.{getD, replicate}
 use Rattle.sets.specs.Search.{lowest}
 use Rattle.sets.specs.Lists.{kept}
-use Rattle.report.specs.Tables.{Tables, kindOf, comparison, query, comparisonCount, queryCount, relationsEnd, expressionCount, relationCount}
+use Rattle.report.specs.Tables.{Tables, kindOf, word, comparison, query, comparisonCount, queryCount, relationsEnd, expressionCount, relationCount}
 use Rattle.report.specs.Operands.{sidesIn}
 use Rattle.report.specs.Expressions.{configurations}
 use Rattle.report.specs.Typing.{phases, reached, kindsDiffer, leftOf, compares, fails}
@@ -22,6 +22,16 @@ use Rattle.report.specs.declared.Comparison.{Comparison}
 use Rattle.report.specs.declared.Query.{Query}
 use Rattle.report.specs.declared.Refusal.{Refusal}
 use Rattle.report.specs.declared.Verdict.{Verdict}
+
+-- ---- a comparison with a constant
+
+-- the words of form f of table 3: kind 2, the operator, the attribute, the constant, and word c
+pub record IsKind2 (T : Tables) (f operator attribute constant wordC : ℕ) : Type 0 where
+  pub kind : getD (T .comparisons) (f * 5) 0 ≡ 2
+  pub operatorIs : word (T .comparisons) 5 f 1 ≡ operator
+  pub attributeIs : word (T .comparisons) 5 f 2 ≡ attribute
+  pub constantIs : word (T .comparisons) 5 f 3 ≡ constant
+  pub wordCIs : word (T .comparisons) 5 f 4 ≡ wordC
 
 -- ---- both sides have one kind
 

@@ -10,7 +10,7 @@ use Rattle.sets.specs.Bits.{bit, lowestMember}
 use Rattle.report.specs.Tables.{Tables, kindOf, query, queryCount}
 use Rattle.report.specs.Expressions.{configurations, permitted}
 use Rattle.report.specs.Typing.{phases, passesOn, reached, faults, fails}
-use Rattle.report.specs.PlainAlgebra.{PlainComparison, PlainQuery, Schema, namesThere, columns, passes}
+use Rattle.report.specs.PlainAlgebra.{PlainComparison, PlainQuery, Schema, Kinds, oneKind, namesThere, columns, passes}
 use Rattle.report.specs.ConfiguredReport.{plainQueryAt, configuredReport, configuredSchema}
 use Rattle.report.specs.Checks.{faultNumber}
 use Rattle.report.specs.Calls.{Call, answer}
@@ -57,6 +57,16 @@ comparedThere schema (PlainQuery.product p q) = true
 comparedThere schema (PlainQuery.union p q) = true
 comparedThere schema (PlainQuery.intersection p q) = true
 
+-- and the second
+abbrev pub comparedAlike : Kinds → PlainQuery → Bool
+comparedAlike kind PlainQuery.empty = true
+comparedAlike kind (PlainQuery.relation r) = true
+comparedAlike kind (PlainQuery.select t q) = oneKind kind t
+comparedAlike kind (PlainQuery.project l q) = true
+comparedAlike kind (PlainQuery.product p q) = true
+comparedAlike kind (PlainQuery.union p q) = true
+comparedAlike kind (PlainQuery.intersection p q) = true
+
 -- what it names, said of the plain rules
 pub record Breaks (T : Tables) (r : Refusal) : Type 0 where
   -- the configuration is permitted, and there the configured report breaks a rule
@@ -69,7 +79,7 @@ pub record Breaks (T : Tables) (r : Refusal) : Type 0 where
       → passes (kindOf T) (configuredSchema T (r .configuration)) (plainQueryAt T (r .configuration) x) ≡ true
   pub formBreaks : passes (kindOf T) (configuredSchema T (r .configuration)) (plainQueryAt T (r .configuration) (r .place)) ≡ false
   -- the form is the lowest such, and the configuration its lowest. But 16 is looked for at all configurations before 25 is. So by 16 a compared attribute
-  -- is missing there, and at lower configurations none is; by 25 none is missing at any
+  -- is missing there, and at lower configurations none is; by 25 none is missing at any, and there the node is a select that compares two kinds
   pub lowerForms : (q c : ℕ) → q < r .place → reached T c q ≡ true → passes (kindOf T) (configuredSchema T c) (plainQueryAt T c q) ≡ true
   pub lowerConfigurations : r .number ≢ 16 → (c : ℕ) → c < r .configuration → reached T c (r .place) ≡ true
       → passes (kindOf T) (configuredSchema T c) (plainQueryAt T c (r .place)) ≡ true
@@ -77,6 +87,7 @@ pub record Breaks (T : Tables) (r : Refusal) : Type 0 where
       → comparedThere (configuredSchema T c) (plainQueryAt T c (r .place)) ≡ true
   pub missing : r .number ≡ 16 → comparedThere (configuredSchema T (r .configuration)) (plainQueryAt T (r .configuration) (r .place)) ≡ false
   pub comparedAlways : r .number ≡ 25 → (c : ℕ) → reached T c (r .place) ≡ true → comparedThere (configuredSchema T c) (plainQueryAt T c (r .place)) ≡ true
+  pub twoKinds : r .number ≡ 25 → comparedAlike (kindOf T) (plainQueryAt T (r .configuration) (r .place)) ≡ false
 
 -- what an answer that refuses for a typing fault names
 pub record NamedBy (T : Tables) (v : Verdict) : Type 0 where

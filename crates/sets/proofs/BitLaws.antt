@@ -9,7 +9,7 @@ use native.Mathlib.Decide.{decLt, ℕ-discrete}
 use native.Mathlib.Omega.{arith}
 use lib.Dec.{eqb, ltb, leb, eqb·suc-suc, eqb·suc-zero, eqb·zero-suc}
 use lib.Arith.{digits-div, digits-mod, lt-one}
-use lib.Pow.{pow-pos, pow-mono, pow-lt, ones-lt, ones-sub-lt, shr-shr, high, shl-exact}
+use lib.Pow.{pow-pos, pow-mono, pow-lt, ones-lt, shr-shr, high, shl-exact}
 use lib.Bits.{bitAnd, bitOr, bitXor, differ, block-half, block-odd, and-step, or-step, xor-step}
 use lib.Bits.{and-lt, or-lt, xor-lt, and-le-l, and-le-r, xor-self, or-add-and, xor-add-and}
 use lib.Count.{trailingZeros, under, ones, ones-step}
@@ -193,9 +193,6 @@ module _ (k : ℕ) (p q : ℕ → Bool) where
   pub or-bitsOf : bitOr (bitsOf k p) (bitsOf k q) ≡ bitsOf k (λ j. p j || q j)
   or-bitsOf = op-bitsOf bitOr _||_ bit-or (or-lt k (bitsOf k p) (bitsOf k q))
 
-  pub xor-bitsOf : bitXor (bitsOf k p) (bitsOf k q) ≡ bitsOf k (λ j. xor (p j) (q j))
-  xor-bitsOf = op-bitsOf bitXor xor bit-xor (xor-lt k (bitsOf k p) (bitsOf k q))
-
   pub difference-bitsOf : difference (bitsOf k p) (bitsOf k q) ≡ bitsOf k (λ j. p j && not (q j))
   difference-bitsOf = op-bitsOf difference (λ a b. a && not b) bit-difference (λ h l. difference-lt k (bitsOf k p) (bitsOf k q) h)
 
@@ -213,12 +210,6 @@ pub bit-not : (k b i : ℕ) → b < 2 ^ k → i < k → bit (2 ^ k - 1 - b) i �
 bit-not k b i h l =
     ap (λ (x : ℕ). bit (2 ^ k - 1 - x) i) (sym (bitsOf-bit k b h)) ∙ ap (λ (x : ℕ). bit x i) (not-bitsOf k (bit b))
     ∙ bit-bitsOf k (λ j. not (bit b j)) i l
-
--- the difference by that complement
-pub difference-not : (k a b : ℕ) → b < 2 ^ k → a < 2 ^ k → bitAnd a (2 ^ k - 1 - b) ≡ difference a b
-difference-not k a b l h =
-    bits-same k (bitAnd a (2 ^ k - 1 - b)) (difference a b) (and-lt k a (2 ^ k - 1 - b) h (ones-sub-lt k b)) (difference-lt k a b h)
-    (λ i g. bit-and a (2 ^ k - 1 - b) i ∙ ap (λ (t : Bool). bit a i && t) (bit-not k b i l g) ∙ sym (bit-difference a b i))
 
 -- ---- no bit, every bit, the bits below m, one bit
 
@@ -294,13 +285,6 @@ subset-bit x y e i t = go (bit y i) refl
     go false h =
         let f = ap (λ (z : ℕ). bit z i) (sym e) ∙ bit-difference x y i in
         absurd (false≢true (sym (bit-none i) ∙ f ∙ ap₂ (λ (p q : Bool). p && not q) t h))
-
-pub bit-subset : (k x y : ℕ) → x < 2 ^ k → ((i : ℕ) → i < k → bit x i ≡ true → bit y i ≡ true) → difference x y ≡ 0
-bit-subset k x y h e = zero-bits k (difference x y) (difference-lt k x y h) (λ i l. bit-difference x y i ∙ go (bit x i) (bit y i) (e i l))
-  where
-    go : (p q : Bool) → (p ≡ true → q ≡ true) → (p && not q) ≡ false
-    go true q g = ap not (g refl)
-    go false q g = refl
 
 pub subset-and : (x y : ℕ) → difference x y ≡ 0 → bitAnd x y ≡ x
 subset-and x y e = sym (xor-same x (bitAnd x y) e)
@@ -430,13 +414,6 @@ zero-lowest k = nothing-lowest (bit 0) k (λ i l. bit-none i)
 
 pub trailing-member : (x : ℕ) → x < 2 ^ 64 → x ≢ 0 → lowestMember x ≡ trailingZeros 64 x
 trailing-member x h e = ap foundOr0 (trailing-lowest 64 x h e)
-
-pub trailing-pow : (k a : ℕ) → a < k → trailingZeros k (2 ^ a) ≡ a
-trailing-pow k a h =
-    let e = trailing-lowest k (2 ^ a) (pow-lt h) (λ z. omega (arith, pow-pos a)) in
-    let f = at-lowest (bit (2 ^ a)) k a
-    (record { below = h; holds = bit-pow a a ∙ eq-eqb a a refl; before = λ j l. bit-pow a j ∙ ne-eqb j a (λ z. omega arith) }) in
-    cc
 
 -- count_ones is how many bits are 1
 pub ones-count : (k n : ℕ) → n < 2 ^ k → ones n ≡ countBelow (bit n) k

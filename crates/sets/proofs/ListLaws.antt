@@ -87,9 +87,6 @@ module _ {A : Type 0} where
   concat-same (suc n) f g h = ap₂ _++_ (concat-same n f g (λ i k. h i (omega arith))) (h n (le-refl (suc n)))
 
   module _ (f : ℕ → List A) where
-    pub concat-suc : (n : ℕ) → concat (suc n) f ≡ concat n f ++ f n
-    concat-suc n = refl
-
     size-suc : (n : ℕ) → length (concat (suc n) f) ≡ length (concat n f) + length (f n)
     size-suc n = length-append (concat n f) (f n)
 

@@ -1,9 +1,9 @@
 -- Laws of rows, for any number of words and of features.
 use Prim.Native.Nat.{ℕ, zero, suc, _+_, _-_, _*_, _/_, _%_, _^_, _<_, _≤_}
 use mathlib.Core.Path.{_≡_, refl, sym, ap, ap₂, _∙_}
-use mathlib.Core.Bool.{Bool, true, false, not, _&&_, _||_, and-true, false≢true}
+use mathlib.Core.Bool.{Bool, true, false, not, _&&_, _||_, and-true, and-false, false≢true}
 use mathlib.Core.List.{List, [], _∷_, _++_, append-assoc}
-use mathlib.Core.Logic.{_≢_, _↔_, ⊎-elim}
+use mathlib.Core.Logic.{_≢_, ⊎-elim}
 use native.Mathlib.Nat.{not-suc-le-zero, le-of-suc-le-suc, le-refl, eq-or-lt-of-le, div-add-mod', zero-mul, suc-mul, mul-le-mul-right}
 use native.Mathlib.Decide.{decLt}
 use native.Mathlib.Numerals.{add-one}
@@ -63,11 +63,6 @@ rowOf-rowBit n l r =
     table-of 0 n (wordOf (rowBit l)) l (r .size)
     (λ i g. sym (bitsOf-is 64 (getD l i 0) (λ j. rowBit l (i * 64 + j)) (r .fits i g) (λ j k. sym (rowBit-word l i j k))))
 
--- rows are equal exactly where they have the same configurations
-pub rows-equal : (n : ℕ) (s t : List ℕ) → IsRow n s → IsRow n t → (s ≡ t) ↔ ((c : ℕ) → c < n * 64 → rowBit s c ≡ rowBit t c)
-rows-equal n s t a b =
-    (λ e c h. ap (λ (l : List ℕ). rowBit l c) e, λ h. rowOf-rowBit n s a ∙ rowOf-same n (rowBit s) (rowBit t) h ∙ sym (rowOf-rowBit n t b))
-
 -- ---- the configurations of n features
 
 module _ (n : ℕ) (p : ℕ → Bool) where
@@ -79,13 +74,6 @@ module _ (n : ℕ) (p : ℕ → Bool) where
 
   pub bit-within : (w c : ℕ) → c < 2 ^ n → c < w * 64 → rowBit (rowOf w (within n p)) c ≡ p c
   bit-within w c h l = rowBit-rowOf w (within n p) c l ∙ within-in c h
-
-pub within-same : (n : ℕ) (p q : ℕ → Bool) → ((c : ℕ) → c < 2 ^ n → p c ≡ q c) → (c : ℕ) → within n p c ≡ within n q c
-within-same n p q h c = go (decLt c (2 ^ n))
-  where
-    go : Dec (c < 2 ^ n) → within n p c ≡ within n q c
-    go (yes l) = ap (λ (t : Bool). ltb c (2 ^ n) && t) (h c l)
-    go (no l) = within-out n p c (omega arith) ∙ sym (within-out n q c (omega arith))
 
 -- ---- union, intersection, difference: of the rows of tests, and of any words
 
@@ -152,6 +140,9 @@ complement-within w n p = minus-within w n (λ c. true) p
 
 pub within-all : (n c : ℕ) → within n (λ d. true) c ≡ ltb c (2 ^ n)
 within-all n c = and-true (ltb c (2 ^ n))
+
+pub none-within : (w n : ℕ) → rowOf w (λ c. false) ≡ rowOf w (within n (λ c. false))
+none-within w n = rowOf-same w (λ c. false) (within n (λ c. false)) (λ c h. sym (and-false (ltb c (2 ^ n))))
 
 module _ (m w : ℕ) where
   pub below-none : m ≤ w * 64 → wordOf (λ c. ltb c m) w ≡ 0

@@ -1,7 +1,7 @@
 -- Laws of searches and counts over the numbers below a bound.
 use Prim.Native.Nat.{ℕ, zero, suc, _+_, _<_, _≤_}
 use mathlib.Core.Path.{_≡_, refl, sym, ap, ap₂, _∙_}
-use mathlib.Core.Bool.{Bool, true, false, cond, not, _&&_, _||_, and-eq-true-iff, or-true, false≢true, Bool·not-not}
+use mathlib.Core.Bool.{Bool, true, false, cond, not, _&&_, _||_, and-eq-true-iff, or-true, false≢true}
 use mathlib.Core.Logic.{⊎-elim, _≢_}
 use native.Mathlib.Nat.{eq-or-lt-of-le, le-refl, add-zero, suc-add, not-suc-le-zero, le-of-suc-le-suc}
 use native.Mathlib.Numerals.{add-one, unary-clauses}
@@ -136,18 +136,6 @@ module _ (test : ℕ → Bool) (n : ℕ) where
 
   pub at-all : ((k : ℕ) → k < n → test k ≡ true) → allBelow test n ≡ true
   at-all h = ap not (none-some (λ j. not (test j)) n (λ k l. ap not (h k l)))
-
-  pub not-all : allBelow test n ≡ false → (k : ℕ) × (k < n) × (test k ≡ false)
-  not-all e =
-      let r = some-at (λ j. not (test j)) n (not-false (someBelow (λ j. not (test j)) n) e) in
-      (r .0, r .1, not-true (test (r .0)) (r .2))
-
-  pub allBelow-suc : allBelow test (suc n) ≡ (allBelow test n && test n)
-  allBelow-suc = ap not (someBelow-suc (λ j. not (test j)) n) ∙ go (someBelow (λ j. not (test j)) n) (test n)
-    where
-      go : (a b : Bool) → not (a || not b) ≡ (not a && b)
-      go true b = refl
-      go false b = Bool·not-not b
 
 -- a test that fails from m on may be looked for below m alone
 module _ (test : ℕ → Bool) (m n : ℕ) (more : m ≤ n) (out : (k : ℕ) → m ≤ k → test k ≡ false) where

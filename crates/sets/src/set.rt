@@ -8,7 +8,8 @@ ghost use lib.Dec.{eqb};
 ghost use Rattle.sets.specs.Search.{lowest};
 ghost use Rattle.sets.specs.Bits.{bit, difference, memberCount, hasFrom};
 
-// A set of attributes: attribute a is in it where bit a is 1. The type also holds the limits of features and attributes (docs/FORMAT.md).
+// A set of attributes: attribute a is in it where bit a is 1. MOST_ATTRIBUTES is how many a set has room for. MOST_FEATURES says nothing of a set: it
+// stands here because the specification names the two limits in one breath. The limits of tables are constants of `report::Limits`.
 pub struct AttributeSet {
     pub bits: u64,
 }

@@ -2,7 +2,6 @@
 use Prim.Native.Nat.{ℕ, _+_, _*_, _/_, _≤_}
 use mathlib.Core.Path.{_≡_, refl, sym, ap, _∙_}
 use mathlib.Core.List.{List}
-use native.Mathlib.Nat.{le-refl}
 use native.Mathlib.Omega.{arith}
 use lib.ListN.{length, replicate, length-replicate}
 use Rattle.sets.specs.declared.Found.{Found}
@@ -10,7 +9,6 @@ use Rattle.sets.specs.Search.{lowest}
 use Rattle.sets.specs.Lists.{concat}
 use Rattle.sets.specs.Rows.{rowIn, rowLowest}
 use Rattle.report.specs.Tables.{Tables, comparisonCount, queryCount}
-use Rattle.report.specs.Expressions.{configurations}
 use Rattle.report.specs.Configuring.{written}
 use Rattle.report.specs.Checks.{typingCheck}
 use Rattle.report.specs.declared.Verdict.{Verdict}
@@ -18,17 +16,16 @@ use Rattle.report.proofs.FormedFacts.{counts}
 use Rattle.report.proofs.TypingLaws.{permitted-within}
 use Rattle.comparisons.specs.declared.Gathered.{Gathered}
 use Rattle.expression_rows.specs.declared.Scope.{Scope}
-use Rattle.expression_rows.specs.TypingReads.{TypingReads, TypingReadable}
+use Rattle.expression_rows.specs.TypingReads.{TypingReads, TypingReadable, Checked}
+use Rattle.expression_rows.proofs.ColumnLaws.{columns-shown}
 use Rattle.attribute_rows.specs.AttributeRows.{gatheredRow, GatheredReads, GatheredReadable}
 use Rattle.attribute_rows.proofs.AttributeLaws.{gathered-are}
 use Rattle.fault_rows.specs.FaultRows.{failingRow, FailReadable, FailsFilled, ClashReads}
-use Rattle.fault_rows.proofs.FaultLaws.{columns-shown}
 use Rattle.fault_rows.proofs.FailLaws.{fails-rows}
 use Rattle.fault_rows.proofs.ClashLaws.{failing-rows}
 use Rattle.typing_at.specs.declared.Here.{Here}
-use Rattle.typing_at.specs.TypingAt.{HereReads, HereChecked, EachChecked}
-use Rattle.typing_at.proofs.EachLaws.{each-typing}
-use Rattle.typing.specs.Typed.{rowed, RowsReads, SecondReads, SecondReadable, Checked}
+use Rattle.typing_at.specs.TypingAt.{HereReads, HereChecked}
+use Rattle.typing.specs.Typed.{rowed, RowsReads, SecondReads, SecondReadable}
 use Rattle.typing.proofs.RowsVerdict.{rows-accepted, form-in, row-some, configuration-permitted, rows-refused}
 
 -- ---- the answer from the rows
@@ -158,8 +155,3 @@ module _ {T : Tables} {scope : Scope} {expressionRows relationEntries projectEnt
           answers = told T rows-read;
           shows = columns-shown (R .report .prepared .formed) (R .scoped .bounded) (rw (← clear) (L T R .shown));
         }
-
--- ---- the way configuration by configuration answers the same (each-typing), whatever the number of configurations up to which it is taken
-
-pub each-checked : {T : Tables} {v : Verdict} {columns : List ℕ} → EachChecked T v columns → Checked T v columns
-each-checked {T} E = record { answers = E .answers ∙ each-typing T (configurations T) (le-refl (configurations T)); shows = E .shows }

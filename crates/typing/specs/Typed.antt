@@ -5,9 +5,6 @@ use mathlib.Core.Bool.{Bool, not}
 use mathlib.Core.List.{List}
 use Rattle.sets.specs.Rows.{rowIn, rowIsEmpty, RowsAre}
 use Rattle.report.specs.Tables.{Tables, queryCount}
-use Rattle.report.specs.ColumnRows.{columnRows}
-use Rattle.report.specs.Checks.{typingCheck}
-use Rattle.report.specs.declared.Verdict.{Verdict}
 use Rattle.expression_rows.specs.ExpressionRows.{ReachFilled}
 use Rattle.expression_rows.specs.TypingReads.{ReportReads}
 use Rattle.attribute_rows.specs.AttributeRows.{GatheredReads}
@@ -39,8 +36,3 @@ pub record SecondReads (T : Tables) (full expressionRows comparisons queries kin
 pub record SecondReadable (full expressionRows comparisons queries kinds reach faultRows : List ℕ) : Type 0 where
   pub tables : Tables
   pub reads : SecondReads tables full expressionRows comparisons queries kinds reach faultRows
-
--- the answer, and the rows that are left whatever it is
-pub record Checked (T : Tables) (answer : Verdict) (columns : List ℕ) : Type 0 where
-  pub answers : answer ≡ typingCheck T
-  pub shows : columns ≡ columnRows T

@@ -10,6 +10,7 @@ use report::Limits;
 use report::Verdict;
 use sets::Found;
 use sets::Row;
+use typing_at::FEW;
 use typing_at::check_each;
 use typing_at::check_here;
 ghost use mathlib.Core.Path.{_≡_};
@@ -20,9 +21,9 @@ ghost use Rattle.sets.specs.Lists.{concat};
 ghost use Rattle.report.specs.Tables.{Tables, queryCount};
 ghost use Rattle.report.specs.Configuring.{written};
 ghost use Rattle.report.specs.Checks.{typingCheck};
-ghost use Rattle.expression_rows.specs.TypingReads.{TypingReads, TypingReadable};
+ghost use Rattle.expression_rows.specs.TypingReads.{TypingReads, TypingReadable, Checked};
 ghost use Rattle.fault_rows.specs.FaultRows.{failingRow};
-ghost use Rattle.typing.specs.Typed.{rowed, RowsReads, RowsReadable, SecondReads, SecondReadable, Checked};
+ghost use Rattle.typing.specs.Typed.{rowed, RowsReads, RowsReadable, SecondReads, SecondReadable};
 
 // The lowest of `count` rows that is not empty.
 fn lowest_row(count: usize, rows: &[u64]) -> Found
@@ -171,10 +172,6 @@ fn check_by_rows(
         &fault_rows,
     )
 }
-
-// How many permitted configurations are few: on reports of full size going through up to so many one by one takes less time than the rows of all do
-// (docs/changes/06-big-schema.md). Both ways answer the same, so the limit is a matter of time alone.
-const FEW: usize = 64;
 
 // Checks 15 to 19 and 25 of tables whose expression rows `expression_rows` starts with and whose reach rows `reach` starts with, and the column rows,
 // whatever the answer.

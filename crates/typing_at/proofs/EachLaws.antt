@@ -20,6 +20,7 @@ use Rattle.report.specs.declared.Verdict.{Verdict}
 use Rattle.report.proofs.VerdictLaws.{accepted-not-refused, if-accepted, accepted-if, first-accepted, accepted-first, first-refused, refused-first}
 use Rattle.report.proofs.TreeLaws.{reached-permitted, holds-where}
 use Rattle.report.proofs.TypingLaws.{permitted-within, fails-permitted, typing-accepted, typing-refused}
+use Rattle.report.proofs.Refusing.{rule-below}
 use Rattle.typing_at.specs.TypingAt.{phaseHere, formHere, typingHere, precedes, sooner, typingBelow}
 
 -- ---- the order of forms and phases
@@ -32,19 +33,7 @@ position q phase = q * phases + phase
 abbrev NoneBefore : Tables → ℕ → ℕ → ℕ → Type 0
 NoneBefore T from to n = (q phase c : ℕ) → phase < phases → position q phase < n → from ≤ c → c < to → fails T c phase q ≡ false
 
--- the number of a rule is below that of kinds
-rule-below : (y : Query) → ruleNumber y < 25
-rule-below Query.Malformed = omega arith
-rule-below Query.Empty = omega arith
-rule-below (Query.Relation a) = omega arith
-rule-below (Query.Select a b) = omega arith
-rule-below (Query.Project a b) = omega arith
-rule-below (Query.Choice a b d) = omega arith
-rule-below (Query.Product a b) = omega arith
-rule-below (Query.Union a b) = omega arith
-rule-below (Query.Intersection a b) = omega arith
-
--- so the numbers of form q have the order of its phases
+-- the number of a rule is below that of kinds, so the numbers of form q have the order of its phases
 number-order : (q i phase : ℕ) (y : Query) → i < phases → phase < phases
     → ltb (faultNumber i y) (faultNumber phase y) ≡ ltb (position q i) (position q phase)
 number-order q zero zero y h n = le-ltb (ruleNumber y) (ruleNumber y) (omega arith) ∙ sym (le-ltb (position q 0) (position q 0) (omega arith))

@@ -31,7 +31,7 @@ use Rattle.comparisons.specs.declared.Gathered.{Gathered}
 use Rattle.at_configuration.specs.AtConfiguration.{RelationReads}
 use Rattle.at_configuration.proofs.ListLaws.{form-list}
 use Rattle.at_configuration.proofs.PreparedLaws.{at-reads, relation-reads, comparison-reads}
-use Rattle.faults_at.specs.SetsAt.{presentSet, GatheredReads, GatheredReadable, RelationSetsReadable, SetsReads, SetsReadable, SetsFilled}
+use Rattle.faults_at.specs.SetsAt.{presentSet, GatheredReads, GatheredReadable, RelationSetsReadable, SetsReads, SetsReadable}
 use Rattle.faults_at.specs.SetsAt.{FormClashesReads, FormClashesReadable}
 use Rattle.typing_at.specs.TypingAt.{phaseHere, formHere, typingHere, HereReads, HereReadable, HereChecked}
 use Rattle.typing_at.specs.Here.{FormHereReads, FormHereReadable, FormsHereReads, FormsHereReadable, FormSetsReads, FormSetsReadable}
@@ -182,7 +182,7 @@ module _ {T : Tables} {c : ℕ} {expressionRows relationEntries projectEntries r
       (relates : (T : Tables) → RelationReads T expressionRows relationEntries relations c
       → related ≡ written (table (relationCount T) (presentSet T c)) (replicate 32 0))
     where
-      reads-sets : SetsReads T expressionRows projectEntries queries related c
+      pub reads-sets : SetsReads T expressionRows projectEntries queries related c
       reads-sets = record {
         reads = R .related .reads;
         entriesAre = R .entriesAre;
@@ -190,19 +190,8 @@ module _ {T : Tables} {c : ℕ} {expressionRows relationEntries projectEntries r
         related = numbers-are (relationCount T) (presentSet T c) _ (relates T (R .related));
       }
 
-      pub sets-readable : {lent : List ℕ} → queryCount T ≤ length lent
-          → SetsReadable expressionRows projectEntries queries related c (length queries / 4) lent
-      sets-readable h = record {
-        tables = T;
-        reads = reads-sets;
-        inside = let e = count-is in omega arith;
-        room = let e = count-is in omega arith;
-      }
-
-      pub sets-filled : {lent sets : List ℕ} {start : ℕ}
-          → ((T : Tables) → SetsReads T expressionRows projectEntries queries related c → SetsFilled T c (length queries / 4) lent sets start)
-          → sets ≡ written (table (queryCount T) (setOf T c)) lent
-      sets-filled {lent} forms = forms T reads-sets .stored ∙ ap (λ (k : ℕ). written (table k (setOf T c)) lent) count-is
+      pub sets-readable : {lent : List ℕ} → queryCount T ≤ length lent → SetsReadable expressionRows projectEntries queries related c lent
+      sets-readable h = record { tables = T; reads = reads-sets; room = let e = count-is in omega arith }
 
 -- ---- one configuration
 

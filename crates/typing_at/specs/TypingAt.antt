@@ -1,18 +1,19 @@
 -- The typing check, configuration by configuration: what it answers at one alone, and how the answers at all of them make one.
-use Prim.Native.Nat.{ℕ, zero, suc, _<_}
+use Prim.Native.Nat.{ℕ, zero, suc, _<_, _≤_}
 use mathlib.Core.Path.{_≡_}
 use mathlib.Core.Bool.{Bool, cond, _&&_, _||_}
 use mathlib.Core.List.{List}
 use lib.Dec.{ltb, eqb}
+use Rattle.sets.specs.Rows.{rowCount}
 use Rattle.report.specs.Tables.{Tables, queryCount, report}
 use Rattle.report.specs.Expressions.{configurations}
 use Rattle.report.specs.Typing.{phases, fails, setOf}
-use Rattle.report.specs.ColumnRows.{columnRows}
 use Rattle.report.specs.Verdicts.{refuseIf, firstFrom}
 use Rattle.report.specs.Checks.{faultRefusal}
 use Rattle.report.specs.declared.Refusal.{Refusal}
 use Rattle.report.specs.declared.Verdict.{Verdict}
-use Rattle.expression_rows.specs.TypingReads.{ReportReads}
+use Rattle.expression_rows.specs.TypingReads.{ReportReads, TypingReadable}
+use Rattle.expression_rows.specs.declared.Scope.{Scope}
 use Rattle.typing_at.specs.declared.Here.{Here}
 
 module _ (T : Tables) (c : ℕ) where
@@ -43,10 +44,11 @@ unfoldable pub typingBelow : Tables → ℕ → Verdict
 typingBelow T zero = Verdict.Accepted
 typingBelow T (suc k) = sooner (typingBelow T k) (typingHere T k)
 
--- the answer from those at all configurations, and the rows that are left whatever it is
-pub record EachChecked (T : Tables) (answer : Verdict) (columns : List ℕ) : Type 0 where
-  pub answers : answer ≡ typingBelow T (configurations T)
-  pub shows : columns ≡ columnRows T
+-- what typing reads, where at most 64 configurations are permitted
+pub record EachReadable (scope : Scope) (expressionRows relationEntries projectEntries relations comparisons queries kinds reach columns : List ℕ)
+    : Type 0 where
+  pub readable : TypingReadable scope expressionRows relationEntries projectEntries relations comparisons queries kinds reach columns
+  pub few : rowCount 16 (scope .permitted .words) ≤ 64
 
 -- ---- what the typing check reads and answers at configuration c alone
 

@@ -20,21 +20,24 @@ use sets::Found;
 use sets::Row;
 use verdicts::or_else;
 ghost use mathlib.Core.Path.{_≡_};
-ghost use mathlib.Core.Bool.{not};
-ghost use Prim.Native.Nat.{_<_, _≤_};
+ghost use mathlib.Core.Bool.{cond, not};
+ghost use Prim.Native.Nat.{_%_, _^_, _<_, _≤_};
 ghost use lib.Dec.{eqb};
 ghost use lib.ListN.{length};
-ghost use Rattle.sets.specs.Bits.{lowestMember};
-ghost use Rattle.sets.specs.Lists.{table};
+ghost use Rattle.sets.specs.Bits.{bit, lowestMember};
+ghost use Rattle.sets.specs.Lists.{table, concat};
+ghost use Rattle.sets.specs.Rows.{withRow};
 ghost use Rattle.report.specs.Tables.{Tables, queryCount};
 ghost use Rattle.report.specs.Typing.{setOf};
 ghost use Rattle.report.specs.Configuring.{written};
 ghost use Rattle.report.specs.Verdicts.{refusal, refuseIf};
 ghost use Rattle.report.specs.Checks.{ruleNumber};
-ghost use Rattle.expression_rows.specs.TypingReads.{TypingReads, TypingReadable};
-ghost use Rattle.typing_at.specs.TypingAt.{formHere, typingHere, precedes, sooner, EachChecked, HereReads, HereReadable, HereChecked};
+ghost use Rattle.report.specs.ColumnRows.{columnRow};
+ghost use Rattle.expression_rows.specs.TypingReads.{TypingReads, Checked};
+ghost use Rattle.typing_at.specs.TypingAt.{formHere, typingHere, precedes, sooner, EachReadable, HereReads, HereReadable, HereChecked};
 ghost use Rattle.typing_at.specs.Here.{FormHereReads, FormHereReadable, FormsHereReads, FormsHereReadable, FormSetsReads, FormSetsReadable};
-ghost use Rattle.typing_at.specs.Here.{HereFillable, EachFillable, SizeReadable, shownWith};
+ghost use Rattle.typing_at.specs.Here.{HereFillable, EachFillable, SizeReadable, SetsGathered, SomeGathered};
+ghost use Rattle.typing_at.specs.Here.{ShownAnywhere, ColumnFillable, ColumnsFillable};
 
 // The number of a query form's rule, the first that is looked for.
 fn rule_number(x: Query) -> u64
@@ -200,7 +203,6 @@ fn fill_form_sets(
     );
     fill_sets(
         c,
-        queries.len() / 4,
         expression_rows,
         project_entries,
         queries,
@@ -312,23 +314,6 @@ pub fn check_here(
     )
 }
 
-// Shows configuration c in the column rows of the attributes below `items` that the set has.
-fn show_at(s: AttributeSet, items: usize, c: usize, columns: &mut [u64])
-    requires { ⌜ (items ≤ 64) × (c < 1024) × (length (now columns) ≡ 1024) ⌝ }
-    ensures { λ _. ⌜ now (columns .exit) ≡ shownWith items c (s .bits) (now (columns .entry)) ⌝ }
-{
-    let word = c / 64;
-    let shown: u64 = 1 << (c % 64);
-    let mut a = 0;
-    while a < items {
-        if s.has(a) {
-            let at = a * Row::WORDS + word;
-            columns[at] = columns[at] | shown;
-        }
-        a += 1;
-    }
-}
-
 // A refusal is of a lower form than another, or of an earlier phase of the same form.
 fn goes_before(s: Refusal, r: Refusal) -> bool
     ensures { λ t. ⌜ t ≡ precedes s r ⌝ }
@@ -352,7 +337,96 @@ fn sooner_of(x: Verdict, y: Verdict) -> Verdict
     x
 }
 
-// The answer at each permitted configuration, ascending, and the column rows; in the words lent, the sets at one configuration after another.
+// The bit of configuration c in its word of the row of attribute a, if the set at c has a; else 0.
+fn shown_bit(s: AttributeSet, a: usize, c: usize) -> u64
+    requires { ⌜ a < 64 ⌝ }
+    ensures { λ r. ⌜ r ≡ cond (bit (s .bits) a) (2 ^ (c % 64)) 0 ⌝ }
+{
+    if s.has(a) {
+        return 1 << (c % 64);
+    }
+    0
+}
+
+// The column row of attribute a, from the report's sets at the permitted configurations. It is made in words of its own: a row by value would be copied at
+// each configuration.
+fn column_row(a: usize, count: usize, configurations: &[u16], sets: &[u64]) -> Row
+    requires { ⌜ (a < 64) × SomeGathered count (now configurations) (now sets) ⌝ }
+    ensures { λ r. ⌜ ((T : Tables) → SetsGathered T count (now (configurations .entry)) (now (sets .entry)) → r .words ≡ columnRow T a) ⌝ }
+{
+    let mut words = [0; Row::WORDS];
+    let mut k = 0;
+    while k < count {
+        let c = configurations[k] as usize;
+        let w = c / 64;
+        words[w] = words[w] | shown_bit(AttributeSet::of_bits(sets[k]), a, c);
+        k += 1;
+    }
+    Row { words: words }
+}
+
+// The attributes that any of the sets has.
+fn shown_anywhere(count: usize, sets: &[u64]) -> AttributeSet
+    requires { ⌜ count ≤ length (now sets) ⌝ }
+    ensures { λ s. ⌜ ShownAnywhere count (now (sets .entry)) (s .bits) ⌝ }
+{
+    let mut shown = AttributeSet::empty();
+    let mut k = 0;
+    while k < count {
+        shown = shown.union(AttributeSet::of_bits(sets[k]));
+        k += 1;
+    }
+    shown
+}
+
+// Stores the column row of attribute a. It is empty as it is, and stays so where no set has a.
+fn store_column(
+    a: usize,
+    shown: AttributeSet,
+    count: usize,
+    configurations: &[u16],
+    sets: &[u64],
+    columns: &mut [u64],
+)
+    requires { ⌜ ColumnFillable a (shown .bits) count (now configurations) (now sets) (now columns) ⌝ }
+    ensures { λ _.
+        ⌜ ((T : Tables) → SetsGathered T count (now (configurations .entry)) (now (sets .entry))
+        → now (columns .exit) ≡ withRow 16 (now (columns .entry)) a (columnRow T a)) ⌝ }
+{
+    if !shown.has(a) {
+        return;
+    }
+    let row = column_row(a, count, configurations, sets);
+    row.store(&mut *columns, a);
+}
+
+// Stores the column rows of the attributes below `items`.
+fn store_columns(
+    items: usize,
+    count: usize,
+    configurations: &[u16],
+    sets: &[u64],
+    columns: &mut [u64],
+)
+    requires { ⌜ ColumnsFillable items count (now configurations) (now sets) (now columns) ⌝ }
+    ensures { λ _.
+        ⌜ ((T : Tables) → SetsGathered T count (now (configurations .entry)) (now (sets .entry))
+        → now (columns .exit) ≡ written (concat items (columnRow T)) (now (columns .entry))) ⌝ }
+{
+    let shown = shown_anywhere(count, sets);
+    let mut a = 0;
+    while a < items {
+        store_column(a, shown, count, configurations, sets, &mut *columns);
+        a += 1;
+    }
+}
+
+// How many permitted configurations are few: there is room for the report's sets at so many. On reports of full size going through up to so many one by
+// one takes less time than the rows of all do (docs/changes/06-big-schema.md).
+pub const FEW: usize = 64;
+
+// The answer at each permitted configuration, ascending, and the column rows; in the words lent, the sets at one configuration after another. The
+// report's sets are kept, and the column rows made of them at the end.
 fn check_with(
     scope: Scope,
     expression_rows: &[u64],
@@ -375,15 +449,18 @@ fn check_with(
         ⌜ ((T : Tables)
         → TypingReads T scope (now («expression_rows» .entry)) (now («relation_entries» .entry)) (now («project_entries» .entry))
         (now (relations .entry)) (now (comparisons .entry)) (now (queries .entry)) (now (kinds .entry)) (now (reach .entry))
-        → EachChecked T v (now (columns .exit))) ⌝ }
+        → Checked T v (now (columns .exit))) ⌝ }
 {
     let permitted = scope.permitted;
+    let mut configurations = [0; FEW];
+    let mut sets = [0; FEW];
+    let mut count = 0;
     let mut answer = Verdict::Accepted;
     let mut from = 0;
     loop {
         let next = permitted.lowest_from(from);
         let Found::At(c) = next else {
-            return answer;
+            break;
         };
         let here = fill_here(
             c,
@@ -399,11 +476,16 @@ fn check_with(
             &mut *clash_sets,
             &mut *form_sets,
         );
-        show_at(here.set, scope.items, c, &mut *columns);
+        configurations[count] = c as u16;
+        let set = here.set;
+        sets[count] = set.bits;
+        count += 1;
         let verdict = here.verdict;
         answer = sooner_of(answer, verdict);
         from = c + 1;
     }
+    store_columns(scope.items, count, &configurations, &sets, columns);
+    answer
 }
 
 // The same with words of its own, of small tables.
@@ -425,7 +507,7 @@ fn check_small(
         ⌜ ((T : Tables)
         → TypingReads T scope (now («expression_rows» .entry)) (now («relation_entries» .entry)) (now («project_entries» .entry))
         (now (relations .entry)) (now (comparisons .entry)) (now (queries .entry)) (now (kinds .entry)) (now (reach .entry))
-        → EachChecked T v (now (columns .exit))) ⌝ }
+        → Checked T v (now (columns .exit))) ⌝ }
 {
     let mut named_sets = [0; Limits::SMALL];
     let mut clash_sets = [0; Limits::SMALL];
@@ -466,7 +548,7 @@ fn check_large(
         ⌜ ((T : Tables)
         → TypingReads T scope (now («expression_rows» .entry)) (now («relation_entries» .entry)) (now («project_entries» .entry))
         (now (relations .entry)) (now (comparisons .entry)) (now (queries .entry)) (now (kinds .entry)) (now (reach .entry))
-        → EachChecked T v (now (columns .exit))) ⌝ }
+        → Checked T v (now (columns .exit))) ⌝ }
 {
     let mut named_sets = [0; Limits::MOST_COMPARISONS];
     let mut clash_sets = [0; Limits::MOST_COMPARISONS];
@@ -501,13 +583,13 @@ pub fn check_each(
     reach: &[u64],
     columns: &mut [u64],
 ) -> Verdict
-    requires { ⌜ TypingReadable scope (now «expression_rows») (now «relation_entries») (now «project_entries») (now relations) (now comparisons)
+    requires { ⌜ EachReadable scope (now «expression_rows») (now «relation_entries») (now «project_entries») (now relations) (now comparisons)
         (now queries) (now kinds) (now reach) (now columns) ⌝ }
     ensures { λ v.
         ⌜ ((T : Tables)
         → TypingReads T scope (now («expression_rows» .entry)) (now («relation_entries» .entry)) (now («project_entries» .entry))
         (now (relations .entry)) (now (comparisons .entry)) (now (queries .entry)) (now (kinds .entry)) (now (reach .entry))
-        → EachChecked T v (now (columns .exit))) ⌝ }
+        → Checked T v (now (columns .exit))) ⌝ }
 {
     if comparisons.len() / 5 <= Limits::SMALL && queries.len() / 4 <= Limits::SMALL {
         return check_small(

@@ -1,10 +1,10 @@
 // Runs the stored cases: for each argument, which names a harbour file, the name, then the print of that file, then its page. The file `stdout` beside
 // src/ has what the reference gives for them (reference/src/bin/make_vectors.rs writes all three).
+use harbour_file::LONGEST_FILE;
+use harbour_print::LONGEST_PRINT;
+use harbour_print::Layout;
+use harbour_print::PrintRoom;
 use libc::STDOUT_FILENO;
-use report_file::LONGEST_FILE;
-use report_file::LONGEST_PRINT;
-use report_file::Layout;
-use report_file::PrintRoom;
 
 // One byte more than a harbour file may have.
 const READ_ROOM: usize = LONGEST_FILE + 1;
@@ -12,7 +12,7 @@ const READ_ROOM: usize = LONGEST_FILE + 1;
 // The print of a file's text in a layout.
 fn show_print(text: &[u8], layout: Layout) {
     let mut out: PrintRoom = [0; LONGEST_PRINT];
-    let printed = report_file::print_file(text, layout, &mut out);
+    let printed = harbour_print::print_file(text, layout, &mut out);
     io::write_all(STDOUT_FILENO, &out[..printed]);
 }
 

@@ -1,4 +1,1 @@
-pub mod LineLaws
-pub mod LineBytes
 pub mod PageLaws
-pub mod PageExamplesHold

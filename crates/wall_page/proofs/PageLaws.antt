@@ -1,27 +1,20 @@
--- The lines of the page, and that they are those of the definition.
+-- The lines of the page counted, and what the call answers and leaves.
 use Prim.Native.Nat.{ℕ, suc, _+_, _*_, _%_, _^_, _≤_, _<_}
 use mathlib.Core.Path.{_≡_, refl, sym, ap, _∙_}
-use mathlib.Core.Bool.{true, false, cond}
-use mathlib.Core.List.{List, []}
-use native.Mathlib.Nat.{le-refl}
+use mathlib.Core.Bool.{true, false}
+use mathlib.Core.List.{List}
 use native.Mathlib.Numerals.{add-one}
 use native.Mathlib.Omega.{arith}
 use borrow.Author.Tests.{ltb-false}
 use lib.Dec.{ltb}
-use lib.ListN.{length, getD}
-use Rattle.sets.specs.Lists.{concat}
+use lib.ListN.{length}
 use Rattle.sets.specs.Search.{countBelow}
-use Rattle.sets.specs.Bits.{bit}
-use Rattle.sets.specs.Rows.{rowBit, rowOf, rowIn}
+use Rattle.sets.specs.Rows.{rowBit}
 use Rattle.sets.specs.Writing.{Room, WrittenAt}
-use Rattle.sets.proofs.ListLaws.{kept-length, kept-word}
-use Rattle.sets.proofs.SearchLaws.{count-same, count-yes, count-no, count-le}
-use Rattle.sets.proofs.BitLaws.{bit-bitsOf}
+use Rattle.sets.proofs.SearchLaws.{count-yes, count-no}
 use Rattle.sets.proofs.WritingLaws.{from-start}
-use Rattle.report.specs.Tables.{Tables, report}
+use Rattle.report.specs.Tables.{Tables}
 use Rattle.report.specs.Expressions.{configurations, permitted}
-use Rattle.report.specs.Typing.{setOf}
-use Rattle.report.specs.ColumnRows.{columnRows, shown}
 use Rattle.report.specs.Configuring.{written}
 use Rattle.report.specs.Verdicts.{refusal, refuseIf, after}
 use Rattle.report.specs.Calls.{answer}
@@ -30,15 +23,14 @@ use Rattle.report.specs.declared.Refusal.{Refusal}
 use Rattle.report.specs.declared.Verdict.{Verdict}
 use Rattle.report.proofs.VerdictLaws.{if-accepted}
 use Rattle.report.proofs.FirstFault.{first-none, first-one}
-use Rattle.report.proofs.TypingLaws.{permitted-within, permitted-1024, rows-length, shown-columns}
-use Rattle.printing.proofs.PrintLaws.{permits-bit, shown-lines}
+use Rattle.report.proofs.TypingLaws.{rows-length}
+use Rattle.printing.specs.Page.{page}
+use Rattle.printing.specs.PageRows.{pageText, permittedCount, PageRead}
+use Rattle.printing.proofs.PageLaws.{permitted-count, text-length, rows-page, rows-count, page-bytes}
 use Rattle.judging.specs.Judging.{reportCheck}
 use Rattle.judging.proofs.JudgingLaws.{call-refused, call-late, Columns, shifted-configurations, shifted-few}
 use Rattle.wall_page.specs.declared.PageAnswer.{PageAnswer}
-use Rattle.wall_page.specs.Page.{mark, pageLine, page, lineCount, writingPage, pageAnswer, PageWritten}
-use Rattle.wall_page.specs.PageRows.{pageText, permittedCount, PageRead}
-use Rattle.wall_page.proofs.LineLaws.{line-length}
-use Rattle.wall_page.proofs.LineBytes.{line-mark}
+use Rattle.wall_page.specs.Page.{lineCount, writingPage, pageAnswer, PageWritten}
 
 -- ---- a loop that counts the configurations of a row below `count`
 
@@ -68,63 +60,17 @@ module _ {permits : List ℕ} {count : ℕ} where
     }
 
     pub tallied-all : count ≤ c → found ≡ permittedCount permits count
-    unfolding permittedCount
-    tallied-all h = let e : c ≡ count = omega (arith, t .within) in t .tally ∙ ap (countBelow (rowBit permits)) e
+    tallied-all h =
+        let e : c ≡ count = omega (arith, t .within) in t .tally ∙ ap (countBelow (rowBit permits)) e ∙ sym (permitted-count permits count)
 
-pub lines-few : (permits : List ℕ) {count lines : ℕ} → lines ≡ permittedCount permits count → count ≤ 1024 → lines ≤ 1024
-unfolding permittedCount
-lines-few permits {count} e h = omega (arith, e, count-le (rowBit permits) count)
+-- ---- the number of lines of the definition's page
 
--- ---- the lines, from the rows
+line-count : (T : Tables) → lineCount T ≡ countBelow (permitted T) (configurations T)
+unfolding lineCount
+line-count T = refl
 
-pub text-lines : (permits : List ℕ) (count : ℕ) (rows : List ℕ)
-    → pageText permits count rows ≡ concat count (λ c. cond (rowBit permits c) (pageLine c (shown rows c)) [])
-unfolding pageText
-text-lines permits count rows = refl
-
--- ---- they are those of the definition
-
-module _ {T : Tables} (F : Formed T) {permits rows : List ℕ} (permitting : permits ≡ rowOf 16 (permitted T)) (columns : rows ≡ columnRows T) where
-  pub rows-page : pageText permits (configurations T) rows ≡ page T
-  unfolding pageText page
-  rows-page = shown-lines F permitting columns pageLine
-
-  pub rows-count : permittedCount permits (configurations T) ≡ lineCount T
-  unfolding permittedCount lineCount
-  rows-count = count-same (rowBit permits) (permitted T) (configurations T) (permits-bit F permitting columns)
-
--- 73 bytes a line
-pub text-length : (permits : List ℕ) (count : ℕ) (rows : List ℕ) → count ≤ 1024 → length (pageText permits count rows) ≡ permittedCount permits count * 73
-unfolding pageText permittedCount
-text-length permits count rows h =
-    kept-length (rowBit permits) (λ c. pageLine c (shown rows c)) 73 count (λ c l e. line-length c (shown rows c) (omega arith)) count (le-refl count)
-
--- the definition's page: its bytes, and byte j of the line of c
-module _ {T : Tables} (F : Formed T) where
-  wide : (c : ℕ) → c < configurations T → permitted T c ≡ true → length (pageLine c (setOf T c (report T))) ≡ 73
-  wide c l e = line-length c (setOf T c (report T)) (permitted-1024 F c e)
-
-  pub page-length : length (page T) ≡ lineCount T * 73
-  unfolding page lineCount
-  page-length =
-      kept-length (permitted T) (λ c. pageLine c (setOf T c (report T))) 73 (configurations T) wide (configurations T) (le-refl (configurations T))
-
-  pub page-byte : (c j : ℕ) → permitted T c ≡ true → j < 73
-      → getD (page T) (countBelow (permitted T) c * 73 + j) 0 ≡ getD (pageLine c (setOf T c (report T))) j 0
-  unfolding page
-  page-byte c j e =
-      kept-word (permitted T) (λ d. pageLine d (setOf T d (report T))) 73 (configurations T) wide 0 c j (permitted-within T c e) e
-
-  -- the mark of attribute a on the line of c is that of the bit of c in row a
-  pub page-mark : (c a : ℕ) → permitted T c ≡ true → a < 64
-      → getD (page T) (countBelow (permitted T) c * 73 + (5 + a)) 0 ≡ mark (rowBit (rowIn 16 (columnRows T) a) c)
-  page-mark c a e h =
-      page-byte c (5 + a) e (omega arith) ∙ line-mark c (setOf T c (report T)) (permitted-1024 F c e) a h
-      ∙ ap mark (ap (λ (s : ℕ). bit s a) (sym (shown-columns F c e)) ∙ bit-bitsOf 64 (λ k. rowBit (rowIn 16 (columnRows T) k) c) a h)
-
--- 1,024 lines at most
-pub page-room : (permits : List ℕ) (count : ℕ) (rows : List ℕ) → count ≤ 1024 → length (pageText permits count rows) ≤ 74752
-page-room permits count rows h = omega (arith, text-length permits count rows h, lines-few permits {count = count} refl h)
+pub page-length : {T : Tables} → Formed T → length (page T) ≡ lineCount T * 73
+page-length {T} F = page-bytes F ∙ ap (λ (k : ℕ). k * 73) (sym (line-count T))
 
 -- ---- the answer
 
@@ -151,7 +97,8 @@ module _ (T : Tables) {checked : Verdict} (before : checked ≡ reportCheck T) (
     all = shifted-configurations (C .formed) refl
 
     lines-are : lines ≡ lineCount T
-    lines-are = counted ∙ ap (permittedCount permits) all ∙ rows-count (C .formed) (C .permitting) (C .shows)
+    lines-are =
+        counted ∙ ap (permittedCount permits) all ∙ rows-count (C .formed) (C .permitting) (C .shows) ∙ sym (line-count T)
 
     module _ {late : Verdict} (own : late ≡ refuseIf (ltb (length lent) (73 * lines)) (refusal 23 0 0 0)) where
       verdict : late ≡ answer T (writingPage (length lent))

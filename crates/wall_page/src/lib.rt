@@ -1,10 +1,7 @@
 // The entry point `write_page`: the wall page, a line for each permitted configuration with a mark for each attribute.
-mod line;
-
 use judging::COLUMN_WORDS;
 use judging::check_into_columns;
-use line::put_page_line;
-use printing::shown_at;
+use printing::put_page;
 use report::Head;
 use report::Refusal;
 use report::Verdict;
@@ -12,10 +9,9 @@ use sets::Row;
 use verdicts::refuse_if;
 ghost use mathlib.Core.Path.{_≡_};
 ghost use Prim.Native.Nat.{_≤_};
-ghost use Rattle.sets.specs.Writing.{WrittenAt};
 ghost use Rattle.report.specs.Expressions.{tablesUnder};
+ghost use Rattle.printing.specs.PageRows.{permittedCount};
 ghost use Rattle.wall_page.specs.Page.{pageAnswer, PageWritten};
-ghost use Rattle.wall_page.specs.PageRows.{pageText, permittedCount, PageRead};
 
 // What writing a page answers: the number of its lines, or the refusal.
 pub enum PageAnswer {
@@ -40,23 +36,6 @@ fn permitted_count(row: Row, count: usize) -> usize
         c += 1;
     }
     found
-}
-
-// The line of each permitted configuration below `count`, with the marks that the column rows show.
-pub fn put_page(out: &mut [u8], at: usize, permitted: Row, count: usize, rows: &[u64]) -> usize
-    requires { ⌜ PageRead (permitted .words) count (now rows) (now out) at ⌝ }
-    ensures { λ r. ⌜ WrittenAt (pageText (permitted .words) count (now (rows .entry))) (now (out .entry)) at (now (out .exit)) r ⌝ }
-{
-    let mut p = at;
-    let mut c = 0;
-    while c < count {
-        if permitted.has(c) {
-            let s = shown_at(rows, c);
-            p = put_page_line(out, p, c as u64, s);
-        }
-        c += 1;
-    }
-    p
 }
 
 // The answer, by what the checks say.

@@ -738,12 +738,19 @@ fn queries() -> Vec<Aimed> {
         "refused 15 0 0 2",
         alone,
     )];
-    for count in [15, 16, 17, 31, 32, 33, 64, 65, 129, 256] {
+    for count in [15, 16, 17, 31, 32, 33, 64, 65, 129] {
         let note = format!("{count} queries, 1 to 3 permitted, kinds differ in the last at 3");
         let tables = broken_at(25, 3, selecting(count - 1, highest(2, 3)));
         let answer = format!("refused 25 {} 63 3", count - 1);
         cases.push(check(note, answer, tables));
     }
+    // With 256, the most, this takes too long to compute from the rules; reports 256
+    // forms deep are among the generated ones.
+    cases.push(check(
+        "200 queries, 3 alone permitted, kinds differ in the last",
+        "refused 25 199 63 3",
+        broken_at(25, 3, selecting(199, highest(2, 1))),
+    ));
     for count in [16, 17, 33, 65] {
         cases.push(check(
             format!("{count} queries, 1 to 3 permitted"),
@@ -877,14 +884,14 @@ fn many_of_both() -> Vec<Aimed> {
             last(8, 129, 33, 17),
         ),
         check(
-            "7 features, the lowest 65 permitted, 65 queries, 16 in the last at the last",
-            "refused 16 64 62 64",
-            last(7, 65, 65, 16),
+            "7 features, the lowest 65 permitted, 33 queries, 16 in the last at the last",
+            "refused 16 32 62 64",
+            last(7, 65, 33, 16),
         ),
         check(
-            "8 features, all permitted, 65 queries",
+            "8 features, all permitted, 17 queries",
             rows(0..256, with_features),
-            selecting(65, harbour(8)),
+            selecting(17, harbour(8)),
         ),
     ]
 }

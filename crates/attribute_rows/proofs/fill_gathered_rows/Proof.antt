@@ -1,10 +1,9 @@
 use Prim.Native.Nat.{_/_, _-_}
-use mathlib.Core.Path.{refl}
 use native.Mathlib.Omega.{arith}
 use borrow.Author.Needs.{needs}
 use lib.ListN.{length}
+use Rattle.expression_rows.proofs.RowsFilling.{RowsFilling, filling-none}
 use Rattle.attribute_rows.specs.AttributeRows.{gatheredRow, GatheredReads}
-use Rattle.attribute_rows.proofs.FillLaws.{RowsFilling, filling-none}
 use Rattle.attribute_rows.proofs.GatheredLaws.{gathered-read, gathered-more, gathered-all}
 use Rattle.attribute_rows.proofs.fill_gathered_rows.Statement.{statement}
 use Rattle.attribute_rows.proofs.fill_gathered_rows.Tie as tie
@@ -21,19 +20,17 @@ abbrev start : tie.At-loop Inv-loop μ-loop → tie.Start Inv-loop μ-loop
 start p = p .before .before .before .before .before
 
 abbrev turn : tie.After-store-arg Inv-loop μ-loop → tie.In-loop Inv-loop μ-loop
-turn p = p .before .before .before .before .before
+turn p = p .before .before .before .before
 
 abbrev gathered : tie.After-slice-known2 Inv-loop μ-loop → tie.After-gathered-row Inv-loop μ-loop
 gathered p = p .before .before .before .before
 
 gathered-row-requires : tie.Need-gathered-row-requires Inv-loop μ-loop
 gathered-row-requires c κs =
-    let to = c .before in
-    let x = to .before in
+    let x = c .before in
     let i = x .before in
     let l = i .before in
-    rw (to .comparison-operands .ensures)
-    (gathered-read (start l .args .what) (l .loop .inv) (i .loop-test .taken) (x .decode-comparison .ensures) (start l .pre))
+    gathered-read (start l .args .what) (l .loop .inv) (i .loop-test .taken) (x .decode-comparison .ensures) (start l .pre)
 
 store-requires : tie.Need-store-requires Inv-loop μ-loop
 store-requires c κs =
@@ -45,13 +42,11 @@ store-requires c κs =
 loop-again : tie.Need-loop-again Inv-loop μ-loop
 loop-again c =
     let r = gathered c in
-    let to = r .before .before in
-    let x = to .before in
+    let x = r .before .before in
     let i = x .before in
     let l = i .before in
-    gathered-more (start l .args .what) (l .loop .inv) (i .loop-test .taken) (x .decode-comparison .ensures)
-    refl (to .comparison-operands .ensures) (r .gathered-row .ensures) (c .before .before .store .kept .1 .0)
-    (c .before .before .store .ensures)
+    gathered-more (start l .args .what) (l .loop .inv) (i .loop-test .taken) (x .decode-comparison .ensures) (r .gathered-row .ensures)
+    (c .before .before .store .kept .1 .0) (c .before .before .store .ensures)
 
 pub fill-gathered-rows-spec : {M : Type 1} → statement M
 fill-gathered-rows-spec =
@@ -60,7 +55,6 @@ fill-gathered-rows-spec =
     Inv-loop
     μ-loop
     (λ c. filling-none)
-    (λ c κs. search needs)
     (λ c κs. search needs)
     gathered-row-requires
     store-requires

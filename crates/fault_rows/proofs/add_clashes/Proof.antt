@@ -1,7 +1,7 @@
 use borrow.Author.Needs.{needs}
 use Prim.Native.Nat.{_/_, _-_}
 use lib.ListN.{length}
-use Rattle.attribute_rows.proofs.FillLaws.{filling-none}
+use Rattle.expression_rows.proofs.RowsFilling.{filling-none}
 use Rattle.fault_rows.proofs.ClashLaws.{ClashesAdding, adding-reach, adding-faults, adding-clash, adding-more, adding-all}
 use Rattle.fault_rows.proofs.add_clashes.Statement.{statement}
 use Rattle.fault_rows.proofs.add_clashes.Tie as tie

@@ -1,24 +1,21 @@
 use Prim.Native.Nat.{_-_}
 use native.Mathlib.Omega.{arith}
 use borrow.Author.Needs.{needs}
-use Rattle.faults_at.proofs.SetLaws.{QueriesFilling, setting-none, setting-in, setting-place, setting-some, setting-inside, setting-more}
+use Rattle.faults_at.proofs.SetLaws.{QueriesFilling, setting-none, setting-place, setting-some, setting-inside, setting-more}
 use Rattle.faults_at.proofs.SetLaws.{setting-all}
 use Rattle.faults_at.proofs.fill_sets.Statement.{statement}
 use Rattle.faults_at.proofs.fill_sets.Tie as tie
 
 abbrev Inv-loop : tie.InvT-loop
-Inv-loop c q expressionRows entries queries relationSets sets₀ start₀ p₀ sets start p =
-    QueriesFilling expressionRows entries queries relationSets c q sets₀ sets p start
+Inv-loop c expressionRows entries queries relationSets sets₀ count start₀ q₀ sets start q =
+    QueriesFilling expressionRows entries queries relationSets c sets₀ sets q start
 
 abbrev μ-loop : tie.MeasureT-loop
-μ-loop c q expressionRows entries queries relationSets sets₀ start₀ p₀ sets start p = q - p
+μ-loop c expressionRows entries queries relationSets sets₀ count start₀ q₀ sets start q = count - q
 
 -- places of the code that the needs look back to
 abbrev start-of-turn : tie.In-loop Inv-loop μ-loop → tie.Start Inv-loop μ-loop
 start-of-turn p = p .before .before .before .before .before .before .before
-
-decode-query-requires : tie.Need-decode-query-requires Inv-loop μ-loop
-decode-query-requires c κs = setting-in (c .before .loop .inv) (start-of-turn c .pre) (c .loop-test .taken)
 
 set-at-requires : tie.Need-set-at-requires Inv-loop μ-loop
 set-at-requires c κs =
@@ -54,7 +51,7 @@ fill-sets-spec =
     Inv-loop
     μ-loop
     (λ c. setting-none)
-    decode-query-requires
+    (λ c κs. search needs)
     set-at-requires
     (λ c. search needs)
     slice-write-form-sets

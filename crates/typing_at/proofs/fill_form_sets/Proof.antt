@@ -1,5 +1,5 @@
 use borrow.Author.Needs.{needs}
-use Rattle.typing_at.proofs.HereLaws.{relations-readable, sets-readable, sets-filled}
+use Rattle.typing_at.proofs.HereLaws.{relations-readable, reads-sets, sets-readable}
 use Rattle.typing_at.proofs.fill_form_sets.Statement.{statement}
 use Rattle.typing_at.proofs.fill_form_sets.Tie as tie
 
@@ -19,7 +19,7 @@ fill-sets-requires c κs =
 returns : tie.Need-returns
 returns c =
     let f = c .before .before in
-    λ T R. sets-filled R (related (f .before) .fill-relation-sets .ensures) (f .fill-sets .ensures)
+    λ T R. f .fill-sets .ensures T (reads-sets R (related (f .before) .fill-relation-sets .ensures))
 
 pub fill-form-sets-spec : {M : Type 1} → statement M
 fill-form-sets-spec =

@@ -1,6 +1,6 @@
 -- `vectors::show_print` is safe: what it hands on of the print is as long as the count says.
 use borrow.Author.Needs.{needs}
-use Rattle.report_file.proofs.CountLaws.{prints-within, prints-counted}
+use Rattle.harbour_print.proofs.CountLaws.{prints-within, prints-counted}
 use Rattle.vectors.proofs.show_print.Statement.{statement}
 use Rattle.vectors.proofs.show_print.Tie as tie
 

@@ -8,8 +8,9 @@ use lib.ListN.{length}
 use Rattle.sets.proofs.WritingLaws.{same-length}
 use Rattle.report.specs.Tables.{Tables}
 use Rattle.report.specs.Expressions.{tablesUnder}
+use Rattle.printing.proofs.PageLaws.{lines-few}
 use Rattle.judging.proofs.JudgingLaws.{Columns, own-columns, shifted-few}
-use Rattle.wall_page.proofs.PageLaws.{refused-answers, lines-few, late-answers, refused-left, page-read, page-left}
+use Rattle.wall_page.proofs.PageLaws.{refused-answers, late-answers, refused-left, page-read, page-left}
 use Rattle.wall_page.proofs.write_page.Statement.{statement}
 use Rattle.wall_page.proofs.write_page.Tie as tie
 

@@ -1,0 +1,3 @@
+pub mod PrintedLaws
+pub mod CountLaws
+pub mod LayoutLaws

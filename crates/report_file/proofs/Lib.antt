@@ -1,8 +1,0 @@
-pub mod GroupSteps
-pub mod GroupLines
-pub mod GroupRuns
-pub mod GroupParts
-pub mod FirstBadLine
-pub mod PrintedLaws
-pub mod CountLaws
-pub mod LayoutLaws

@@ -1,4 +1,0 @@
-pub mod Reading
-pub mod Filing
-pub mod Layouts
-pub mod Printing

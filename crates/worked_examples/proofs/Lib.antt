@@ -1,0 +1,3 @@
+pub mod RowExamplesHold
+pub mod FindExamplesHold
+pub mod PageExamplesHold

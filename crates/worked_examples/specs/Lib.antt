@@ -1,0 +1,4 @@
+pub mod RowExamples
+pub mod Harbours
+pub mod FindExamples
+pub mod PageExamples
