@@ -1,8 +1,8 @@
 //! H1 to H10 of docs/FORMAT.md, "Worked examples".
 
-mod common;
-
-use common::{checked, configured_with, h1, h1_without_list, refused, source_room, LENT_WORD};
+use crate::common::{
+    checked, configured_with, h1, h1_without_list, refused, source_room, LENT_WORD,
+};
 use reference::check::shown;
 use reference::file::{print_file, write_file};
 use reference::small::H1;

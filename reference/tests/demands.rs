@@ -1,8 +1,6 @@
 //! Demand 3 and what belongs to it, over generated cases.
 
-mod common;
-
-use common::{checked, checked_with, configured_with, source_room, written};
+use crate::common::{checked, checked_with, configured_with, made, source_room, written};
 use reference::check::shown;
 use reference::generate::{self, Family};
 use reference::plain::{self, Attributes};
@@ -12,11 +10,11 @@ use reference::{expression, form, Refusal, Tables};
 
 /// Cases of all families, the full ones being rare.
 fn cases() -> impl Iterator<Item = Tables> {
-    let varied = (0..1500).map(generate::case);
+    let varied = (0..1500).map(made::case);
     let small = (0..3000).map(generate::small);
     let several = (0..800).map(|seed| generate::of_family(Family::Several, seed));
-    let compared = (0..800).map(generate::compared);
-    let few = (0..600).map(generate::few);
+    let compared = (0..800).map(made::compared);
+    let few = (0..600).map(made::few);
     let few = few.filter(|tables| tables.count(4) << tables.features < 20_000);
     varied
         .chain(small)
@@ -96,8 +94,8 @@ fn first_fault(tables: &Tables) -> Option<Refusal> {
 fn the_first_fault_comes_first() {
     let small = (0..4000).map(generate::small);
     let several = (0..1500).map(|seed| generate::of_family(Family::Several, seed));
-    let compared = (0..1500).map(generate::compared);
-    let few = (0..1500).map(generate::few);
+    let compared = (0..1500).map(made::compared);
+    let few = (0..1500).map(made::few);
     for tables in small.chain(several).chain(compared).chain(few) {
         let size = tables.count(4) << tables.features.min(10);
         match checked(&tables) {
@@ -112,7 +110,7 @@ fn the_first_fault_comes_first() {
 #[test]
 fn the_same_at_full_size() {
     for seed in 0..12 {
-        demand_3(&generate::full(seed));
+        demand_3(&made::full(seed));
     }
 }
 

@@ -2,12 +2,10 @@
 //! by one; generated cases against the same with kind 6 spelled out; and which stored
 //! case tells which wrong program.
 
-mod common;
-
 use std::collections::BTreeMap;
 
-use common::readings::{self, RIGHT, WRONG};
-use common::{checked, configured_with, paged_with, refused, source_room, written};
+use crate::common::readings::{self, RIGHT, WRONG};
+use crate::common::{checked, configured_with, made, paged_with, refused, source_room, written};
 use reference::cases::{Aimed, FILES};
 use reference::check::{shown, ROWS};
 use reference::file::{print_file, read_file, write_file};
@@ -341,9 +339,9 @@ fn the_page_of_a_quay() {
 /// Spelled out with features, not, and, or, the tables give the same answers.
 #[test]
 fn spelled_out_it_gives_the_same_answers() {
-    let varied = (0..3000).map(generate::case);
+    let varied = (0..3000).map(made::case);
     let walls = (0..100).map(generate::wall);
-    let full = (0..8).map(generate::full);
+    let full = (0..8).map(made::full);
     let checks = varied.chain(walls).chain(full);
     let checks = checks.map(|tables| Case::Check { tables, room: ROWS });
     let mut compared = 0;

@@ -1,15 +1,13 @@
 //! Few permitted configurations and many: which case of `cases/few.txt` tells which wrong
 //! program, and how many generated ones do.
 
-mod common;
-
 use std::collections::BTreeMap;
+use std::slice;
 
-use common::checked;
-use common::few_readings::{answer, RIGHT, WRONG};
+use crate::common::few_readings::{answers, RIGHT, WRONG};
+use crate::common::{checked, made};
 use reference::cases::{Aimed, FILES};
 use reference::check::ROWS;
-use reference::generate;
 use reference::small::Case;
 use reference::Tables;
 
@@ -71,7 +69,8 @@ fn each_wrong_program_is_told_by_a_case() {
         assert_eq!(reading.words, words);
         let tables = &stored[&number];
         let right = checked(tables);
-        assert_ne!(answer(tables, &right, reading), right, "{words}");
+        let wrong = answers(tables, &right, slice::from_ref(reading));
+        assert_ne!(wrong, [right], "{words}");
     }
 }
 
@@ -79,7 +78,7 @@ fn each_wrong_program_is_told_by_a_case() {
 fn the_stored_cases_in_another_way() {
     for (number, tables) in stored() {
         let right = checked(&tables);
-        assert_eq!(answer(&tables, &right, &RIGHT), right, "{number}");
+        assert_eq!(answers(&tables, &right, &[RIGHT]), [right], "{number}");
     }
 }
 
@@ -88,11 +87,10 @@ fn the_stored_cases_in_another_way() {
 fn generated_cases_tell_each_wrong_program() {
     let mut told: BTreeMap<&str, u64> = BTreeMap::new();
     let not_large = |tables: &Tables| tables.count(4) << tables.features < 70_000;
-    for tables in (0..1600).map(generate::few).filter(not_large) {
+    for tables in (0..1600).map(made::few).filter(not_large) {
         let right = checked(&tables);
-        assert_eq!(answer(&tables, &right, &RIGHT), right, "{tables:?}");
-        for reading in &WRONG {
-            let wrong = answer(&tables, &right, reading);
+        assert_eq!(answers(&tables, &right, &[RIGHT])[0], right, "{tables:?}");
+        for (reading, wrong) in WRONG.iter().zip(answers(&tables, &right, &WRONG)) {
             *told.entry(reading.words).or_default() += u64::from(wrong != right);
         }
     }

@@ -1,11 +1,9 @@
 //! The finding call: its sentences one by one, the order of its refusals, and
 //! generated cases against the rows and against the plain rules.
 
-mod common;
-
 use std::collections::BTreeSet;
 
-use common::{checked, configured_with, h1, h1_without_list, refused, source_room};
+use crate::common::{checked, configured_with, h1, h1_without_list, made, refused, source_room};
 use reference::check::shown;
 use reference::generate::{self, LIMITS, NUMBERS};
 use reference::plain::{self, Attributes};
@@ -239,9 +237,9 @@ fn all_earlier_refusals_come_before_22() {
 
 /// Tables with a wanted set: of all families, small ones, and of full size.
 fn calls() -> impl Iterator<Item = (Tables, u64)> {
-    let varied = (0..1500).map(generate::case);
+    let varied = (0..1500).map(made::case);
     let small = (0..3000).map(generate::small);
-    let full = (0..12).map(generate::full);
+    let full = (0..12).map(made::full);
     let mut random = Random::new(1);
     varied.chain(small).chain(full).map(move |tables| {
         let wanted = generate::wanted(&mut random, &tables);

@@ -1,13 +1,11 @@
 //! What the generator covers of few permitted configurations and many.
 
-mod common;
-
 use std::collections::{BTreeMap, BTreeSet};
 use std::sync::OnceLock;
 
-use common::checked;
+use crate::common::{checked, made};
 use reference::check::shown;
-use reference::generate::{self, COUNTS, FORMS};
+use reference::generate::{COUNTS, FORMS};
 use reference::refusal::TYPING;
 use reference::{expression, Refusal, Tables};
 
@@ -44,7 +42,7 @@ fn cases() -> &'static [Judged] {
             tables,
         }
     };
-    CASES.get_or_init(|| (0..4000).map(generate::few).map(judged).collect())
+    CASES.get_or_init(|| (0..4000).map(made::few).map(judged).collect())
 }
 
 /// Nothing but typing refuses them. Every answer comes with every number of permitted

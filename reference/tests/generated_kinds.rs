@@ -1,13 +1,10 @@
 //! What the generator covers of the kinds of attributes and of constants.
 
-mod common;
-
 use std::collections::{BTreeMap, BTreeSet};
 
-use common::kind_readings::{self, left_of_two_kinds, without_kinds, RIGHT, WRONG};
-use common::{checked, kind_readings::constant_over_2};
+use crate::common::kind_readings::{self, left_of_two_kinds, without_kinds, RIGHT, WRONG};
+use crate::common::{checked, kind_readings::constant_over_2, made};
 use reference::check::ROWS;
-use reference::generate;
 use reference::small::{self, Case};
 use reference::tables::{SELECT, WITH_ATTRIBUTE, WITH_CONSTANT};
 use reference::{expression, Refusal, Tables};
@@ -36,7 +33,8 @@ fn sorts_of_refused(tables: &Tables, refusal: Refusal) -> BTreeSet<&'static str>
             sort(is_sound && word > Some(0), "24, a later word");
             sort(is_sound && word.is_none(), "24, a constant");
             let constant = constant_over_2(tables).map(|form| form as u16);
-            let named = constant.is_some_and(|form| kind_readings::named(tables, form));
+            let named = kind_readings::named(tables);
+            let named = constant.is_some_and(|form| named.contains(&form));
             sort(constant.is_some() && !named, "24, a constant unused");
             sort(before_is(12), "24 and 12");
             sort(before_is(13), "24 and 13");
@@ -77,10 +75,10 @@ fn sorts_of_refused(tables: &Tables, refusal: Refusal) -> BTreeSet<&'static str>
 fn sorts_of_accepted(tables: &Tables) -> BTreeSet<&'static str> {
     let mut sorts = BTreeSet::new();
     let kinds: BTreeSet<u16> = tables.kinds.iter().copied().collect();
+    let named = kind_readings::named(tables);
     for form in 0..tables.count(3) as u16 {
         let comparison = tables.comparison(form.into());
-        let named = kind_readings::named(tables, form);
-        match (left_of_two_kinds(tables, comparison), named) {
+        match (left_of_two_kinds(tables, comparison), named.contains(&form)) {
             (Some(_), true) => sorts.insert("accepted, kinds differ where not taken"),
             (Some(_), false) => sorts.insert("accepted, kinds differ where no select is"),
             (None, true) if kinds.len() > 1 => match comparison[0] {
@@ -116,7 +114,7 @@ fn sorts_of(cases: impl Iterator<Item = Tables>) -> BTreeMap<&'static str, u64> 
 
 #[test]
 fn kinds_are_no_rare_thing() {
-    let times = sorts_of((0..8000).map(generate::case));
+    let times = sorts_of((0..8000).map(made::case));
     assert_eq!(times.len(), 28);
     assert!(times.values().all(|&times| times >= 3), "{times:?}");
     assert!(times["accepted, with a select"] >= 1600);
@@ -149,8 +147,8 @@ fn wrong_readings(calls: impl Iterator<Item = Case>) -> BTreeMap<&'static str, u
 /// Calls of which each wrong way to read kinds would be told.
 #[test]
 fn cases_show_how_kinds_are_read() {
-    let tables = (0..3000).map(generate::case);
-    let tables = tables.chain((0..400).map(generate::compared));
+    let tables = (0..3000).map(made::case);
+    let tables = tables.chain((0..400).map(made::compared));
     let not_large = |tables: &Tables| tables.count(4) << tables.features.min(10) < 2_000;
     let checks = tables.filter(not_large);
     let varied = wrong_readings(checks.map(|tables| Case::Check { tables, room: ROWS }));

@@ -1,11 +1,9 @@
 //! What the generator covers.
 
-mod common;
-
 use std::collections::{BTreeMap, BTreeSet};
 
-use common::readings::{self, WRONG};
-use common::{checked, first_that_hold, lists_at, paged_with, Listed};
+use crate::common::readings::{self, WRONG};
+use crate::common::{checked, first_that_hold, lists_at, made, paged_with, Listed};
 use reference::check::{self, shown, ROWS};
 use reference::generate::{self, is_crossed, is_small, outcome};
 use reference::generate::{Answer, Family, Kept, AIMS, DIGITS, LIMITS, NUMBERS, ROOMS};
@@ -27,7 +25,7 @@ fn varies(tables: &Tables) -> bool {
 #[test]
 fn four_in_ten_cases_are_accepted_with_variation() {
     let count = 3000;
-    let varied = (0..count).filter(|&seed| varies(&generate::case(seed)));
+    let varied = (0..count).filter(|&seed| varies(&made::case(seed)));
     let varied = varied.count() as u64;
     println!("{varied} of {count}");
     assert!(varied * 10 >= count * 4);
@@ -42,9 +40,7 @@ fn every_case_built_to_be_accepted_is() {
 
 #[test]
 fn every_number_comes_up() {
-    let numbers: BTreeSet<u64> = (0..3000)
-        .map(|seed| outcome(&generate::case(seed)))
-        .collect();
+    let numbers: BTreeSet<u64> = (0..3000).map(|seed| outcome(&made::case(seed))).collect();
     let wanted = [0].into_iter().chain(NUMBERS);
     assert_eq!(numbers, wanted.collect());
 }
@@ -180,7 +176,7 @@ fn faults_cross() {
 fn full_cases_are_full() {
     let mut outcomes = BTreeSet::new();
     for seed in 0..24 {
-        let tables = generate::full(seed);
+        let tables = made::full(seed);
         let number = outcome(&tables);
         outcomes.insert(number);
         if number == 0 {
@@ -228,7 +224,7 @@ fn sorts_of_repeats(cases: impl Iterator<Item = Tables>) -> BTreeMap<&'static st
 
 #[test]
 fn repeats_are_no_rare_thing() {
-    let times = sorts_of_repeats((0..6000).map(generate::case));
+    let times = sorts_of_repeats((0..6000).map(made::case));
     assert!(times["a repeat"] >= 2000);
     assert!(times["an attribute three times"] >= 600);
     assert!(times["accepted"] >= 1500);
@@ -311,7 +307,7 @@ fn sorts_of_ranges(cases: impl Iterator<Item = Tables>) -> BTreeMap<&'static str
 /// expression, and refused.
 #[test]
 fn ranges_are_no_rare_thing() {
-    let times = sorts_of_ranges((0..6000).map(generate::case));
+    let times = sorts_of_ranges((0..6000).map(made::case));
     assert_eq!(times.len(), 10);
     assert!(times.values().all(|&times| times >= 60), "{times:?}");
     let small = (0..3600).filter_map(|seed| tables_of(&small::case(seed)).cloned());
@@ -323,7 +319,7 @@ fn ranges_are_no_rare_thing() {
 /// Calls of which each wrong way to read kind 6 would be told.
 #[test]
 fn ranges_show_how_they_are_read() {
-    let tables = (0..10_000).map(generate::case);
+    let tables = (0..10_000).map(made::case);
     let checks = tables.map(|tables| Case::Check { tables, room: ROWS });
     let varied = wrong_readings(checks);
     assert!(varied.values().all(|&times| times >= 8), "{varied:?}");
@@ -367,7 +363,7 @@ fn configuring_shows_which_entry_is_kept() {
     let mut random = Random::new(7);
     let mut calls: Vec<(Tables, u64)> = Vec::new();
     for seed in 0..3000 {
-        let tables = generate::case(seed);
+        let tables = made::case(seed);
         if outcome(&tables) == 0 {
             let permitted = expression::permitted(&tables);
             calls.push((
@@ -495,11 +491,11 @@ fn answers_of_find(cases: impl Iterator<Item = Tables>) -> BTreeMap<&'static str
 
 #[test]
 fn no_answer_of_find_is_rare() {
-    let answers = answers_of_find((0..2000).map(generate::case));
+    let answers = answers_of_find((0..2000).map(made::case));
     assert_eq!(answers.len(), 5);
     assert!(answers.values().all(|&times| times >= 200), "{answers:?}");
     // With 64 attributes 22 is never given.
-    let answers = answers_of_find((0..24).map(generate::full));
+    let answers = answers_of_find((0..24).map(made::full));
     assert!(!answers.contains_key("22") && answers.len() >= 3);
 }
 

@@ -2,13 +2,11 @@
 //! generated cases against `plain`, and against the same with all kinds 0; and which
 //! stored case tells which wrong program.
 
-mod common;
-
 use std::collections::BTreeMap;
 
-use common::kind_readings::{self, without_kinds, RIGHT, WRONG};
-use common::{checked, checked_with, configured_with, h1, paged_with, refused};
-use common::{source_room, written};
+use crate::common::kind_readings::{self, without_kinds, RIGHT, WRONG};
+use crate::common::{checked, checked_with, configured_with, h1, made, paged_with, refused};
+use crate::common::{source_room, written};
 use reference::cases::{Aimed, FILES};
 use reference::check::{shown, ROWS};
 use reference::file::{print_file, read_file, write_file, write_file_with_kinds};
@@ -154,7 +152,7 @@ fn a_report_with_no_comparisons_is_judged_the_same_whatever_the_kinds() {
     let mut random = Random::new(5);
     let mut compared = BTreeMap::new();
     for mut tables in (0..4000)
-        .map(generate::case)
+        .map(made::case)
         .chain((0..2000).map(generate::small))
     {
         if !tables.comparisons.is_empty() && random.chance(1, 2) {
@@ -182,7 +180,7 @@ fn a_report_with_no_comparisons_is_judged_the_same_whatever_the_kinds() {
 fn the_plain_rules_have_it_too() {
     let (mut accepted, mut refused) = (0, 0);
     for tables in (0..3000)
-        .map(generate::case)
+        .map(made::case)
         .chain((0..3000).map(generate::small))
     {
         let Ok(lists) = form::check(&tables) else {
@@ -276,7 +274,7 @@ fn kind_lines_end_a_file() {
 fn a_file_with_kind_lines_of_0_is_the_same_as_without() {
     let mut compared = 0;
     for seed in 0..1500 {
-        let tables = generate::case(seed);
+        let tables = made::case(seed);
         let kinds = vec![0; tables.attributes.min(64) as usize];
         let tables = Tables { kinds, ..tables };
         let [without, with] = [write_file(&tables), write_file_with_kinds(&tables)];
@@ -358,7 +356,7 @@ fn sharing_takes_no_time() {
 
 /// Calls of all families, but for the largest, and small ones.
 fn calls() -> impl Iterator<Item = Case> {
-    let varied = (0..3000).map(generate::case);
+    let varied = (0..3000).map(made::case);
     let several = (0..500).map(|seed| generate::of_family(Family::Several, seed));
     let not_large = |tables: &Tables| tables.count(4) << tables.features.min(10) < 10_000;
     let checks = varied.chain(several).filter(not_large);
@@ -384,7 +382,7 @@ fn all_else_is_as_before() {
 /// With all kinds 0, the constants' too, neither 24 nor 25 is given.
 #[test]
 fn with_all_kinds_0_there_is_no_fault_of_kinds() {
-    for tables in (0..3000).map(generate::case) {
+    for tables in (0..3000).map(made::case) {
         let tables = without_kinds(&tables);
         let number = checked(&tables).err().map_or(0, |refusal| refusal.number);
         assert!(number != 24 && number != 25, "{tables:?}");
@@ -397,7 +395,7 @@ fn with_all_kinds_0_there_is_no_fault_of_kinds() {
 #[test]
 fn kinds_change_no_columns() {
     let mut kept: BTreeMap<u64, u64> = BTreeMap::new();
-    for tables in (0..3000).map(generate::case) {
+    for tables in (0..3000).map(made::case) {
         let before = checked(&without_kinds(&tables));
         let now = checked(&tables);
         match (&before, &now) {

@@ -1,11 +1,9 @@
 //! The wall page: its sentences one by one, the order of its refusals, and
 //! generated cases against the rows, the print and the plain rules.
 
-mod common;
-
 use std::collections::BTreeSet;
 
-use common::{checked, configured_with, h1, paged_with, source_room};
+use crate::common::{checked, configured_with, h1, made, paged_with, source_room};
 use reference::file::{page_file, print_file, print_tables, read_file, write_file};
 use reference::generate::{self, LIMITS, NUMBERS};
 use reference::plain::{self, Attributes};
@@ -229,9 +227,9 @@ fn all_earlier_refusals_come_before_23() {
 /// Tables with the length of a lent page: of all families, small ones, of full
 /// size, and those aimed at pages.
 fn calls() -> impl Iterator<Item = (Tables, usize)> {
-    let varied = (0..500).map(generate::case);
+    let varied = (0..500).map(made::case);
     let small = (0..1000).map(generate::small);
-    let full = (0..4).map(generate::full);
+    let full = (0..4).map(made::full);
     let walls = (0..120).map(generate::wall);
     let mut random = Random::new(1);
     let all = varied.chain(small).chain(full).chain(walls);
@@ -346,7 +344,7 @@ fn every_byte_of_the_lines_is_written() {
 fn the_program_prints_the_page_or_what_columns_prints() {
     let mut letters = BTreeSet::new();
     for seed in 0..600 {
-        let tables = generate::case(seed);
+        let tables = made::case(seed);
         let mut text = write_file(&tables);
         if seed % 3 == 0 {
             text = generate::damage(seed, &text);

@@ -2,10 +2,8 @@
 //! sentences of the request one by one, worked out by hand, and then the demands
 //! over generated tables that have repeats.
 
-mod common;
-
-use common::{checked, configured_with, first_that_hold, lists_at};
-use common::{refused, source_room, written};
+use crate::common::{checked, configured_with, first_that_hold, lists_at, made};
+use crate::common::{refused, source_room, written};
 use reference::check::shown;
 use reference::generate::{self, Family, Kept};
 use reference::plain::{self, Attributes, Tree};
@@ -347,7 +345,7 @@ fn the_configured_tree_has_joined_lists() {
 
 /// Tables with repeats, of all families.
 fn with_repeats() -> impl Iterator<Item = Tables> {
-    let varied = (0..1500).map(generate::case);
+    let varied = (0..1500).map(made::case);
     let small = (10_000..13_000).map(generate::small);
     let several = (0..500).map(|seed| generate::of_family(Family::Several, seed));
     let long = (0..60).map(|seed| generate::of_family(Family::Repeats, seed));

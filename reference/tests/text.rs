@@ -1,10 +1,8 @@
 //! The harbour file: what is read, what is unread, what is printed.
 
-mod common;
-
 use std::collections::BTreeSet;
 
-use common::h1;
+use crate::common::{h1, made};
 use reference::file::{print_file, read_file, write_file, write_file_with_kinds, MOST_BYTES};
 use reference::generate;
 use reference::random::Random;
@@ -116,7 +114,7 @@ fn long_files() {
 fn what_is_written_reads_back() {
     assert_eq!(read_file(&write_file(&h1())), Ok(h1()));
     for seed in 0..800 {
-        let tables = generate::case(seed);
+        let tables = made::case(seed);
         let head = tables.features.max(tables.attributes).max(tables.model);
         // Heads over 65535, cut forms and over-full tables have no file; nor has a
         // kind table without words where there are attributes.

@@ -1,9 +1,9 @@
 //! Four wrong programs: the right answer on a case that the
 //! wrong program gets wrong. And some more traps of the same sort.
 
-mod common;
-
-use common::{checked, checked_with, configured_with, h1, h1_without_list, refused, source_room};
+use crate::common::{
+    checked, checked_with, configured_with, h1, h1_without_list, refused, source_room,
+};
 use reference::check::shown;
 use reference::Tables;
 

@@ -1,68 +1,34 @@
 -- How the parts of configuring make its answer, and what each part leaves for the next.
-use Prim.Native.Nat.{ℕ, _+_, _*_, _/_, _%_, _^_, _≤_, _<_}
-use mathlib.Core.Path.{_≡_, refl, sym, ap, ap₂, _∙_}
-use mathlib.Core.Bool.{Bool, true, false, not, _&&_}
-use mathlib.Core.List.{List, [], _∷_, _++_}
+use Prim.Native.Nat.{ℕ, _*_, _/_, _%_}
+use mathlib.Core.Path.{_≡_, refl, sym, ap, _∙_}
+use mathlib.Core.Bool.{true, not}
+use mathlib.Core.List.{List, [], _∷_}
 use mathlib.Core.Logic.{_↔_}
 use native.Mathlib.Nat.{div-add-mod'}
-use native.Mathlib.Decide.{decLt}
 use native.Mathlib.Omega.{arith}
-use borrow.Author.Tests.{lt-ltb, le-ltb, not-false}
-use lib.Dec.{ltb}
-use lib.Pow.{pow-mono}
+use borrow.Author.Tests.{not-false}
 use lib.ListN.{length, take, drop}
 use lib.Seq.{take-at}
-use Rattle.sets.specs.Rows.{rowBit, rowOf}
-use Rattle.sets.proofs.RowLaws.{rowBit-rowOf, within-out}
 use Rattle.report.specs.Tables.{Tables}
 use Rattle.report.specs.Expressions.{holds, permitted, tablesOf}
 use Rattle.report.specs.Configuring.{configured, written}
-use Rattle.report.specs.Verdicts.{refusal, refuseIf, orElse, firstOf}
+use Rattle.report.specs.Verdicts.{refusal, refuseIf, firstOf}
 use Rattle.report.specs.Formed.{Formed}
 use Rattle.report.specs.Checks.{isTypingFault}
-use Rattle.report.specs.Calls.{Call, permittedCondition, roomConditions, configuring}
+use Rattle.report.specs.Calls.{Call, roomConditions, configuring}
 use Rattle.report.specs.declared.Refusal.{Refusal}
 use Rattle.report.specs.declared.Verdict.{Verdict}
-use Rattle.report.proofs.VerdictLaws.{both-accepted, then-next, if-accepted, accepted-if}
-use Rattle.report.proofs.FirstFault.{first-none, first-room, room-fits, first-own}
-use Rattle.forms.proofs.Chain.{stops}
+use Rattle.report.proofs.VerdictLaws.{both-accepted, if-accepted}
+use Rattle.report.proofs.FirstFault.{first-none, room-fits, first-own}
 use Rattle.judging.specs.Judging.{reportCheck}
 use Rattle.judging.proofs.JudgingLaws.{call-refused, call-late, Rows}
 use Rattle.configuring.specs.declared.Configured.{Configured}
-use Rattle.configuring.specs.declared.LentWords.{LentWords}
 use Rattle.configuring.specs.Promises.{configuredAnswer, Rooms, Leaves, Configures, isConfiguredFault}
-use Rattle.configuring.specs.AfterTyping.{lateVerdict, SourceReads, LateReads, ConfigureReads}
+use Rattle.configuring.specs.AfterTyping.{lateVerdict, ConfigureReads}
 
--- ---- 20
+-- ---- 20 and 21
 
--- the permitted configurations are below 1,024, so a larger number is none of them
-told-permitted : (T : Tables) → T .features ≤ 10 → {permits : List ℕ} → permits ≡ rowOf 16 (permitted T) → (c : ℕ)
-    → (ltb c 1024 && rowBit permits c) ≡ permitted T c
-unfolding permitted
-told-permitted T few {permits} e c = go (decLt c 1024)
-  where
-    go : Dec (c < 1024) → (ltb c 1024 && rowBit permits c) ≡ permitted T c
-    go (yes h) = rw (lt-ltb c 1024 h) (ap (λ (l : List ℕ). rowBit l c) e ∙ rowBit-rowOf 16 (permitted T) c h)
-    go (no h) =
-        let m : 2 ^ (T .features) ≤ 1024 = pow-mono few in
-        rw (le-ltb c 1024 (omega arith)) (sym (within-out (T .features) (λ d. T .truth d (T .model)) c (omega arith)))
-
--- ---- 21
-
-module _ {T : Tables} {entries relations comparisons queries : List ℕ} (R : SourceReads T entries relations comparisons queries)
-    (lent : LentWords) where
-  -- the four tests, one after another
-  pub room-answers : {a b c d x y v : Verdict} → a ≡ refuseIf (ltb (lent .entries) (length entries)) (refusal 21 1 0 0)
-      → b ≡ refuseIf (ltb (lent .relations) (length relations)) (refusal 21 2 0 0)
-      → c ≡ refuseIf (ltb (lent .comparisons) (length comparisons)) (refusal 21 3 0 0)
-      → d ≡ refuseIf (ltb (lent .queries) (length queries)) (refusal 21 4 0 0) → x ≡ orElse c d → y ≡ orElse b x → v ≡ orElse a y
-      → v ≡ firstOf (roomConditions (lent .entries) (lent .relations) (lent .comparisons) (lent .queries) T)
-  room-answers ea eb ec ed ex ey ev =
-      let e = ev ∙ ap₂ orElse ea (ey ∙ ap₂ orElse eb (ex ∙ ap₂ orElse ec ed)) in
-      (rw (R .entriesAre, R .relationsAre, R .comparisonsAre, R .queriesAre) at e)
-      ∙ sym (first-room T (lent .entries) (lent .relations) (lent .comparisons) (lent .queries))
-
--- where they accept there is room for each table
+-- where the tests of 21 accept there is room for each table
 pub room-accepted : (T : Tables) (newEntries newRelations newComparisons newQueries : List ℕ)
     → firstOf (roomConditions (length newEntries) (length newRelations) (length newComparisons) (length newQueries) T) ≡ Verdict.Accepted
     → Rooms T newEntries newRelations newComparisons newQueries
@@ -70,35 +36,7 @@ room-accepted T newEntries newRelations newComparisons newQueries e =
     let h = room-fits T (length newEntries) (length newRelations) (length newComparisons) (length newQueries) .0 e in
     record { entries = h .0; relations = h .1; comparisons = h .2; queries = h .3 }
 
--- ---- 20 and 21
-
-module _ {T : Tables} {permits entries relations comparisons queries : List ℕ} (R : LateReads T permits entries relations comparisons queries) (c : ℕ)
-    (lent : LentWords) where
-  abbrev room : Verdict
-  room = firstOf (roomConditions (lent .entries) (lent .relations) (lent .comparisons) (lent .queries) T)
-
-  abbrev late : Verdict
-  late = firstOf (permittedCondition c T ++ roomConditions (lent .entries) (lent .relations) (lent .comparisons) (lent .queries) T)
-
-  abbrev permittedCheck : Verdict
-  permittedCheck = refuseIf (not (permitted T c)) (refusal 20 0 0 c)
-
-  late-parts : late ≡ orElse permittedCheck room
-  late-parts = first-own T c (lent .entries) (lent .relations) (lent .comparisons) (lent .queries)
-
-  module _ {told : Bool} (tells : told ≡ (ltb c 1024 && rowBit permits c)) where
-    is-told : told ≡ permitted T c
-    is-told = tells ∙ told-permitted T (R .few) (R .permitting) c
-
-    pub late-refuses : not told ≡ true → Verdict.Refused (refusal 20 0 0 c) ≡ late
-    late-refuses f =
-        let own : Verdict.Refused (refusal 20 0 0 c) ≡ permittedCheck = ap (λ (b : Bool). refuseIf b (refusal 20 0 0 c)) (sym f ∙ ap not is-told) in
-        stops room own refl ∙ sym late-parts
-
-    pub room-decides : not told ≡ false → {w : Verdict} → w ≡ room → w ≡ late
-    room-decides f e = e ∙ sym (then-next (accepted-if (refusal 20 0 0 c) (ap not (sym is-told) ∙ f))) ∙ sym late-parts
-
--- where they accept, c is permitted and there is room for each table
+-- where both accept, c is permitted and there is room for each table
 pub late-accepted : (T : Tables) (c : ℕ) (newEntries newRelations newComparisons newQueries : List ℕ)
     → lateVerdict T c newEntries newRelations newComparisons newQueries ≡ Verdict.Accepted
     → (permitted T c ≡ true) × Rooms T newEntries newRelations newComparisons newQueries

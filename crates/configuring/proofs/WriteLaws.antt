@@ -26,9 +26,10 @@ use Rattle.at_configuration.proofs.PreparedLaws.{at-reads, relation-reads, comp
 use Rattle.kept_lists.specs.Keeping.{relationLists, projectLists, relationForms, KeptRelationWritable, ProjectReads}
 use Rattle.kept_forms.specs.Numbering.{comparisonForms, queryForms, ComparisonFormReads, ComparisonFormWritable}
 use Rattle.kept_forms.specs.Numbering.{QueryReads, QueryNumberable, QueryFormReads, QueryFormWritable}
+use Rattle.late_checks.specs.LateReads.{LateReads}
 use Rattle.configuring.specs.declared.Configured.{Configured}
 use Rattle.configuring.specs.Promises.{Rooms, Leaves}
-use Rattle.configuring.specs.AfterTyping.{LateReads, ConfigureReads, EntriesReads, EntriesWritable, KeptReads, KeptWritable}
+use Rattle.configuring.specs.AfterTyping.{ConfigureReads, EntriesReads, EntriesWritable, KeptReads, KeptWritable}
 
 -- ---- the texts are the tables of `configured`
 

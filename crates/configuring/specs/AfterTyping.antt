@@ -1,12 +1,11 @@
 -- The parts of the call after typing.
-use Prim.Native.Nat.{ℕ, _<_, _≤_}
+use Prim.Native.Nat.{ℕ, _<_}
 use mathlib.Core.Path.{_≡_}
 use mathlib.Core.List.{List, _++_}
 use lib.ListN.{length}
-use Rattle.sets.specs.Rows.{rowOf}
 use Rattle.sets.specs.Writing.{Room}
 use Rattle.report.specs.Tables.{Tables}
-use Rattle.report.specs.Expressions.{configurations, permitted}
+use Rattle.report.specs.Expressions.{configurations}
 use Rattle.report.specs.Verdicts.{firstOf}
 use Rattle.report.specs.Calls.{permittedCondition, roomConditions}
 use Rattle.report.specs.Formed.{Formed}
@@ -14,25 +13,13 @@ use Rattle.report.specs.declared.Verdict.{Verdict}
 use Rattle.expression_rows.specs.ExpressionRows.{TruthFilled, Prepared, ReachFilled}
 use Rattle.at_configuration.specs.AtConfiguration.{RelationReads}
 use Rattle.kept_lists.specs.Keeping.{relationLists, projectLists, ProjectReads}
+use Rattle.late_checks.specs.LateReads.{SourceReads}
 use Rattle.configuring.specs.Promises.{Rooms}
 
 -- 20 and 21 at c, with these tables lent for writing
 abbrev pub lateVerdict : Tables → ℕ → List ℕ → List ℕ → List ℕ → List ℕ → Verdict
 lateVerdict T c newEntries newRelations newComparisons newQueries =
     firstOf (permittedCondition c T ++ roomConditions (length newEntries) (length newRelations) (length newComparisons) (length newQueries) T)
-
--- tables 1 to 4
-pub record SourceReads (T : Tables) (entries relations comparisons queries : List ℕ) : Type 0 where
-  pub entriesAre : entries ≡ T .entries
-  pub relationsAre : relations ≡ T .relations
-  pub comparisonsAre : comparisons ≡ T .comparisons
-  pub queriesAre : queries ≡ T .queries
-
--- besides, the permitted configurations, of at most 10 features
-pub record LateReads (T : Tables) (permits entries relations comparisons queries : List ℕ) : Type 0 where
-  pub few : T .features ≤ 10
-  pub permitting : permits ≡ rowOf 16 (permitted T)
-  pub source : SourceReads T entries relations comparisons queries
 
 -- tables 1 to 4, the expression rows and the reach rows of tables that have passed the form checks
 pub record ConfigureReads (T : Tables) (model : ℕ) (expressionRows reach entries relations comparisons queries : List ℕ) : Type 0 where

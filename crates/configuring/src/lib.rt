@@ -11,98 +11,28 @@ use kept_forms::write_queries;
 use kept_lists::write_project_lists;
 use kept_lists::write_relation_forms;
 use kept_lists::write_relation_lists;
+use late_checks::LentWords;
+use late_checks::check_late;
 use report::Head;
 use report::Limits;
 use report::Refusal;
 use report::Verdict;
 use sets::Row;
-use verdicts::or_else;
-use verdicts::refuse_if;
-ghost use mathlib.Core.Path.{_≡_};
-ghost use mathlib.Core.Bool.{_&&_};
 ghost use mathlib.Core.List.{_++_};
-ghost use lib.Dec.{ltb};
-ghost use Rattle.sets.specs.Rows.{rowBit};
 ghost use Rattle.sets.specs.Writing.{WrittenAt};
 ghost use Rattle.report.specs.Tables.{Tables};
 ghost use Rattle.report.specs.Expressions.{tablesUnder};
 ghost use Rattle.report.specs.Configuring.{configured};
-ghost use Rattle.report.specs.Verdicts.{firstOf};
-ghost use Rattle.report.specs.Calls.{permittedCondition, roomConditions};
 ghost use Rattle.report.specs.declared.Verdict.{Verdict};
 ghost use Rattle.kept_lists.specs.Keeping.{relationLists, projectLists};
 ghost use Rattle.configuring.specs.Promises.{Leaves, Configures};
-ghost use Rattle.configuring.specs.AfterTyping.{lateVerdict, SourceReads, LateReads, ConfigureReads, ConfigureReadable};
+ghost use Rattle.configuring.specs.AfterTyping.{lateVerdict, ConfigureReads, ConfigureReadable};
 ghost use Rattle.configuring.specs.AfterTyping.{EntriesReads, EntriesWritable, KeptReads, KeptWritable};
 
 // What configuring answers: how many forms tables 1 to 4 have, or the refusal.
 pub enum Configured {
     Written(usize, usize, usize, usize),
     Refused(Refusal),
-}
-
-// Configuration c is in the row. Any number may be asked for, so it is compared before it is narrowed.
-fn is_permitted(permitted: Row, c: u64) -> bool
-    ensures { λ r. ⌜ r ≡ (ltb c 1024 && rowBit (permitted .words) c) ⌝ }
-{
-    if c < 1024 {
-        permitted.has(c as usize)
-    } else {
-        false
-    }
-}
-
-// How many words each of the tables lent for writing has.
-struct LentWords {
-    entries: usize,
-    relations: usize,
-    comparisons: usize,
-    queries: usize,
-}
-
-// Check 21: each table lent for writing has as many words as its source.
-fn check_room(
-    lent: LentWords,
-    entries: &[u16],
-    relations: &[u16],
-    comparisons: &[u16],
-    queries: &[u16],
-) -> Verdict
-    ensures { λ v.
-        ⌜ ((T : Tables) → SourceReads T (now (entries .entry)) (now (relations .entry)) (now (comparisons .entry)) (now (queries .entry))
-        → v ≡ firstOf (roomConditions (lent .entries) (lent .relations) (lent .comparisons) (lent .queries) T)) ⌝ }
-{
-    let a = refuse_if(lent.entries < entries.len(), 21, 1);
-    let b = refuse_if(lent.relations < relations.len(), 21, 2);
-    let c = refuse_if(lent.comparisons < comparisons.len(), 21, 3);
-    let d = refuse_if(lent.queries < queries.len(), 21, 4);
-    or_else(a, or_else(b, or_else(c, d)))
-}
-
-// Checks 20 and 21, where these configurations are permitted.
-fn check_late(
-    permitted: Row,
-    c: u64,
-    lent: LentWords,
-    entries: &[u16],
-    relations: &[u16],
-    comparisons: &[u16],
-    queries: &[u16],
-) -> Verdict
-    ensures { λ v.
-        ⌜ ((T : Tables)
-        → LateReads T (permitted .words) (now (entries .entry)) (now (relations .entry)) (now (comparisons .entry)) (now (queries .entry))
-        → v ≡ firstOf (permittedCondition c T ++ roomConditions (lent .entries) (lent .relations) (lent .comparisons) (lent .queries) T)) ⌝ }
-{
-    if !is_permitted(permitted, c) {
-        return Verdict::Refused(Refusal {
-            number: 20,
-            place: 0,
-            item: 0,
-            configuration: c,
-        });
-    }
-    check_room(lent, entries, relations, comparisons, queries)
 }
 
 // Writes table 1 at c: the lists of the relations that are present, then those of the project forms that are reached.

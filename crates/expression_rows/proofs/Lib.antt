@@ -1,4 +1,3 @@
-pub mod ExactlyOneRow
 pub mod FillLaws
 pub mod PermittedLaws
 pub mod CheckLaws

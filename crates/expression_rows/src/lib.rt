@@ -4,6 +4,7 @@ use decoders::entry_attribute;
 use decoders::entry_expression;
 use decoders::relation_expression;
 use decoders::relation_length;
+use feature_rows::exactly_one;
 use report::Expression;
 use report::Refusal;
 use report::Verdict;
@@ -11,35 +12,16 @@ use sets::Row;
 use verdicts::refuse;
 use verdicts::refuse_if;
 ghost use mathlib.Core.Path.{_≡_};
-ghost use Prim.Native.Nat.{_+_, _/_, _≤_};
+ghost use Prim.Native.Nat.{_/_};
 ghost use lib.ListN.{length};
-ghost use Rattle.sets.specs.Rows.{rowOf, rowIntersect, rowIsEmpty};
+ghost use Rattle.sets.specs.Rows.{rowIsEmpty};
 ghost use Rattle.report.specs.Tables.{Tables};
-ghost use Rattle.report.specs.Expressions.{exactlyOneOn};
 ghost use Rattle.report.specs.Verdicts.{refusal, refuseIf};
 ghost use Rattle.report.specs.Checks.{schemaCheck};
 ghost use Rattle.report.specs.Configuring.{written};
 ghost use Rattle.report.specs.Formed.{ExpressionLower};
 ghost use Rattle.expression_rows.specs.ExpressionRows.{freshRows, ExpressionsFillable, SchemaReads, SchemaReadable};
 ghost use Rattle.expression_rows.specs.RowRules.{stepRow, listRule, relationRule, ListRead, RelationRead};
-
-// The configurations of `full` where exactly one of `count` features from `first` on is on. Of the features that were passed, `some` has the
-// configurations where at least one is on, `more` those where more than one is.
-fn exactly_one(first: usize, count: usize, full: Row) -> Row
-    requires { ⌜ first + count ≤ 10 ⌝ }
-    ensures { λ r. ⌜ r .words ≡ rowIntersect 16 (full .words) (rowOf 16 (exactlyOneOn first count)) ⌝ }
-{
-    let mut some = Row::empty();
-    let mut more = Row::empty();
-    let mut k = 0;
-    while k < count {
-        let on = Row::feature(first + k);
-        more = more.join(some.intersect(on));
-        some = some.join(on);
-        k += 1;
-    }
-    full.intersect(some.minus(more))
-}
 
 // The row of an expression, from the rows of lower forms; `full` has the configurations of all features.
 fn expression_row(x: Expression, full: Row, expression_rows: &[u64]) -> Row

@@ -6,8 +6,8 @@ use lib.ListN.{length}
 use Rattle.report.specs.Tables.{Tables}
 use Rattle.report.specs.Configuring.{configured}
 use Rattle.report.specs.Calls.{answer, checking, configuring}
-use Rattle.report.specs.declared.Refusal.{Refusal}
 use Rattle.report.specs.declared.Verdict.{Verdict}
+use Rattle.c_answers.specs.RefusalWords.{refusalWords}
 use Rattle.checking.specs.Promises.{Checks}
 use Rattle.configuring.specs.Promises.{configuredAnswer, Configures}
 use Rattle.configuring.specs.declared.Configured.{Configured}
@@ -15,10 +15,6 @@ use Rattle.finding.specs.Finding.{finding, lowestWanted, foundAnswer}
 use Rattle.finding.specs.declared.FindAnswer.{FindAnswer}
 use Rattle.wall_page.specs.Page.{pageGives, pageAfter}
 use Rattle.wall_page.specs.declared.PageAnswer.{PageAnswer}
-
--- number, place, item and configuration
-abbrev pub refusalWords : Refusal → List ℕ
-refusalWords r = r .number ∷ r .place ∷ r .item ∷ r .configuration ∷ []
 
 -- ---- checking
 

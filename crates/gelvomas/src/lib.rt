@@ -1,30 +1,17 @@
 // Checking, configuring, finding and the page as C functions.
+use c_answers::AnswerWords;
+use c_answers::tell_refusal;
 use checking::check;
 use configuring::Configured;
 use configuring::configure;
 use finding::FindAnswer;
 use finding::find;
 use report::Head;
-use report::Refusal;
 use report::Verdict;
 use wall_page::PageAnswer;
 use wall_page::write_page;
-ghost use mathlib.Core.Path.{_≡_};
 ghost use Rattle.report.specs.Expressions.{tablesOf};
-ghost use Rattle.gelvomas.specs.Answers.{refusalWords, CheckTold, ConfigureTold, FindTold, PageTold};
-
-// Number, place, item and configuration of a refusal; how many forms tables 1 to 4 have; a configuration, or a number of lines, and three words that
-// are 0; or, for none, four such words.
-pub type AnswerWords = [u64; 4];
-
-// Tells a refusal: 1, and its words in those lent for the answer.
-fn tell_refusal(r: Refusal, answer: &mut AnswerWords) -> u64
-    ensures { λ n. ⌜ n ≡ 1 ⌝ }
-    ensures { λ _. ⌜ now (answer .exit) ≡ refusalWords r ⌝ }
-{
-    *answer = [r.number, r.place, r.item, r.configuration];
-    1
-}
+ghost use Rattle.gelvomas.specs.Answers.{CheckTold, ConfigureTold, FindTold, PageTold};
 
 // Answers 0 where the report is accepted: `rows` holds its column rows, and `refusal` is as it was.
 // Else answers 1: `refusal` holds number, place, item and configuration, and `rows` is as it was.

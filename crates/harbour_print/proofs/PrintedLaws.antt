@@ -19,8 +19,9 @@ use Rattle.report.proofs.FirstFault.{first-none, first-one}
 use Rattle.report.proofs.TypingLaws.{rows-length}
 use Rattle.judging.specs.Judging.{reportCheck}
 use Rattle.judging.proofs.JudgingLaws.{call-parts, Columns, shifted-configurations, shifted-few}
-use Rattle.printing.specs.Lines.{refusalLine, unreadLine, acceptedText, AcceptedRead}
-use Rattle.printing.proofs.LinePieces.{refusal-print, unread-print}
+use Rattle.writing.specs.Lines.{refusalLine, unreadLine}
+use Rattle.writing.proofs.LinePieces.{refusal-print, unread-print}
+use Rattle.printing.specs.ColumnLines.{acceptedText, AcceptedRead}
 use Rattle.printing.proofs.PrintLaws.{accepted-print, accepted-room}
 use Rattle.printing.specs.PageRows.{pageText, PageRead}
 use Rattle.printing.proofs.PageLaws.{rows-page, page-room}

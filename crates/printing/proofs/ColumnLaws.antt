@@ -1,5 +1,5 @@
 -- What the column rows show at one configuration, found attribute by attribute; and the lines that follow from it.
-use Prim.Native.Nat.{ℕ, _+_, _-_, _*_, _/_, _%_, _^_, _≤_, _<_}
+use Prim.Native.Nat.{ℕ, _+_, _*_, _/_, _%_, _^_, _≤_, _<_}
 use mathlib.Core.Path.{_≡_, refl, sym, ap, ap₂, _∙_}
 use mathlib.Core.Bool.{Bool, true, false, cond, _&&_}
 use mathlib.Core.List.{List, [], _++_}
@@ -15,7 +15,8 @@ use Rattle.sets.proofs.BitLaws.{bit-none, one-more, all-below}
 use Rattle.sets.proofs.ListLaws.{table-at}
 use Rattle.report.specs.ColumnRows.{shown}
 use Rattle.report.specs.Text.{bytes, line}
-use Rattle.printing.specs.Lines.{configurationLine, configurationText, acceptedText}
+use Rattle.writing.specs.Lines.{configurationLine}
+use Rattle.printing.specs.ColumnLines.{configurationText, acceptedText}
 
 -- ---- what the rows show at c
 

@@ -1,5 +1,3 @@
-pub mod Pieces
-pub mod LinePieces
 pub mod ColumnLaws
 pub mod PrintLaws
 pub mod PageLineLaws

@@ -24,9 +24,10 @@ use Rattle.report.specs.declared.Refusal.{Refusal}
 use Rattle.report.specs.declared.Verdict.{Verdict}
 use Rattle.report.proofs.TextLaws.{decimal-length}
 use Rattle.report.proofs.TypingLaws.{shown-columns}
-use Rattle.printing.specs.Lines.{refusalLine, unreadLine, memberText, membersText, configurationLine, configurationText, acceptedText}
-use Rattle.printing.proofs.LinePieces.{members-concat, member-yes, member-no}
-use Rattle.printing.proofs.LinePieces.{number, ending, configuration-print, refusal-pieces, unread-pieces, configuration-pieces}
+use Rattle.writing.specs.Lines.{refusalLine, unreadLine, memberText, membersText, configurationLine}
+use Rattle.writing.proofs.LinePieces.{members-concat, member-yes, member-no}
+use Rattle.writing.proofs.LinePieces.{number, ending, configuration-print, refusal-pieces, unread-pieces, configuration-pieces}
+use Rattle.printing.specs.ColumnLines.{configurationText, acceptedText}
 use Rattle.printing.proofs.ColumnLaws.{configuration-yes, configuration-no, accepted-pieces}
 
 -- ---- the print of an accepted report

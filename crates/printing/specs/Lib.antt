@@ -1,3 +1,3 @@
-pub mod Lines
+pub mod ColumnLines
 pub mod Page
 pub mod PageRows

@@ -1,12 +1,12 @@
 // The print of an accepted report: the columns of each permitted configuration, from the column rows.
-use crate::put_at_line;
-use crate::put_bytes;
 use sets::AttributeSet;
 use sets::Row;
+use writing::put_at_line;
+use writing::put_bytes;
 ghost use mathlib.Core.Path.{_≡_};
 ghost use Rattle.sets.specs.Writing.{WrittenAt};
 ghost use Rattle.report.specs.ColumnRows.{shown};
-ghost use Rattle.printing.specs.Lines.{configurationText, acceptedText, RowsRead, ConfigurationRead, AcceptedRead};
+ghost use Rattle.printing.specs.ColumnLines.{configurationText, acceptedText, RowsRead, ConfigurationRead, AcceptedRead};
 
 // The attributes that the rows show at configuration c.
 pub fn shown_at(rows: &[u64], c: usize) -> AttributeSet

@@ -1,9 +1,9 @@
 // The wall page of an accepted report: a line for each permitted configuration, from the column rows.
-use crate::put_bytes;
-use crate::put_decimal;
 use crate::shown_at;
 use sets::AttributeSet;
 use sets::Row;
+use writing::put_bytes;
+use writing::put_decimal;
 ghost use mathlib.Core.Path.{_≡_};
 ghost use lib.ListN.{length};
 ghost use Rattle.sets.specs.Writing.{Room, WrittenAt};

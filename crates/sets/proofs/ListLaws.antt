@@ -2,7 +2,7 @@
 use Prim.Native.Nat.{ℕ, zero, suc, _+_, _*_, _<_, _≤_}
 use mathlib.Core.Path.{_≡_, refl, sym, ap, ap₂, _∙_}
 use mathlib.Core.Bool.{Bool, true, false, cond}
-use mathlib.Core.List.{List, [], _∷_, _++_, append-nil, append-assoc}
+use mathlib.Core.List.{List, [], _∷_, _++_, map, append-nil, append-assoc}
 use mathlib.Core.Logic.{⊎-elim, _≢_}
 use native.Mathlib.Nat.{le-of-suc-le-suc, not-suc-le-zero, le-refl, eq-or-lt-of-le, zero-mul, suc-mul}
 use native.Mathlib.Numerals.{add-one}
@@ -86,6 +86,11 @@ module _ {A : Type 0} where
   concat-same zero f g h = refl
   concat-same (suc n) f g h = ap₂ _++_ (concat-same n f g (λ i k. h i (omega arith))) (h n (le-refl (suc n)))
 
+  -- the first, and then the others
+  pub concat-first : (n : ℕ) (f : ℕ → List A) → concat (suc n) f ≡ f 0 ++ concat n (λ i. f (suc i))
+  concat-first zero f = sym (append-nil (f 0))
+  concat-first (suc n) f = ap (λ (l : List A). l ++ f (suc n)) (concat-first n f) ∙ append-assoc (f 0) (concat n (λ i. f (suc i))) (f (suc n))
+
   module _ (f : ℕ → List A) where
     size-suc : (n : ℕ) → length (concat (suc n) f) ≡ length (concat n f) + length (f n)
     size-suc n = length-append (concat n f) (f n)
@@ -134,6 +139,11 @@ module _ {A : Type 0} where
       concat-step l =
           let next : n * w + w ≡ (n + 1) * w = sym (ap (λ (k : ℕ). k * w) (add-one n) ∙ suc-mul n w) in
           concat-more n (n * w) w l concat-length ∙ ap (λ (k : ℕ). concat (n + 1) f ++ drop k l) next
+
+-- a function of each element
+pub map-table : {A B : Type 0} (g : A → B) (n : ℕ) (f : ℕ → A) → map g (table n f) ≡ table n (λ i. g (f i))
+map-table g zero f = refl
+map-table g (suc n) f = ap (λ l. g (f 0) ∷ l) (map-table g n (λ i. f (suc i)))
 
 -- ---- numbers that stand at the front of a list
 

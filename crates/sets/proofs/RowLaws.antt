@@ -1,17 +1,17 @@
 -- Laws of rows, for any number of words and of features.
 use Prim.Native.Nat.{ℕ, zero, suc, _+_, _-_, _*_, _/_, _%_, _^_, _<_, _≤_}
 use mathlib.Core.Path.{_≡_, refl, sym, ap, ap₂, _∙_}
-use mathlib.Core.Bool.{Bool, true, false, not, _&&_, _||_, and-true, and-false, false≢true}
+use mathlib.Core.Bool.{Bool, true, false, cond, not, _&&_, _||_, and-true, and-false, or-false, false≢true}
 use mathlib.Core.List.{List, [], _∷_, _++_, append-assoc}
 use mathlib.Core.Logic.{_≢_, ⊎-elim}
 use native.Mathlib.Nat.{not-suc-le-zero, le-of-suc-le-suc, le-refl, eq-or-lt-of-le, div-add-mod', zero-mul, suc-mul, mul-le-mul-right}
-use native.Mathlib.Decide.{decLt}
+use native.Mathlib.Decide.{decLt, ℕ-discrete}
 use native.Mathlib.Numerals.{add-one}
 use native.Mathlib.Omega.{arith}
 use lib.Dec.{eqb, ltb}
 use lib.Bits.{bitAnd, bitOr, or-add-and, and-le-l, and-le-r}
 use lib.Count.{trailingZeros, ones}
-use lib.ListN.{length, getD, take, drop, length-append, length-drop, take-append-drop, List·getD-append}
+use lib.ListN.{length, getD, set, take, drop, replicate, length-append, length-drop, length-replicate, getD-replicate, take-append-drop, List·getD-append}
 use lib.Seq.{length-take-le, getD-append-add, getD-take, getD-drop, drop-drop}
 use borrow.Author.Tests.{lt-ltb, le-ltb, eq-eqb, ne-eqb, not-true}
 use Rattle.sets.specs.declared.Found.{Found}
@@ -21,10 +21,10 @@ use Rattle.sets.specs.Bits.{bit, bitsOf, difference}
 use Rattle.sets.specs.Rows.{rowBit, wordOf, rowOf, within, zip, rowJoin, rowIntersect, rowMinus, rowIsEmpty}
 use Rattle.sets.specs.Rows.{rowLowest, rowLowestFrom, rowCount, rowIn, withRow, RowsAre}
 use Rattle.sets.proofs.SearchLaws.{least-seek, nothing-seek, seek-same, lowest-same, some-same, some-none, none-some, count-same, count-add}
-use Rattle.sets.proofs.ListLaws.{table-length, table-at, table-same, table-of, concat-length, concat-at, concat-step}
+use Rattle.sets.proofs.ListLaws.{table-length, table-at, table-same, table-of, table-set, concat-length, concat-at, concat-step}
 use Rattle.sets.proofs.BitLaws.{bit-none, bit-low, bit-high, bit-and, bit-or, bit-difference, bit-bitsOf, zero-bits}
 use Rattle.sets.proofs.BitLaws.{bit-shifted, shifted-first, ones-count}
-use Rattle.sets.proofs.BitLaws.{bitsOf-lt, bitsOf-same, bitsOf-is, bitsOf-none, bitsOf-all, bitsOf-below}
+use Rattle.sets.proofs.BitLaws.{bitsOf-lt, bitsOf-same, bitsOf-is, bitsOf-one, bitsOf-none, bitsOf-all, bitsOf-below}
 use Rattle.sets.proofs.BitLaws.{and-bitsOf, or-bitsOf, difference-bitsOf}
 
 -- ---- a row and its bits
@@ -183,6 +183,35 @@ module _ (i w : ℕ) (h : 6 ≤ i) where
 
   pub feature-off : bit w (i - 6) ≡ false → wordOf (λ c. bit c i) w ≡ 0
   feature-off e = bitsOf-none 64 (λ j. bit (w * 64 + j) i) (λ j g. bit-high w 6 j i g h ∙ e)
+
+-- ---- one configuration more: q has what p has, and c besides if t
+
+module _ (p q : ℕ → Bool) (c : ℕ) (t : Bool) (here : q c ≡ (p c || t)) (other : (d : ℕ) → d ≢ c → q d ≡ p d) where
+  bit-more : cond t (2 ^ (c % 64)) 0 ≡ bitsOf 64 (λ j. t && eqb j (c % 64))
+  bit-more = go t
+    where
+      go : (u : Bool) → cond u (2 ^ (c % 64)) 0 ≡ bitsOf 64 (λ j. u && eqb j (c % 64))
+      go true = sym (bitsOf-one 64 (c % 64) (omega arith))
+      go false = sym (bitsOf-none 64 (λ j. false) (λ j h. refl))
+
+  word-more : bitOr (wordOf p (c / 64)) (cond t (2 ^ (c % 64)) 0) ≡ wordOf q (c / 64)
+  word-more =
+      ap (bitOr (wordOf p (c / 64))) bit-more ∙ or-bitsOf 64 (λ j. p (c / 64 * 64 + j)) (λ j. t && eqb j (c % 64))
+      ∙ bitsOf-same 64 (λ j. p (c / 64 * 64 + j) || (t && eqb j (c % 64))) (λ j. q (c / 64 * 64 + j)) (λ j h. go j (ℕ-discrete j (c % 64)))
+    where
+      go : (j : ℕ) → Dec (j ≡ c % 64) → (p (c / 64 * 64 + j) || (t && eqb j (c % 64))) ≡ q (c / 64 * 64 + j)
+      go j (yes e) =
+          let f : c / 64 * 64 + j ≡ c = omega arith in
+          rw (f, eq-eqb j (c % 64) e, and-true t) (sym here)
+      go j (no e) =
+          rw (ne-eqb j (c % 64) e, and-false t) (or-false (p (c / 64 * 64 + j)) ∙ sym (other (c / 64 * 64 + j) (λ f. e (omega arith))))
+
+  pub row-more : (n : ℕ) → c < n * 64
+      → set (rowOf n p) (c / 64) (bitOr (getD (rowOf n p) (c / 64) 0) (cond t (2 ^ (c % 64)) 0)) ≡ rowOf n q
+  row-more n h =
+      table-set n (wordOf p) (wordOf q) (c / 64) _ (omega arith)
+      (ap (λ (x : ℕ). bitOr x (cond t (2 ^ (c % 64)) 0)) (table-at n (wordOf p) 0 (c / 64) (omega arith)) ∙ word-more)
+      (λ i d. bitsOf-same 64 (λ j. p (i * 64 + j)) (λ j. q (i * 64 + j)) (λ j l. sym (other (i * 64 + j) (λ e. d (omega arith)))))
 
 -- ---- no configuration
 
@@ -355,6 +384,12 @@ rowIn-part w l a h =
     sym (table-of 0 w (λ i. getD l (a * w + i) 0) (take w (drop (a * w) l)) (length-take-le w (drop (a * w) l) (omega (arith, length-drop (a * w) l)))
     (λ i g. getD-take w (drop (a * w) l) i 0 g ∙ getD-drop (a * w) l i 0))
 
+-- a row of zeros is empty
+pub rowIn-zeros : (w n a : ℕ) → a * w + w ≤ n → rowIn w (replicate n 0) a ≡ replicate w 0
+rowIn-zeros w n a h =
+    sym (table-of 0 w (λ i. getD (replicate n 0) (a * w + i) 0) (replicate w 0) (length-replicate {A = ℕ} w 0)
+    (λ i l. getD-replicate w i 0 0 l ∙ sym (getD-replicate n (a * w + i) 0 0 (omega arith))))
+
 -- rows that are those of f: they stand at the start, and the rest of the list follows them
 pub rows-all : (w n : ℕ) (f : ℕ → List ℕ) {words : List ℕ} → RowsAre w n f words → words ≡ concat n f ++ drop (n * w) words
 rows-all w zero f {words} R = ap (λ (k : ℕ). drop k words) (sym (zero-mul w))
@@ -371,6 +406,14 @@ rows-all w (suc n) f {words} R =
 pub withRow-more : (w : ℕ) (f : ℕ → List ℕ) (a : ℕ) (l : List ℕ) → ((i : ℕ) → i < a → length (f i) ≡ w)
     → withRow w (concat a f ++ drop (a * w) l) a (f a) ≡ concat (a + 1) f ++ drop ((a + 1) * w) l
 withRow-more w f a l wide = concat-step f w a wide l
+
+-- row a in the place where it stands already
+pub withRow-again : (w : ℕ) (l : List ℕ) (a : ℕ) {row : List ℕ} → a * w + w ≤ length l → rowIn w l a ≡ row → l ≡ withRow w l a row
+withRow-again w l a room same =
+    let rest = drop (a * w) l in
+    sym (ap₂ (λ (r s : List ℕ). take (a * w) l ++ r ++ s) (sym same ∙ rowIn-part w l a room) (sym (drop-drop w (a * w) l))
+    ∙ append-assoc (take (a * w) l) (take w rest) (drop w rest) ∙ ap (λ (s : List ℕ). take (a * w) l ++ s) (take-append-drop w rest)
+    ∙ take-append-drop (a * w) l)
 
 -- another row in the place of row a: that one is read there, and every other as before
 module _ (w : ℕ) (l : List ℕ) (a : ℕ) (row : List ℕ) (size : length row ≡ w) (room : a * w + w ≤ length l) where

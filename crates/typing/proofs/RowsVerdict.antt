@@ -21,7 +21,7 @@ use Rattle.report.specs.declared.Verdict.{Verdict}
 use Rattle.report.proofs.TypingLaws.{fails-permitted, typing-accepted, typing-refused}
 use Rattle.fault_rows.specs.FaultRows.{failsAt, failingRow}
 use Rattle.typing_at.specs.TypingAt.{typingHere}
-use Rattle.typing_at.proofs.EachLaws.{fault-here}
+use Rattle.typing_at.proofs.AnswerLaws.{fault-here}
 use Rattle.typing.specs.Typed.{rowed}
 
 -- Form q fails at c in this phase, at no configuration in an earlier one, and at none lower in this

@@ -33,9 +33,8 @@ use Rattle.at_configuration.proofs.ListLaws.{form-list}
 use Rattle.at_configuration.proofs.PreparedLaws.{at-reads, relation-reads, comparison-reads}
 use Rattle.faults_at.specs.SetsAt.{presentSet, GatheredReads, GatheredReadable, RelationSetsReadable, SetsReads, SetsReadable}
 use Rattle.faults_at.specs.SetsAt.{FormClashesReads, FormClashesReadable}
-use Rattle.typing_at.specs.TypingAt.{phaseHere, formHere, typingHere, HereReads, HereReadable, HereChecked}
+use Rattle.typing_at.specs.TypingAt.{phaseHere, formHere, typingHere, HereReads, HereReadable, SetsLent, HereFillable, HereFilled}
 use Rattle.typing_at.specs.Here.{FormHereReads, FormHereReadable, FormsHereReads, FormsHereReadable, FormSetsReads, FormSetsReadable}
-use Rattle.typing_at.specs.Here.{SetsLent, HereFillable}
 use Rattle.typing_at.specs.declared.Here.{Here}
 
 -- ---- one form
@@ -247,16 +246,21 @@ module _ {T : Tables} {c : ℕ} {expressionRows relationEntries projectEntries r
       pub report-place : length queries / 4 - 1 < length sets
       report-place = let e = count-is reads-form-sets in let n = report-form in let m = reads-forms .formed .room in omega arith
 
-      pub here-checked : {here : Here}
+      pub here-filled : {here : Here}
           → ((T : Tables) → FormsHereReads T expressionRows projectEntries relations queries reach c named clashing sets
           → here .verdict ≡ typingHere T c)
-          → here .set .bits ≡ getD sets (length queries / 4 - 1) 0 → HereChecked T c here
-      here-checked answers shown =
+          → here .set .bits ≡ getD sets (length queries / 4 - 1) 0 → HereFilled T c here lentNamed lentClashing lentSets named clashing sets
+      here-filled answers shown =
           let f = reads-forms in
           record {
-            answers = answers T f;
-            shows = shown ∙ ap (λ (t : List ℕ). getD sets (length t / 4 - 1) 0) (R .report .prepared .queriesAre)
-                ∙ f .formed .each (report T) (report-in (R .report .prepared .formed));
+            checked = record {
+              answers = answers T f;
+              shows = shown ∙ ap (λ (t : List ℕ). getD sets (length t / 4 - 1) 0) (R .report .prepared .queriesAre)
+                  ∙ f .formed .each (report T) (report-in (R .report .prepared .formed));
+            };
+            compared = names T reads-gathered;
+            clashed = clashes T reads-gathered;
+            formed = forms T reads-form-sets;
           }
 
 -- ---- words for the sets

@@ -1,4 +1,2 @@
 pub mod HereLaws
-pub mod EachLaws
-pub mod ColumnLaws
-pub mod EachSteps
+pub mod AnswerLaws

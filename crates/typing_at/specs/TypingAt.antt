@@ -1,19 +1,17 @@
--- The typing check, configuration by configuration: what it answers at one alone, and how the answers at all of them make one.
-use Prim.Native.Nat.{ℕ, zero, suc, _<_, _≤_}
+-- The typing check at one configuration: what it answers there alone, what it reads, and the sets that it leaves.
+use Prim.Native.Nat.{ℕ, _<_, _≤_}
 use mathlib.Core.Path.{_≡_}
-use mathlib.Core.Bool.{Bool, cond, _&&_, _||_}
 use mathlib.Core.List.{List}
-use lib.Dec.{ltb, eqb}
-use Rattle.sets.specs.Rows.{rowCount}
-use Rattle.report.specs.Tables.{Tables, queryCount, report}
+use lib.ListN.{length}
+use Rattle.sets.specs.Lists.{table}
+use Rattle.report.specs.Tables.{Tables, comparisonCount, queryCount, report}
 use Rattle.report.specs.Expressions.{configurations}
-use Rattle.report.specs.Typing.{phases, fails, setOf}
+use Rattle.report.specs.Typing.{phases, names, clashes, fails, setOf}
+use Rattle.report.specs.Configuring.{written}
 use Rattle.report.specs.Verdicts.{refuseIf, firstFrom}
 use Rattle.report.specs.Checks.{faultRefusal}
-use Rattle.report.specs.declared.Refusal.{Refusal}
 use Rattle.report.specs.declared.Verdict.{Verdict}
-use Rattle.expression_rows.specs.TypingReads.{ReportReads, TypingReadable}
-use Rattle.expression_rows.specs.declared.Scope.{Scope}
+use Rattle.expression_rows.specs.TypingReads.{ReportReads}
 use Rattle.typing_at.specs.declared.Here.{Here}
 
 module _ (T : Tables) (c : ℕ) where
@@ -28,27 +26,6 @@ module _ (T : Tables) (c : ℕ) where
   -- 15 to 19 and 25 at c alone: the lowest form that fails there
   unfoldable pub typingHere : Verdict
   typingHere = firstFrom formHere (queryCount T) 0
-
--- s is of a lower form than r, or of an earlier phase of the same form: the number of a rule is lower than that of kinds
-abbrev pub precedes : Refusal → Refusal → Bool
-precedes s r = ltb (s .place) (r .place) || (eqb (s .place) (r .place) && ltb (s .number) (r .number))
-
--- of the answers at lower configurations and at one more: by form, then by phase, then by configuration
-abbrev pub sooner : Verdict → Verdict → Verdict
-sooner Verdict.Accepted w = w
-sooner (Verdict.Refused r) Verdict.Accepted = Verdict.Refused r
-sooner (Verdict.Refused r) (Verdict.Refused s) = cond (precedes s r) (Verdict.Refused s) (Verdict.Refused r)
-
--- the answer from those at the configurations below k (proofs/EachLaws: each-typing)
-unfoldable pub typingBelow : Tables → ℕ → Verdict
-typingBelow T zero = Verdict.Accepted
-typingBelow T (suc k) = sooner (typingBelow T k) (typingHere T k)
-
--- what typing reads, where at most 64 configurations are permitted
-pub record EachReadable (scope : Scope) (expressionRows relationEntries projectEntries relations comparisons queries kinds reach columns : List ℕ)
-    : Type 0 where
-  pub readable : TypingReadable scope expressionRows relationEntries projectEntries relations comparisons queries kinds reach columns
-  pub few : rowCount 16 (scope .permitted .words) ≤ 64
 
 -- ---- what the typing check reads and answers at configuration c alone
 
@@ -67,3 +44,25 @@ pub record HereReadable (c : ℕ) (expressionRows relationEntries projectEntries
 pub record HereChecked (T : Tables) (c : ℕ) (here : Here) : Type 0 where
   pub answers : here .verdict ≡ typingHere T c
   pub shows : here .set .bits ≡ setOf T c (report T)
+
+-- ---- with words lent for the sets
+
+-- a word for each comparison, twice, and each query form
+pub record SetsLent (T : Tables) (namedSets clashSets formSets : List ℕ) : Type 0 where
+  pub comparisons : comparisonCount T ≤ length namedSets
+  pub clashes : comparisonCount T ≤ length clashSets
+  pub forms : queryCount T ≤ length formSets
+
+-- there are such tables, and words are lent for the sets
+pub record HereFillable (c : ℕ)
+    (expressionRows relationEntries projectEntries relations comparisons queries kinds reach namedSets clashSets formSets : List ℕ) : Type 0 where
+  pub readable : HereReadable c expressionRows relationEntries projectEntries relations comparisons queries kinds reach
+  pub lent : SetsLent (readable .tables) namedSets clashSets formSets
+
+-- the answer, and in these words afterwards the sets at c: what each comparison names, the left attributes that it compares with another kind, and the set of
+-- each query form; the words after them stay
+pub record HereFilled (T : Tables) (c : ℕ) (here : Here) (namedSets clashSets formSets namedSets′ clashSets′ formSets′ : List ℕ) : Type 0 where
+  pub checked : HereChecked T c here
+  pub compared : namedSets′ ≡ written (table (comparisonCount T) (names T c)) namedSets
+  pub clashed : clashSets′ ≡ written (table (comparisonCount T) (clashes T c)) clashSets
+  pub formed : formSets′ ≡ written (table (queryCount T) (setOf T c)) formSets

@@ -46,6 +46,25 @@ struct Node {
     sets: Vec<u64>,
 }
 
+/// How a comparison goes with a query, where that is reached.
+#[derive(Clone, Copy)]
+struct Fit {
+    /// Does it name only what the query has, and do no kinds differ in it?
+    keeps: bool,
+    /// Does it name anything?
+    names: bool,
+}
+
+impl Fit {
+    /// That of a comparison made of two.
+    fn joined(self, other: Fit) -> Fit {
+        Fit {
+            keeps: self.keeps && other.keeps,
+            names: self.names || other.names,
+        }
+    }
+}
+
 pub struct Builder<'a> {
     random: &'a mut Random,
     size: Size,
@@ -164,7 +183,7 @@ impl<'a> Builder<'a> {
             3 => !self.holds[a][c],
             4 => self.holds[a][c] && self.holds[b][c],
             5 => self.holds[a][c] || self.holds[b][c],
-            _ => (a..a + b).filter(|f| c >> f & 1 == 1).count() == 1,
+            _ => (c >> a & ((1 << b) - 1)).count_ones() == 1,
         };
         let holds = (0..self.configurations()).map(value).collect();
         self.holds.push(holds);
@@ -512,12 +531,30 @@ impl<'a> Builder<'a> {
         })
     }
 
-    fn comparison_fits(&self, comparison: usize, reach: &[usize], of: usize) -> bool {
+    /// How each comparison goes with the query. At full size most are made of others, in
+    /// long chains, and need no look at the configurations.
+    fn fits_of_comparisons(&self, reach: &[usize], of: usize) -> Vec<Fit> {
+        let mut fits: Vec<Fit> = Vec::new();
+        for (number, form) in self.comparisons.iter().enumerate() {
+            let [kind, _, a, b, _] = form.map(usize::from);
+            fits.push(match kind {
+                4 => fits[a],
+                5 | 6 => fits[a].joined(fits[b]),
+                _ => self.fit(number, reach, of),
+            });
+        }
+        fits
+    }
+
+    fn fit(&self, comparison: usize, reach: &[usize], of: usize) -> Fit {
         let named = &self.named[comparison];
         let clashes = &self.clashes[comparison];
         let sets = &self.nodes[of].sets;
-        let fits = |&c: &usize| named[c] & !sets[c] == 0 && !clashes[c];
-        reach.iter().all(fits)
+        let keeps = |&c: &usize| named[c] & !sets[c] == 0 && !clashes[c];
+        Fit {
+            keeps: reach.iter().all(keeps),
+            names: reach.iter().any(|&c| named[c] != 0),
+        }
     }
 
     /// A comparison that names only what the query has, and in which no kinds
@@ -528,11 +565,11 @@ impl<'a> Builder<'a> {
         }
         let mut fitting = Vec::new();
         let mut naming = Vec::new();
-        for number in 0..self.comparisons.len() {
-            if self.comparison_fits(number, reach, of) {
-                fitting.push(number as u16);
-                if reach.iter().any(|&c| self.named[number][c] != 0) {
-                    naming.push(number as u16);
+        for (number, fit) in (0..).zip(self.fits_of_comparisons(reach, of)) {
+            if fit.keeps {
+                fitting.push(number);
+                if fit.names {
+                    naming.push(number);
                 }
             }
         }

@@ -14,8 +14,9 @@ type Answer = Result<Vec<u64>, Refusal>;
 /// How a program judges.
 pub struct Reading {
     pub words: &'static str,
-    /// The configurations that it looks at, ascending.
-    looked_at: fn(&Tables) -> Vec<Permitted>,
+    /// The configurations that it looks at, of all, ascending; and what it takes the
+    /// expressions to say there.
+    looked_at: fn(&Tables, Vec<Permitted>) -> Vec<Permitted>,
     /// The columns at a configuration, or the fault there.
     judged: fn(&Tables, &Lists, &Permitted) -> Result<u64, Refusal>,
     /// Does the fault count?
@@ -28,7 +29,7 @@ pub struct Reading {
 
 pub const RIGHT: Reading = Reading {
     words: "the lowest form, 16 before 25 in it, its lowest configuration",
-    looked_at: expression::permitted,
+    looked_at: permitted,
     judged: typing::report_at,
     counts: |_, _| true,
     order: |fault| [fault.place, phase(fault), fault.configuration],
@@ -44,33 +45,33 @@ fn phase(fault: &Refusal) -> u64 {
 pub const WRONG: [Reading; 28] = [
     Reading {
         words: "the first 8 permitted ones alone",
-        looked_at: |tables| first(8, tables),
+        looked_at: |tables, all| first(8, tables, all),
         ..RIGHT
     },
     Reading {
         words: "the first 16 permitted ones alone",
-        looked_at: |tables| first(16, tables),
+        looked_at: |tables, all| first(16, tables, all),
         ..RIGHT
     },
     Reading {
         words: "the first 32 permitted ones alone",
-        looked_at: |tables| first(32, tables),
+        looked_at: |tables, all| first(32, tables, all),
         ..RIGHT
     },
     Reading {
         words: "the first 64 permitted ones alone",
-        looked_at: |tables| first(64, tables),
+        looked_at: |tables, all| first(64, tables, all),
         ..RIGHT
     },
     Reading {
         words: "the first 128 permitted ones alone",
-        looked_at: |tables| first(128, tables),
+        looked_at: |tables, all| first(128, tables, all),
         ..RIGHT
     },
     Reading {
         words: "the first word of configurations alone",
-        looked_at: |tables| {
-            let mut permitted = expression::permitted(tables);
+        looked_at: |tables, all| {
+            let mut permitted = permitted(tables, all);
             permitted.retain(|at| at.configuration < 64);
             permitted
         },
@@ -78,8 +79,8 @@ pub const WRONG: [Reading; 28] = [
     },
     Reading {
         words: "all permitted ones but the last",
-        looked_at: |tables| {
-            let mut permitted = expression::permitted(tables);
+        looked_at: |tables, all| {
+            let mut permitted = permitted(tables, all);
             permitted.pop();
             permitted
         },
@@ -87,38 +88,32 @@ pub const WRONG: [Reading; 28] = [
     },
     Reading {
         words: "all permitted ones but the first",
-        looked_at: |tables| expression::permitted(tables).split_off(1),
+        looked_at: |tables, all| permitted(tables, all).split_off(1),
         ..RIGHT
     },
     Reading {
         words: "configurations that are not permitted too",
-        looked_at: |tables| {
-            let at = |configuration| Permitted {
-                configuration,
-                holds: expression::values(tables, configuration),
-            };
-            (0..tables.configurations()).map(at).collect()
-        },
+        looked_at: |_, all| all,
         ..RIGHT
     },
     Reading {
         words: "expressions from 16 on are false",
-        looked_at: |tables| with_expressions(16, tables),
+        looked_at: |tables, all| with_expressions(16, tables, all),
         ..RIGHT
     },
     Reading {
         words: "expressions from 32 on are false",
-        looked_at: |tables| with_expressions(32, tables),
+        looked_at: |tables, all| with_expressions(32, tables, all),
         ..RIGHT
     },
     Reading {
         words: "expressions from 64 on are false",
-        looked_at: |tables| with_expressions(64, tables),
+        looked_at: |tables, all| with_expressions(64, tables, all),
         ..RIGHT
     },
     Reading {
         words: "expressions from 128 on are false",
-        looked_at: |tables| with_expressions(128, tables),
+        looked_at: |tables, all| with_expressions(128, tables, all),
         ..RIGHT
     },
     Reading {
@@ -203,24 +198,37 @@ pub const WRONG: [Reading; 28] = [
     },
 ];
 
+/// All configurations, permitted or not.
+fn everywhere(tables: &Tables) -> Vec<Permitted> {
+    let at = |configuration| Permitted {
+        configuration,
+        holds: expression::values(tables, configuration),
+    };
+    (0..tables.configurations()).map(at).collect()
+}
+
+/// Those of them where the model holds.
+fn permitted(tables: &Tables, mut all: Vec<Permitted>) -> Vec<Permitted> {
+    all.retain(|at| at.holds[tables.model as usize]);
+    all
+}
+
 /// The first so many permitted configurations.
-fn first(count: usize, tables: &Tables) -> Vec<Permitted> {
-    let mut permitted = expression::permitted(tables);
+fn first(count: usize, tables: &Tables, all: Vec<Permitted>) -> Vec<Permitted> {
+    let mut permitted = permitted(tables, all);
     permitted.truncate(count);
     permitted
 }
 
 /// The permitted configurations, where the first so many expressions count alone.
-fn with_expressions(count: usize, tables: &Tables) -> Vec<Permitted> {
-    let mut all = (WRONG[8].looked_at)(tables);
+fn with_expressions(count: usize, tables: &Tables, mut all: Vec<Permitted>) -> Vec<Permitted> {
     for at in &mut all {
         at.holds
             .iter_mut()
             .skip(count)
             .for_each(|holds| *holds = false);
     }
-    all.retain(|at| at.holds[tables.model as usize]);
-    all
+    permitted(tables, all)
 }
 
 /// The lowest relation form whose relation is absent, reached or not.
@@ -239,19 +247,26 @@ fn absent(tables: &Tables, at: &Permitted) -> Option<Refusal> {
     ))
 }
 
-/// The rows or the refusal by a reading, given the right one. What is refused before typing
-/// is refused by all.
-pub fn answer(tables: &Tables, right: &Answer, reading: &Reading) -> Answer {
+/// The rows or the refusal by each reading, given the right one. What is refused before
+/// typing is refused by all.
+pub fn answers(tables: &Tables, right: &Answer, readings: &[Reading]) -> Vec<Answer> {
     match right {
-        Err(refusal) if !is_of_typing(refusal.number) => return right.clone(),
-        _ => {}
+        Err(refusal) if !is_of_typing(refusal.number) => vec![right.clone(); readings.len()],
+        _ => {
+            let lists = form::check(tables).expect("sound in form");
+            let all = everywhere(tables);
+            let answer = |reading| answer(tables, &lists, all.clone(), reading);
+            readings.iter().map(answer).collect()
+        }
     }
-    let lists = form::check(tables).expect("sound in form");
+}
+
+fn answer(tables: &Tables, lists: &Lists, all: Vec<Permitted>, reading: &Reading) -> Answer {
     let mut rows = vec![0; ROWS];
     let mut faults = Vec::new();
-    for (place, at) in (reading.looked_at)(tables).iter().enumerate() {
+    for (place, at) in (reading.looked_at)(tables, all).iter().enumerate() {
         let c = (reading.named)(place, at.configuration);
-        match (reading.judged)(tables, &lists, at) {
+        match (reading.judged)(tables, lists, at) {
             Ok(set) => show(set, c, &mut rows),
             Err(fault) => faults.push(Refusal {
                 configuration: c,

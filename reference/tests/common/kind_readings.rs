@@ -22,12 +22,23 @@ pub struct Reading {
     item: fn(&Tables, [u16; 5]) -> Option<u16>,
     /// The item of several.
     of_several: fn(&BTreeSet<u16>) -> Option<u16>,
-    /// The configurations at which a form is looked at.
-    looked_at: fn(&Tables, usize) -> Vec<u64>,
+    /// Is a form looked at there?
+    looks_at: fn(&At, usize) -> bool,
     /// The place of 25, given the select and its comparison.
     place: fn(usize, u16) -> u64,
     /// Does 25 come before the other typing fault?
     comes_before: fn(&Refusal, &Refusal) -> bool,
+}
+
+/// A configuration, and what is known of it whatever the reading.
+struct At {
+    configuration: u64,
+    holds: Vec<bool>,
+    /// The query forms reached.
+    reached: BTreeSet<usize>,
+    is_permitted: bool,
+    /// Is it the lowest permitted one?
+    is_lowest: bool,
 }
 
 pub const RIGHT: Reading = Reading {
@@ -37,7 +48,7 @@ pub const RIGHT: Reading = Reading {
     under: |tables, comparison, holds| taken(tables, comparison, |a| [holds[a], !holds[a]]),
     item: |tables, comparison| left_of_two_kinds(tables, comparison),
     of_several: |items| items.first().copied(),
-    looked_at: |tables, select| reached(tables, select, permitted(tables)),
+    looks_at: |at, select| at.is_permitted && at.reached.contains(&select),
     place: |select, _| select as u64,
     comes_before: |fault, other| fault.place < other.place,
 };
@@ -87,7 +98,13 @@ pub const WRONG: [Reading; 29] = [
         words: "constants over 2 only where a query names them",
         over: |tables| {
             let length = |length, m| length != m;
-            over(tables, length, |kind| kind > 2, |form| named(tables, form))
+            let named = named(tables);
+            over(
+                tables,
+                length,
+                |kind| kind > 2,
+                |form| named.contains(&form),
+            )
         },
         ..RIGHT
     },
@@ -183,23 +200,17 @@ pub const WRONG: [Reading; 29] = [
     },
     Reading {
         words: "at the lowest permitted configuration only",
-        looked_at: |tables, select| {
-            let lowest = permitted(tables).into_iter().take(1).collect();
-            reached(tables, select, lowest)
-        },
+        looks_at: |at, select| at.is_lowest && at.reached.contains(&select),
         ..RIGHT
     },
     Reading {
         words: "at configurations that are not permitted too",
-        looked_at: |tables, select| {
-            let all = (0..tables.configurations()).collect();
-            reached(tables, select, all)
-        },
+        looks_at: |at, select| at.reached.contains(&select),
         ..RIGHT
     },
     Reading {
         words: "where the select is not reached too",
-        looked_at: |tables, _| permitted(tables),
+        looks_at: |at, _| at.is_permitted,
         ..RIGHT
     },
     Reading {
@@ -254,12 +265,15 @@ pub fn constant_over_2(tables: &Tables) -> Option<usize> {
     (0..tables.count(3)).find(is_over)
 }
 
-/// Does a select name the comparison, or one that it is made of?
-pub fn named(tables: &Tables, comparison: u16) -> bool {
-    (0..tables.count(4)).any(|form| {
-        let [kind, a, ..] = tables.query(form);
-        kind == SELECT && taken(tables, a, |_| [true, true]).contains(&comparison)
-    })
+/// The comparisons that selects name, and those that they are made of.
+pub fn named(tables: &Tables) -> BTreeSet<u16> {
+    let mut named = BTreeSet::new();
+    for form in 0..tables.count(4) {
+        if let [SELECT, a, ..] = tables.query(form) {
+            named.extend(taken(tables, a, |_| [true, true]));
+        }
+    }
+    named
 }
 
 /// The forms that a comparison is made of; `alternatives` says which ones of a choice
@@ -298,14 +312,21 @@ pub fn left_of_two_kinds(tables: &Tables, [kind, _, a, b, c]: [u16; 5]) -> Optio
     differ.then_some(a)
 }
 
-fn permitted(tables: &Tables) -> Vec<u64> {
-    let all = expression::permitted(tables);
-    all.iter().map(|at| at.configuration).collect()
-}
-
-fn reached(tables: &Tables, select: usize, mut configurations: Vec<u64>) -> Vec<u64> {
-    configurations.retain(|&c| plain::reached(tables, c).contains(&select));
-    configurations
+/// All configurations, ascending.
+fn everywhere(tables: &Tables) -> Vec<At> {
+    let permitted = expression::permitted(tables);
+    let lowest = permitted.first().map(|at| at.configuration);
+    let at = |configuration| {
+        let holds = expression::values(tables, configuration);
+        At {
+            configuration,
+            reached: plain::reached(tables, configuration),
+            is_permitted: holds[tables.model as usize],
+            is_lowest: Some(configuration) == lowest,
+            holds,
+        }
+    };
+    (0..tables.configurations()).map(at).collect()
 }
 
 /// What a program with the reading answers. None for a text.
@@ -381,19 +402,22 @@ pub fn kinds_differ(reading: &Reading, tables: &Tables) -> Option<Refusal> {
     if !forms.any(|form| (reading.item)(tables, form).is_some()) {
         return None;
     }
+    let everywhere = everywhere(tables);
     for select in 0..tables.count(4) {
         let [kind, comparison, ..] = tables.query(select);
         if kind != SELECT {
             continue;
         }
-        for c in (reading.looked_at)(tables, select) {
-            let holds = expression::values(tables, c);
-            let forms = (reading.under)(tables, comparison, &holds).into_iter();
+        for at in everywhere
+            .iter()
+            .filter(|at| (reading.looks_at)(at, select))
+        {
+            let forms = (reading.under)(tables, comparison, &at.holds).into_iter();
             let forms = forms.map(|form| tables.comparison(usize::from(form)));
             let items = forms.filter_map(|form| (reading.item)(tables, form));
             if let Some(item) = (reading.of_several)(&items.collect()) {
                 let place = (reading.place)(select, comparison);
-                return Some(Refusal::new(25, place, item.into(), c));
+                return Some(Refusal::new(25, place, item.into(), at.configuration));
             }
         }
     }

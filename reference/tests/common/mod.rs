@@ -1,8 +1,8 @@
 //! Steps that several tests share.
-#![allow(dead_code)]
 
 pub mod few_readings;
 pub mod kind_readings;
+pub mod made;
 pub mod readings;
 
 use reference::check::ROWS;

@@ -64,7 +64,7 @@ configure-judged-spec =
     tie.close
     (tie.spec
     (λ c κs. let R = first c .pre .reads in model-room (R .formed) (R .filled) (R .number))
-    (λ c κs. search needs)
+    (λ c κs. let p = start c .pre in record { tables = p .tables; reads = late-reads (p .reads) (c .load .ensures) })
     (λ c. search needs)
     returns
     (λ c. search needs)

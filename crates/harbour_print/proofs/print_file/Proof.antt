@@ -7,7 +7,7 @@ use denote.Ref.{now}
 use borrow.Author.Needs.{needs}
 use Rattle.report.specs.Tables.{Tables}
 use Rattle.report.specs.HarbourFile.{File, fileOf}
-use Rattle.printing.specs.Lines.{unreadLine}
+use Rattle.writing.specs.Lines.{unreadLine}
 use Rattle.printing.proofs.PrintLaws.{unread-room}
 use Rattle.harbour_file.specs.Filing.{fileWords, Held}
 use Rattle.harbour_file.proofs.FileHeld.{bad-told, read-told}

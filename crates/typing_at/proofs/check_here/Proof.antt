@@ -15,4 +15,4 @@ check-here-spec =
     (λ c. search needs)
     (λ c. search needs)
     (λ c κs. here-fillable (start c .pre))
-    (λ c. search needs))
+    (λ c. λ T R. c .before .before .before .fill-here .ensures T R .checked))

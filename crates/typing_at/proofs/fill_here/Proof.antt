@@ -1,6 +1,6 @@
 use native.Mathlib.Omega.{arith}
 use borrow.Author.Needs.{needs}
-use Rattle.typing_at.proofs.HereLaws.{gathered-readable, form-sets-readable, report-form, report-place, forms-readable, here-checked}
+use Rattle.typing_at.proofs.HereLaws.{gathered-readable, form-sets-readable, report-form, report-place, forms-readable, here-filled}
 use Rattle.typing_at.proofs.fill_here.Statement.{statement}
 use Rattle.typing_at.proofs.fill_here.Tie as tie
 
@@ -61,7 +61,7 @@ returns c =
     let k = clashing (f .before) in
     let n = named (k .before) in
     λ T R.
-    here-checked R _ _ _ (n .fill-gathered .ensures) (k .fill-gathered2 .ensures) (f .fill-form-sets .ensures) (v .forms-here .ensures)
+    here-filled R _ _ _ (n .fill-gathered .ensures) (k .fill-gathered2 .ensures) (f .fill-form-sets .ensures) (v .forms-here .ensures)
     (c .of-bits .ensures)
 
 pub fill-here-spec : {M : Type 1} → statement M

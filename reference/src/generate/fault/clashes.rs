@@ -46,8 +46,11 @@ fn columns(tables: &Tables) -> Option<Vec<Set>> {
 
 /// The columns that accepted tables have at every permitted configuration.
 pub fn everywhere(tables: &Tables) -> Option<Set> {
-    let all = columns(tables)?.into_iter();
-    Some(all.fold(Set::MAX, |every, set| every & set))
+    columns(tables).as_deref().map(in_all)
+}
+
+fn in_all(columns: &[Set]) -> Set {
+    columns.iter().fold(Set::MAX, |every, set| every & set)
 }
 
 /// An attribute out of a set, if it has any.
@@ -160,12 +163,11 @@ pub fn alone(random: &mut Random, tables: &Tables) -> Option<(u16, bool)> {
 /// and a later one lacks.
 pub fn lacking(random: &mut Random, tables: &Tables, lowest_has: bool) -> Option<u16> {
     let columns = columns(tables)?;
-    let every = everywhere(tables)?;
     let among = match lowest_has {
         true => columns[0],
         false => Set::MAX,
     };
-    let attributes = bits(among & !every).into_iter();
+    let attributes = bits(among & !in_all(&columns)).into_iter();
     let below_m = attributes.filter(|&a| u64::from(a) < tables.attributes);
     one_of(random, below_m.fold(0, |set, a| set | 1 << a))
 }

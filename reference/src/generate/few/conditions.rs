@@ -57,12 +57,14 @@ impl Few<'_> {
     }
 
     pub(super) fn holds_somewhere(&self, expression: u16) -> bool {
-        self.values(expression).contains(&true)
+        self.hold_together(expression, expression)
     }
 
     pub(super) fn hold_together(&self, one: u16, other: u16) -> bool {
-        let mut both = self.values(one).into_iter().zip(self.values(other));
-        both.any(|(one, other)| one && other)
+        self.permitted.iter().any(|&c| {
+            let holds = expression::values(&self.tables, c);
+            holds[usize::from(one)] && holds[usize::from(other)]
+        })
     }
 
     // The model

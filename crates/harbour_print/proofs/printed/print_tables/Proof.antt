@@ -5,7 +5,7 @@ use borrow.Author.Needs.{needs}
 use lib.ListN.{length}
 use Rattle.report.specs.Tables.{Tables}
 use Rattle.report.specs.Expressions.{tablesUnder}
-use Rattle.printing.specs.Lines.{refusalLine}
+use Rattle.writing.specs.Lines.{refusalLine}
 use Rattle.printing.proofs.PrintLaws.{refusal-room}
 use Rattle.judging.proofs.JudgingLaws.{own-columns}
 use Rattle.harbour_print.proofs.PrintedLaws.{prints, refusal-printed, acceptance-printed, accepted-reads}

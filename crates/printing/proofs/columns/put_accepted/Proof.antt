@@ -4,7 +4,7 @@ use native.Mathlib.Omega.{arith}
 use denote.Ref.{now}
 use borrow.Author.Needs.{needs}
 use Rattle.sets.proofs.WritingLaws.{Writing, and-then, room-first, room-next, same-length, same-room, same-written, writing-all, writing-more, writing-none, writing-room}
-use Rattle.printing.specs.Lines.{configurationText}
+use Rattle.printing.specs.ColumnLines.{configurationText}
 use Rattle.printing.proofs.ColumnLaws.{accepted-pieces}
 use Rattle.printing.proofs.columns.put_accepted.Statement.{statement}
 use Rattle.printing.proofs.columns.put_accepted.Tie as tie
