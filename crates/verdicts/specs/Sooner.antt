@@ -1,4 +1,4 @@
--- Of two answers of typing, each at its own configuration, the one that the whole typing check gives.
+-- Of two answers of typing, that at lower configurations and that at one more, the one that comes first.
 use mathlib.Core.Bool.{Bool, cond, _&&_, _||_}
 use lib.Dec.{ltb, eqb}
 use Rattle.report.specs.declared.Refusal.{Refusal}
