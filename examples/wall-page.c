@@ -82,7 +82,7 @@ int main(void)
 {
     struct gelvomas_tables tables = {
         FEATURES, ATTRIBUTES, SOLD, expressions, LENGTH(expressions), entries, LENGTH(entries),
-        relations, LENGTH(relations), NULL, 0, queries, LENGTH(queries), kinds, LENGTH(kinds)
+        relations, LENGTH(relations), NULL, 0, queries, LENGTH(queries), kinds, LENGTH(kinds), false
     };
     /* Room for a line for each configuration, sold or not. */
     uint8_t page[GELVOMAS_PAGE_LINE << FEATURES];

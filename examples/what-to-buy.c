@@ -38,7 +38,7 @@ static const uint16_t kinds[ATTRIBUTES] = {GELVOMAS_KIND_NAME, GELVOMAS_KIND_NAM
 
 int main(void)
 {
-    struct gelvomas_tables tables = {FEATURES, ATTRIBUTES, SOLD, expressions, 18, entries, 14, relations, 2, NULL, 0, queries, 8, kinds, ATTRIBUTES};
+    struct gelvomas_tables tables = {FEATURES, ATTRIBUTES, SOLD, expressions, 18, entries, 14, relations, 2, NULL, 0, queries, 8, kinds, ATTRIBUTES, false};
     uint64_t wanted = GELVOMAS_ATTRIBUTE(VESSEL) | GELVOMAS_ATTRIBUTE(RAMP) | GELVOMAS_ATTRIBUTE(TIDE);
     uint64_t configuration;
     struct gelvomas_refusal refusal;

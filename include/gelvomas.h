@@ -20,6 +20,7 @@
 #ifndef GELVOMAS_H
 #define GELVOMAS_H
 
+#include <stdbool.h>
 #include <stddef.h>
 #include <stdint.h>
 
@@ -27,10 +28,10 @@
 extern "C" {
 #endif
 
-#define GELVOMAS_VERSION_MAJOR 2
+#define GELVOMAS_VERSION_MAJOR 3
 #define GELVOMAS_VERSION_MINOR 0
-#define GELVOMAS_VERSION_PATCH 1
-#define GELVOMAS_VERSION "2.0.1"
+#define GELVOMAS_VERSION_PATCH 0
+#define GELVOMAS_VERSION "3.0.0"
 
 /* The most there may be of each. There is at least one expression and one query;
    of the others there may be none. */
@@ -150,11 +151,14 @@ enum gelvomas_refusal_number {
     /* relation and entry hold together at no permitted configuration (relation;
        attribute) */
     GELVOMAS_REFUSED_ENTRY_NOWHERE = 14,
-    /* relation absent (query; relation; configuration) */
+    /* relation absent; in the filled reading at all configurations that reach the query
+       (query; relation; configuration) */
     GELVOMAS_REFUSED_RELATION_ABSENT = 15,
     /* compared attribute missing (query; attribute; configuration) */
     GELVOMAS_REFUSED_COMPARED_MISSING = 16,
-    /* projected attribute missing (query; attribute; configuration) */
+    /* projected attribute missing; in the filled reading at all configurations that reach
+       the query and at which its list has the attribute (query; attribute;
+       configuration) */
     GELVOMAS_REFUSED_PROJECTED_MISSING = 17,
     /* both operands of a product have it (query; attribute; configuration) */
     GELVOMAS_REFUSED_PRODUCT_SHARES = 18,
@@ -185,7 +189,14 @@ enum gelvomas_refusal_number {
    the number of its words, which may be any number: a length or a word that the
    checker does not take is refused. A pointer is never NULL, also where the length
    is 0, and lies as its type asks. What a function writes to, at a pointer without
-   `const`, overlaps no other argument. */
+   `const`, overlaps no other argument.
+
+   Each is told the reading, right after the tables. It is false for the strict one: a
+   report names a relation, and projects to an attribute, only where they are there. It
+   is true for the filled one, for a report that leaves the schema's conditions out: an
+   absent relation counts as empty, and a projected attribute is dropped where its operand
+   lacks it. What is compared is never filled in. What the strict reading accepts, the
+   filled one accepts with equal rows. */
 
 /* Checks the tables of a report. Returns 0 (accepted) or 1 (refused). */
 uint64_t gelvomas_check(
@@ -204,6 +215,7 @@ uint64_t gelvomas_check(
     size_t queries_length,       /* its number of words */
     const uint16_t *kinds,       /* the kind table, a word for each attribute: its kind */
     size_t kinds_length,         /* its number of words; any but `attributes` is refused */
+    bool filled,                 /* the reading: false strict, true filled */
     uint64_t *rows,              /* accepted: all words are written, and are then the column
                                     rows. Attribute a is in the report at configuration c
                                     where bit c % 64 of rows[16 * a + c / 64] is 1.
@@ -217,11 +229,13 @@ uint64_t gelvomas_check(
 /* Configures the report of these tables at one configuration. Returns 0 (written)
    or 1 (refused).
 
-   Tables 1 to 4 are written of a report that has no choices. Its head and table 0
-   are not written: they are 0 features, as many attributes, model 0, and the one
-   expression true (1 0 0). gelvomas_check accepts these tables with the same kind
-   table, and their columns at configuration 0 are those of the given report at the
-   configuration. */
+   Tables 1 to 4 are written of a report that has no choices. In the filled reading the
+   query empty is written for a relation that is absent at the configuration, and a
+   projected attribute that is missing there is left out. The head and table 0 are not
+   written: they are 0 features, as many attributes, model 0, and the one expression
+   true (1 0 0). gelvomas_check accepts these tables with the same kind table in the
+   strict reading, also where they were written in the filled one, and their columns at
+   configuration 0 are those of the given report at the configuration. */
 uint64_t gelvomas_configure(
     uint64_t features,             /* the report, as for gelvomas_check */
     uint64_t attributes,
@@ -238,6 +252,7 @@ uint64_t gelvomas_configure(
     size_t queries_length,
     const uint16_t *kinds,
     size_t kinds_length,
+    bool filled,
     uint64_t configuration,        /* bit i says whether feature i is on; one that is not
                                       permitted, or that is 2^features or more, is refused */
     uint16_t *new_entries,         /* written: the new table 1, from the first word on. The
@@ -275,6 +290,7 @@ uint64_t gelvomas_find(
     size_t queries_length,
     const uint16_t *kinds,
     size_t kinds_length,
+    bool filled,
     uint64_t wanted,             /* the set of wanted attributes: attribute a is wanted where
                                     bit a is 1. A bit at or above `attributes` is refused. For
                                     the empty set, 0, the lowest permitted configuration is
@@ -308,6 +324,7 @@ uint64_t gelvomas_page(
     size_t queries_length,
     const uint16_t *kinds,
     size_t kinds_length,
+    bool filled,
     uint8_t *page,               /* written: the lines, from the first byte on. The bytes after
                                     them are not changed. Refused: no byte is changed. */
     size_t page_length,          /* the number of bytes there; fewer than GELVOMAS_PAGE_LINE for
@@ -321,8 +338,9 @@ uint64_t gelvomas_page(
 /* The same four with structs. Here the pointer of a table, or of a page, may be NULL
    where its length is 0, so a struct that is set to 0 holds tables without words. */
 
-/* A report: its head, and tables 0 to 4 and the kind table with their numbers of
-   words. Without attributes there are no kinds. */
+/* A report: its head, tables 0 to 4 and the kind table with their numbers of words, and
+   the reading. Without attributes there are no kinds. A struct that is set to 0, or
+   initialised without its last field, is read strictly. */
 struct gelvomas_tables {
     uint64_t features;
     uint64_t attributes;
@@ -339,6 +357,7 @@ struct gelvomas_tables {
     size_t queries_length;
     const uint16_t *kinds;
     size_t kinds_length;
+    bool filled; /* the reading: false strict, true filled */
 };
 
 /* Tables 1 to 4 lent for writing, with their numbers of words. */
@@ -412,7 +431,7 @@ static inline int gelvomas_check_tables(
             gelvomas_words(tables->relations, tables->relations_length), tables->relations_length,
             gelvomas_words(tables->comparisons, tables->comparisons_length), tables->comparisons_length,
             gelvomas_words(tables->queries, tables->queries_length), tables->queries_length,
-            gelvomas_words(tables->kinds, tables->kinds_length), tables->kinds_length,
+            gelvomas_words(tables->kinds, tables->kinds_length), tables->kinds_length, tables->filled,
             rows, GELVOMAS_ROWS, words) == 0) {
         return 0;
     }
@@ -438,7 +457,7 @@ static inline int gelvomas_configure_tables(
             gelvomas_words(tables->relations, tables->relations_length), tables->relations_length,
             gelvomas_words(tables->comparisons, tables->comparisons_length), tables->comparisons_length,
             gelvomas_words(tables->queries, tables->queries_length), tables->queries_length,
-            gelvomas_words(tables->kinds, tables->kinds_length), tables->kinds_length,
+            gelvomas_words(tables->kinds, tables->kinds_length), tables->kinds_length, tables->filled,
             configuration,
             gelvomas_lent_words(lent->entries, lent->entries_length), lent->entries_length,
             gelvomas_lent_words(lent->relations, lent->relations_length), lent->relations_length,
@@ -472,7 +491,7 @@ static inline int gelvomas_find_tables(
         gelvomas_words(tables->relations, tables->relations_length), tables->relations_length,
         gelvomas_words(tables->comparisons, tables->comparisons_length), tables->comparisons_length,
         gelvomas_words(tables->queries, tables->queries_length), tables->queries_length,
-        gelvomas_words(tables->kinds, tables->kinds_length), tables->kinds_length,
+        gelvomas_words(tables->kinds, tables->kinds_length), tables->kinds_length, tables->filled,
         wanted, words)) {
     case 0:
         *configuration = words[0];
@@ -503,7 +522,7 @@ static inline int gelvomas_page_tables(
             gelvomas_words(tables->relations, tables->relations_length), tables->relations_length,
             gelvomas_words(tables->comparisons, tables->comparisons_length), tables->comparisons_length,
             gelvomas_words(tables->queries, tables->queries_length), tables->queries_length,
-            gelvomas_words(tables->kinds, tables->kinds_length), tables->kinds_length,
+            gelvomas_words(tables->kinds, tables->kinds_length), tables->kinds_length, tables->filled,
             gelvomas_lent_bytes(page, page_length), page_length, words) == 0) {
         *lines = words[0];
         return 0;

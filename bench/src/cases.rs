@@ -5,7 +5,7 @@ use std::process::ExitCode;
 
 use reference::generate::{self, Family};
 use reference::random::Random;
-use reference::Tables;
+use reference::{Reading, Tables};
 
 use crate::damage::damage;
 
@@ -34,6 +34,9 @@ pub fn case(seed: u64, number: u64) -> (&'static str, Tables) {
         (Family::Compared, ["compared", "compared, damaged"]),
         (Family::Few, ["few", "few, damaged"]),
         (Family::Few, ["few", "few, damaged"]),
+        (Family::Filled, ["filled", "filled, damaged"]),
+        (Family::Filled, ["filled", "filled, damaged"]),
+        (Family::Filled, ["filled", "filled, damaged"]),
     ]);
     let mut tables = generate::of_family(family, seed);
     let damaged = random.chance(1, 5);
@@ -43,13 +46,15 @@ pub fn case(seed: u64, number: u64) -> (&'static str, Tables) {
     (names[usize::from(damaged)], tables)
 }
 
-/// In six of ten cases tables that are accepted, and in one of ten tables with few
-/// permitted configurations or many, accepted or not; else a case of any of the
-/// generator's families, one in five with raw damage.
+/// In four of ten cases tables that are accepted, in one of ten tables with few
+/// permitted configurations or many, accepted or not, and in three of ten tables without
+/// some of the schema's conditions; else a case of any of the generator's families, one in
+/// five with raw damage.
 pub fn mostly_accepted(random: &mut Random, seed: u64, number: u64) -> (&'static str, Tables) {
     match random.below(10) {
-        0..=5 => ("accepted", generate::accepted(random.word())),
-        6 => ("few", generate::few(random.word())),
+        0..=3 => ("accepted", generate::accepted(random.word())),
+        4 => ("few", generate::few(random.word())),
+        5..=7 => ("filled", generate::filled(random.word())),
         _ => case(seed, number),
     }
 }
@@ -59,6 +64,7 @@ pub fn differ(
     file: &str,
     number: u64,
     tables: &Tables,
+    reading: Reading,
     wanted: impl Debug,
     ours: impl Debug,
 ) -> ExitCode {
@@ -74,8 +80,10 @@ pub fn differ(
     }
     let kinds: Vec<String> = tables.kinds.iter().map(u16::to_string).collect();
     let _ = writeln!(text, "kinds {}", kinds.join(" "));
-    let _ = writeln!(text, "reference {wanted:?}\nours {ours:?}");
-    println!("table {number} differs: reference {wanted:?}, ours {ours:?}; it is in {file}");
+    let _ = writeln!(text, "{reading:?}\nreference {wanted:?}\nours {ours:?}");
+    println!(
+        "table {number} differs, {reading:?}: reference {wanted:?}, ours {ours:?}; it is in {file}"
+    );
     if let Err(error) = std::fs::write(file, text) {
         println!("{file} could not be written: {error}");
     }

@@ -8,7 +8,7 @@ pub mod plot;
 pub mod reports;
 pub mod walk;
 
-use reference::{Refusal, Tables};
+use reference::{Reading, Refusal, Tables};
 
 /// What stands in the answer's words before the call.
 const UNTOUCHED: [u64; 4] = [0xDEAD_0000, 0xDEAD_0001, 0xDEAD_0002, 0xDEAD_0003];
@@ -18,7 +18,7 @@ pub type Answer = Result<Result<(), Refusal>, (u64, [u64; 4])>;
 
 /// The whole check, by the C function.
 #[inline]
-pub fn check(tables: &Tables, rows: &mut [u64]) -> Answer {
+pub fn check(tables: &Tables, reading: Reading, rows: &mut [u64]) -> Answer {
     let mut words = UNTOUCHED;
     // The slices are lent for the call, and the lengths are theirs.
     let answer = unsafe {
@@ -38,6 +38,7 @@ pub fn check(tables: &Tables, rows: &mut [u64]) -> Answer {
             tables.queries.len(),
             tables.kinds.as_ptr(),
             tables.kinds.len(),
+            reading == Reading::Filled,
             rows.as_mut_ptr(),
             rows.len(),
             &mut words,
@@ -57,7 +58,12 @@ pub type Configured = Result<Result<[usize; 4], Refusal>, (u64, [u64; 4])>;
 
 /// Configuring, by the C function, into tables 1 to 4.
 #[inline]
-pub fn configure(tables: &Tables, configuration: u64, lent: [&mut [u16]; 4]) -> Configured {
+pub fn configure(
+    tables: &Tables,
+    reading: Reading,
+    configuration: u64,
+    lent: [&mut [u16]; 4],
+) -> Configured {
     let [o1, o2, o3, o4] = lent;
     let mut words = UNTOUCHED;
     // The slices are lent for the call, and the lengths are theirs.
@@ -78,6 +84,7 @@ pub fn configure(tables: &Tables, configuration: u64, lent: [&mut [u16]; 4]) -> 
             tables.queries.len(),
             tables.kinds.as_ptr(),
             tables.kinds.len(),
+            reading == Reading::Filled,
             configuration,
             o1.as_mut_ptr(),
             o1.len(),
@@ -104,7 +111,7 @@ pub type Found = Result<Result<Option<u64>, Refusal>, (u64, [u64; 4])>;
 
 /// Finding, by the C function, which writes all four words.
 #[inline]
-pub fn find(tables: &Tables, wanted: u64) -> Found {
+pub fn find(tables: &Tables, reading: Reading, wanted: u64) -> Found {
     let mut words = UNTOUCHED;
     // The slices are lent for the call, and the lengths are theirs.
     let answer = unsafe {
@@ -124,6 +131,7 @@ pub fn find(tables: &Tables, wanted: u64) -> Found {
             tables.queries.len(),
             tables.kinds.as_ptr(),
             tables.kinds.len(),
+            reading == Reading::Filled,
             wanted,
             &mut words,
         )
@@ -144,7 +152,7 @@ pub type Paged = Result<Result<usize, Refusal>, (u64, [u64; 4])>;
 
 /// The wall page, by the C function, which writes all four words.
 #[inline]
-pub fn page(tables: &Tables, page: &mut [u8]) -> Paged {
+pub fn page(tables: &Tables, reading: Reading, page: &mut [u8]) -> Paged {
     let mut words = UNTOUCHED;
     // The slices are lent for the call, and the lengths are theirs.
     let answer = unsafe {
@@ -164,6 +172,7 @@ pub fn page(tables: &Tables, page: &mut [u8]) -> Paged {
             tables.queries.len(),
             tables.kinds.as_ptr(),
             tables.kinds.len(),
+            reading == Reading::Filled,
             page.as_mut_ptr(),
             page.len(),
             &mut words,

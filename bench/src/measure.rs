@@ -8,7 +8,8 @@ use std::time::{Duration, Instant};
 
 use reference::check::ROWS;
 use reference::page::{LINE, MOST_LINES};
-use reference::{Refusal, Tables};
+use reference::reading::READINGS;
+use reference::{Reading, Refusal, Tables};
 
 use crate::{parallel, walk};
 
@@ -31,12 +32,16 @@ pub fn in_small_stack(run: fn() -> Result<(), String>) -> ExitCode {
 /// What is measured.
 #[derive(Clone, Copy)]
 pub enum Call {
-    /// Our check.
+    /// Our check, which is strict, as all calls here are that do not say otherwise.
     Check,
     /// The reference's.
     ReferenceCheck,
     /// `bench::parallel`'s.
     ParallelCheck,
+    /// Our check in the filled reading.
+    FilledCheck,
+    /// The reference's in the filled reading.
+    ReferenceFilledCheck,
     /// Our finding, of this set.
     Find(u64),
     /// Our page.
@@ -55,13 +60,16 @@ struct Lent {
 
 impl Call {
     fn run(self, tables: &Tables, Lent { rows, page }: &mut Lent) {
+        let [strict, filled] = READINGS;
         match self {
-            Call::Check => drop(black_box(crate::check(tables, rows))),
-            Call::ReferenceCheck => drop(black_box(reference::check(tables, rows))),
+            Call::Check => drop(black_box(crate::check(tables, strict, rows))),
+            Call::ReferenceCheck => drop(black_box(reference::check(tables, strict, rows))),
             Call::ParallelCheck => drop(black_box(parallel::check(tables, rows))),
-            Call::Find(wanted) => drop(black_box(crate::find(tables, wanted))),
-            Call::Page => drop(black_box(crate::page(tables, page))),
-            Call::ReferencePage => drop(black_box(reference::page(tables, page))),
+            Call::FilledCheck => drop(black_box(crate::check(tables, filled, rows))),
+            Call::ReferenceFilledCheck => drop(black_box(reference::check(tables, filled, rows))),
+            Call::Find(wanted) => drop(black_box(crate::find(tables, strict, wanted))),
+            Call::Page => drop(black_box(crate::page(tables, strict, page))),
+            Call::ReferencePage => drop(black_box(reference::page(tables, strict, page))),
             Call::Walk => walk::all_entries(tables),
         }
     }
@@ -173,18 +181,28 @@ pub fn figure(time: f64) -> String {
     format!("{time:.decimals$}")
 }
 
-/// The answer of all three, where their answers and rows are the same.
+/// The strict answer of all three, where their answers and rows are the same.
 pub fn same_answer(tables: &Tables) -> Option<Result<(), Refusal>> {
     let [mut mine, mut theirs, mut parallel] = [[7; ROWS]; 3];
-    let wanted = reference::check(tables, &mut theirs);
-    let same = crate::check(tables, &mut mine) == Ok(wanted)
+    let strict = Reading::Strict;
+    let wanted = reference::check(tables, strict, &mut theirs);
+    let same = crate::check(tables, strict, &mut mine) == Ok(wanted)
         && parallel::check(tables, &mut parallel) == wanted
         && mine == theirs
         && parallel == theirs;
     same.then_some(wanted)
 }
 
-fn words(answer: Result<(), Refusal>) -> String {
+/// The filled answer of ours and of the reference's, where answers and rows are the same.
+pub fn same_filled_answer(tables: &Tables) -> Option<Result<(), Refusal>> {
+    let [mut mine, mut theirs] = [[7; ROWS]; 2];
+    let wanted = reference::check(tables, Reading::Filled, &mut theirs);
+    let ours = crate::check(tables, Reading::Filled, &mut mine);
+    (ours == Ok(wanted) && mine == theirs).then_some(wanted)
+}
+
+/// An answer as it is printed in a table.
+pub fn words(answer: Result<(), Refusal>) -> String {
     match answer {
         Ok(()) => "accepted".to_string(),
         Err(r) => format!("{} {} {} {}", r.number, r.place, r.item, r.configuration),

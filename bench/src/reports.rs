@@ -2,7 +2,7 @@
 
 use reference::random::Random;
 use reference::tables::WIDTHS;
-use reference::Tables;
+use reference::{Reading, Tables};
 
 pub const FEATURES: u16 = 10;
 pub const ATTRIBUTES: u16 = 64;
@@ -30,6 +30,9 @@ impl BigSchema {
 
     /// The attributes that each relation lists.
     pub const LISTED: u16 = 16;
+
+    /// The number of the expression that the chain ends in.
+    pub const LAST_FEATURE: u16 = 1;
 
     /// Schemas with other numbers of relations, of nots and of features, each number by
     /// itself: the number, and the schema.
@@ -203,11 +206,70 @@ pub fn full_permitting(free: u16) -> Tables {
     tables
 }
 
+/// A report that repeats the schema's conditions, and the same report without them: read
+/// as filled, the second has the columns that the first has strictly.
+pub struct LeftOut {
+    pub repeated: Tables,
+    pub left_out: Tables,
+}
+
+impl LeftOut {
+    /// A full report of ten features of which all but `free` have to be on. The relation
+    /// has the last attribute but at the last configuration; the seven projects say so
+    /// too, or not.
+    pub fn projects(free: u16) -> LeftOut {
+        let mut repeated = full(FEATURES);
+        repeated.model = first_on(FEATURES, FEATURES - free).into();
+        let mut left_out = repeated.clone();
+        let lists = left_out
+            .entries
+            .chunks_exact_mut(2 * usize::from(ATTRIBUTES));
+        for list in lists.skip(1) {
+            list[2 * usize::from(ATTRIBUTES) - 1] = ALWAYS;
+        }
+        LeftOut { repeated, left_out }
+    }
+
+    /// The union of 32 relations that are there with the last feature only: with a choice
+    /// between it and empty, or not. Of the ten features all but `free` have to be on.
+    pub fn relations(free: u16) -> LeftOut {
+        let mut left_out = BigSchema::WISHED.tables();
+        // The first features are on, one after another: the last such expression is the model.
+        let mut on = 0;
+        for feature in 0..FEATURES - free {
+            let number = left_out.count(0) as u16;
+            left_out.expressions.extend([2, feature, 0, 4, on, number]);
+            on = number + 1;
+        }
+        left_out.model = on.into();
+        for relation in left_out.relations.chunks_exact_mut(2) {
+            relation[0] = BigSchema::LAST_FEATURE;
+        }
+        let mut repeated = left_out.clone();
+        let union = repeated.count(4) as u16 - 1;
+        let choice = [4, BigSchema::LAST_FEATURE, union, union + 1];
+        repeated.queries.extend([[0; 4], choice].concat());
+        LeftOut { repeated, left_out }
+    }
+
+    /// Both by the number of configurations that are permitted, more than 64 first.
+    pub fn by_permitted() -> Vec<(String, LeftOut)> {
+        let name = |what: &str, free: u16| format!("{what}, {} permitted", 1 << free);
+        let both = |free: u16| {
+            [
+                (name("relations", free), LeftOut::relations(free)),
+                (name("projects", free), LeftOut::projects(free)),
+            ]
+        };
+        [10, 8, 7, 6, 4, 2].into_iter().flat_map(both).collect()
+    }
+}
+
 /// What configuring an accepted report writes, as tables of their own.
 pub fn configured(tables: &Tables, configuration: u64) -> Tables {
     let mut words = [1, 2, 3, 4].map(|table| vec![0; tables.words(table).len()]);
     let lent = words.each_mut().map(Vec::as_mut_slice);
-    let counts = reference::configure(tables, configuration, lent)
+    let counts = reference::configure(tables, Reading::Strict, configuration, lent)
         .expect("the report is accepted and the configuration permitted");
     written(tables, counts, &words)
 }

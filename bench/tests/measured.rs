@@ -1,12 +1,12 @@
 //! The tables that are measured are what they are said to be, and all ways to their
 //! answers agree.
 
-use bench::measure::same_answer;
-use bench::reports::{self, BigSchema, FEATURES, MIDDLE};
+use bench::measure::{same_answer, same_filled_answer};
+use bench::reports::{self, BigSchema, LeftOut, FEATURES, MIDDLE};
 use bench::walk;
 use reference::check::{shown, ROWS};
 use reference::generate::{self, Family};
-use reference::{expression, form, vectors, Refusal, Tables};
+use reference::{expression, form, vectors, Reading, Refusal, Tables};
 
 /// All that `big_schema` measures.
 fn big_schemas() -> Vec<BigSchema> {
@@ -73,7 +73,10 @@ fn walks_give_the_rows_of_big_schemas() {
     for schema in big_schemas() {
         let tables = schema.tables();
         let mut rows = [7; ROWS];
-        assert_eq!(reference::check(&tables, &mut rows), Ok(()));
+        assert_eq!(
+            reference::check(&tables, Reading::Strict, &mut rows),
+            Ok(())
+        );
         for configuration in 0..tables.configurations() {
             let set = shown(&rows, configuration);
             for entry in 0..tables.count(1) {
@@ -127,7 +130,10 @@ fn full_reports_have_all_attributes_but_at_the_last_configuration() {
     for features in 1..=FEATURES {
         let tables = reports::full(features);
         let mut rows = [7; ROWS];
-        assert_eq!(reference::check(&tables, &mut rows), Ok(()));
+        assert_eq!(
+            reference::check(&tables, Reading::Strict, &mut rows),
+            Ok(())
+        );
         let last = tables.configurations() - 1;
         assert!((0..last).all(|configuration| shown(&rows, configuration) == u64::MAX));
         assert_eq!(shown(&rows, last), u64::MAX >> 1);
@@ -158,8 +164,14 @@ fn configured_reports_have_no_features_and_the_same_columns() {
         assert_eq!((plain.features, plain.count(0)), (0, 1));
         assert_eq!(plain.count(1), 512);
         let [mut source, mut written] = [[7; ROWS]; 2];
-        assert_eq!(reference::check(&tables, &mut source), Ok(()));
-        assert_eq!(reference::check(&plain, &mut written), Ok(()));
+        assert_eq!(
+            reference::check(&tables, Reading::Strict, &mut source),
+            Ok(())
+        );
+        assert_eq!(
+            reference::check(&plain, Reading::Strict, &mut written),
+            Ok(())
+        );
         assert_eq!(shown(&written, 0), shown(&source, MIDDLE));
     }
 }
@@ -177,5 +189,36 @@ fn all_answers_to_what_is_measured_agree() {
     measured.extend(schemas.map(|tables| ("a big schema".to_string(), tables)));
     for (name, tables) in measured {
         assert!(same_answer(&tables).is_some(), "{name}");
+    }
+}
+
+/// Strictly the first is accepted and the second refused; read as filled both are accepted,
+/// with the columns that the first has strictly.
+#[test]
+fn conditions_that_are_left_out_are_filled_in() {
+    for (name, LeftOut { repeated, left_out }) in LeftOut::by_permitted() {
+        let permitted = expression::permitted(&repeated).len();
+        assert!(name.ends_with(&format!(" {permitted} permitted")), "{name}");
+        assert_eq!(expression::permitted(&left_out).len(), permitted);
+        assert_eq!(same_answer(&repeated), Some(Ok(())), "{name}");
+        let number = if name.starts_with("relations") {
+            15
+        } else {
+            17
+        };
+        let refused = same_answer(&left_out).expect("the same answers");
+        assert_eq!(refused.map_err(|refusal| refusal.number), Err(number));
+        assert_eq!(same_filled_answer(&left_out), Some(Ok(())), "{name}");
+        assert_eq!(same_filled_answer(&repeated), Some(Ok(())), "{name}");
+        let [mut strict, mut filled] = [[7; ROWS]; 2];
+        assert_eq!(
+            reference::check(&repeated, Reading::Strict, &mut strict),
+            Ok(())
+        );
+        assert_eq!(
+            reference::check(&left_out, Reading::Filled, &mut filled),
+            Ok(())
+        );
+        assert!(strict == filled, "{name}");
     }
 }

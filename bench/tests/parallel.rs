@@ -6,13 +6,13 @@ use std::collections::BTreeMap;
 use bench::parallel;
 use reference::check::ROWS;
 use reference::generate::{self, Family};
-use reference::Tables;
+use reference::{Reading, Tables};
 
 /// The number of the answer, 0 for accepted, after comparing answers and words.
 fn compared(tables: &Tables, length: usize, what: &str) -> u64 {
     let lent: Vec<u64> = (7..).take(length).collect();
     let (mut wanted, mut rows) = (lent.clone(), lent);
-    let answer = reference::check(tables, &mut wanted);
+    let answer = reference::check(tables, Reading::Strict, &mut wanted);
     assert_eq!(parallel::check(tables, &mut rows), answer, "{what}");
     assert!(rows == wanted, "the rows of {what}");
     answer.map_or_else(|refusal| refusal.number, |()| 0)

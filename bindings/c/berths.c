@@ -1,6 +1,7 @@
 /* include/gelvomas.h as a C program uses it: H1, H2 and H4 of docs/FORMAT.md, which
-   configuration gives H1's columns, its page, kinds that differ, tables and a page that
-   are NULL, and the words and bytes lent. ../../test compiles and runs it. */
+   configuration gives H1's columns, its page, kinds that differ, H10 in both readings,
+   tables and a page that are NULL, and the words and bytes lent. ../../test compiles and
+   runs it. */
 
 #include <inttypes.h>
 #include <stdio.h>
@@ -279,6 +280,76 @@ static void page_h1(const struct gelvomas_tables *h1)
     expect("page, its bytes", (uint64_t)memcmp(page, wanted, sizeof wanted), 0);
 }
 
+/* H10: with ramps the relation, else empty, projected as in H1. */
+static const uint16_t h10_queries[] = {
+    GELVOMAS_QUERY_RELATION, 0,          0, 0,
+    GELVOMAS_QUERY_EMPTY,    0,          0, 0,
+    GELVOMAS_QUERY_CHOICE,   WITH_RAMPS, 0, 1,
+    GELVOMAS_QUERY_PROJECT,  2,          2, 0
+};
+
+/* H10 at 0: the project of empty keeps no entry. */
+static void configure_h10(const struct gelvomas_tables *h10)
+{
+    static const uint16_t empty_entries[] = {VESSEL, 0, BERTH, 0};
+    static const uint16_t empty_relations[] = {0, 2};
+    static const uint16_t empty_queries[] = {
+        GELVOMAS_QUERY_EMPTY,   0, 0, 0,
+        GELVOMAS_QUERY_PROJECT, 0, 0, 0
+    };
+    uint16_t new_entries[LENGTH(h1_entries)];
+    uint16_t new_relations[LENGTH(relations)];
+    uint16_t new_queries[LENGTH(h10_queries)];
+    struct gelvomas_lent lent = {
+        .entries = new_entries,
+        .entries_length = LENGTH(new_entries),
+        .relations = new_relations,
+        .relations_length = LENGTH(new_relations),
+        .queries = new_queries,
+        .queries_length = LENGTH(new_queries)
+    };
+    struct gelvomas_counts counts = {7, 7, 7, 7};
+    struct gelvomas_refusal refusal = {7, 7, 7, 7};
+    make_stale(new_entries, LENGTH(new_entries));
+    make_stale(new_relations, LENGTH(new_relations));
+    make_stale(new_queries, LENGTH(new_queries));
+    expect("H10 at 0", (uint64_t)gelvomas_configure_tables(h10, 0, &lent, &counts, &refusal), 0);
+    expect("H10 at 0, entries", counts.entries, 2);
+    expect("H10 at 0, relations", counts.relations, 1);
+    expect("H10 at 0, comparisons", counts.comparisons, 0);
+    expect("H10 at 0, queries", counts.queries, 2);
+    expect_table("H10 at 0, entries", new_entries, LENGTH(new_entries), empty_entries, LENGTH(empty_entries));
+    expect_table("H10 at 0, relations", new_relations, LENGTH(new_relations), empty_relations, LENGTH(empty_relations));
+    expect_table("H10 at 0, queries", new_queries, LENGTH(new_queries), empty_queries, LENGTH(empty_queries));
+}
+
+/* The readings of H10: refused strictly, which is the reading of a struct that does not
+   name one, and accepted filled, by all four functions. */
+static void read_h10(struct gelvomas_tables h10)
+{
+    uint64_t rows[GELVOMAS_ROWS];
+    uint8_t page[4 * GELVOMAS_PAGE_LINE];
+    uint64_t configuration = STALE;
+    uint64_t lines = STALE;
+    struct gelvomas_refusal refusal = {7, 7, 7, 7};
+    h10.queries = h10_queries;
+    h10.queries_length = LENGTH(h10_queries);
+    check_refused("H10 strictly", &h10, GELVOMAS_REFUSED_PROJECTED_MISSING, 3, VESSEL, 0);
+    h10.filled = true;
+    expect("H10 filled", (uint64_t)gelvomas_check_tables(&h10, rows, &refusal), 0);
+    for (size_t at = 0; at < GELVOMAS_ROWS; at++) {
+        /* Vessel and ramp, at 2 and 3. */
+        int is_column = at == VESSEL * GELVOMAS_ROW_WORDS || at == RAMP * GELVOMAS_ROW_WORDS;
+        expect("H10 filled, a word of the rows", rows[at], is_column ? 0xC : 0);
+    }
+    configure_h10(&h10);
+    expect("H10, vessel", (uint64_t)gelvomas_find_tables(&h10, GELVOMAS_ATTRIBUTE(VESSEL), &configuration, &refusal), 0);
+    expect("H10, vessel, configuration", configuration, 1 << RAMPS);
+    expect("H10, page", (uint64_t)gelvomas_page_tables(&h10, page, sizeof page, &lines, &refusal), 0);
+    expect("H10, page, lines", lines, 4);
+    expect_refusal("H10 filled, refusal", &refusal, 7, 7, 7, 7);
+}
+
 int main(void)
 {
     struct gelvomas_tables h1 = with_entries(h1_entries, LENGTH(h1_entries));
@@ -294,6 +365,7 @@ int main(void)
     check_refused("H2", &h2, GELVOMAS_REFUSED_PROJECTED_MISSING, 1, RAMP, 1);
     check_refused("no tables", &none, GELVOMAS_REFUSED_LENGTH, 0, 0, 0);
     compare_kinds(h1);
+    read_h10(h1);
     no_attributes();
     configure_h1(&h1);
     expect("no room", (uint64_t)gelvomas_configure_tables(&h1, 0, &no_room, &counts, &refusal), 1);

@@ -17,7 +17,7 @@ pub mod expression {
     /// at most the number of features.
     ///
     /// ```
-    /// use gelvomas::{expression, query, Tables};
+    /// use gelvomas::{expression, query, Reading, Tables};
     ///
     /// // The model: a quay is tidal (feature 0), locked (1) or floating (2), never two.
     /// let quay = Tables {
@@ -28,7 +28,7 @@ pub mod expression {
     ///     ..Tables::default()
     /// };
     /// let mut bytes = [0; gelvomas::MAX_PAGE];
-    /// let lines = gelvomas::page(&quay, &mut bytes);
+    /// let lines = gelvomas::page(&quay, Reading::Strict, &mut bytes);
     /// assert_eq!(lines, Ok(3)); // of configurations 1, 2 and 4
     /// ```
     pub const EXACTLY_ONE: u16 = 6;
@@ -56,7 +56,7 @@ pub mod comparison {
 /// [`comparison::CONSTANT`]. What is compared has one kind on both sides.
 ///
 /// ```
-/// use gelvomas::{comparison, expression, kind, operator, query, Refusal, Tables, ROWS};
+/// use gelvomas::{comparison, expression, kind, operator, query, Reading, Refusal, Tables, ROWS};
 ///
 /// // An arrival (attribute 0) at or before a number of passengers (attribute 1).
 /// let arrivals = Tables {
@@ -69,7 +69,7 @@ pub mod comparison {
 ///     kinds: &[kind::MOMENT, kind::COUNT],
 ///     ..Tables::default()
 /// };
-/// let refusal = gelvomas::check(&arrivals, &mut [0; ROWS]).unwrap_err();
+/// let refusal = gelvomas::check(&arrivals, Reading::Strict, &mut [0; ROWS]).unwrap_err();
 /// assert_eq!(refusal.number, Refusal::KINDS_DIFFER);
 /// ```
 pub mod kind {

@@ -1,6 +1,7 @@
 //! The proved column checker of harbour reports, configuring, finding a
-//! configuration, and the wall page, as safe functions. See README.md, and
-//! ../include/gelvomas.h for C.
+//! configuration, and the wall page, as safe functions. Each is told the
+//! [`Reading`], right after the tables. See README.md, and ../include/gelvomas.h
+//! for C.
 
 #![no_std]
 
@@ -61,6 +62,49 @@ pub struct Tables<'a> {
     pub kinds: &'a [u16],
 }
 
+/// How a report is read. What [`Strict`](Reading::Strict) accepts,
+/// [`Filled`](Reading::Filled) accepts with equal rows.
+///
+/// ```
+/// use gelvomas::{expression, kind, query, Reading, Refusal, Tables, ROWS};
+///
+/// // The ramps of a harbour that may have none (feature 0); the report does not say so.
+/// let ramps = Tables {
+///     features: 1,
+///     attributes: 1,
+///     model: 0,
+///     expressions: &[expression::TRUE, 0, 0, expression::FEATURE, 0, 0],
+///     entries: &[0, 0],
+///     relations: &[1, 1],
+///     queries: &[query::RELATION, 0, 0, 0],
+///     kinds: &[kind::NAME],
+///     ..Tables::default()
+/// };
+/// let mut rows = [0; ROWS];
+/// let refusal = gelvomas::check(&ramps, Reading::Strict, &mut rows).unwrap_err();
+/// assert_eq!(refusal.number, Refusal::RELATION_ABSENT);
+/// assert_eq!(gelvomas::check(&ramps, Reading::Filled, &mut rows), Ok(()));
+/// assert_eq!(rows[0], 0b10); // attribute 0 is a column where feature 0 is on
+/// ```
+#[derive(Clone, Copy, Debug, Default, PartialEq, Eq, Hash, PartialOrd, Ord)]
+pub enum Reading {
+    /// A report names a relation, and projects to an attribute, only where they are there.
+    #[default]
+    Strict,
+    /// For a report that leaves the schema's conditions out: an absent relation counts as
+    /// empty, and a projected attribute is dropped where its operand lacks it. A relation
+    /// that is absent wherever it is named, and an attribute that is missing wherever it is
+    /// projected, are refused. What is compared is not filled in.
+    Filled,
+}
+
+impl Reading {
+    /// As the C functions are told it.
+    fn filled(self) -> bool {
+        self == Reading::Filled
+    }
+}
+
 /// Tables 1 to 4 lent for writing. Each must have at least as many words as its
 /// source.
 #[derive(Debug, PartialEq, Eq)]
@@ -88,8 +132,9 @@ pub struct Counts {
     pub queries: u64,
 }
 
-/// The C functions, as ../include/gelvomas.h has them. Only here can rows of another
-/// length than [`ROWS`] be lent, which are refused.
+/// The C functions, as ../include/gelvomas.h has them: `filled` is the reading, false
+/// for the strict one. Only here can rows of another length than [`ROWS`] be lent,
+/// which are refused.
 pub mod ffi {
     extern "C" {
         pub fn gelvomas_check(
@@ -108,6 +153,7 @@ pub mod ffi {
             queries_length: usize,
             kinds: *const u16,
             kinds_length: usize,
+            filled: bool,
             rows: *mut u64,
             rows_length: usize,
             refusal: *mut [u64; 4],
@@ -129,6 +175,7 @@ pub mod ffi {
             queries_length: usize,
             kinds: *const u16,
             kinds_length: usize,
+            filled: bool,
             configuration: u64,
             new_entries: *mut u16,
             new_entries_length: usize,
@@ -157,6 +204,7 @@ pub mod ffi {
             queries_length: usize,
             kinds: *const u16,
             kinds_length: usize,
+            filled: bool,
             wanted: u64,
             answer: *mut [u64; 4],
         ) -> u64;
@@ -177,6 +225,7 @@ pub mod ffi {
             queries_length: usize,
             kinds: *const u16,
             kinds_length: usize,
+            filled: bool,
             page: *mut u8,
             page_length: usize,
             answer: *mut [u64; 4],
@@ -187,7 +236,7 @@ pub mod ffi {
 /// Checks the report of these tables. Accepted, `rows` holds its column rows:
 /// attribute a is in the report at configuration c where bit c % 64 of word
 /// 16 * a + c / 64 is 1. Refused, no word of `rows` is changed.
-pub fn check(tables: &Tables, rows: &mut [u64; ROWS]) -> Result<(), Refusal> {
+pub fn check(tables: &Tables, reading: Reading, rows: &mut [u64; ROWS]) -> Result<(), Refusal> {
     let mut refusal = [0; 4];
     // The slices are lent for the call, and the lengths are theirs; the function
     // asks nothing else.
@@ -208,6 +257,7 @@ pub fn check(tables: &Tables, rows: &mut [u64; ROWS]) -> Result<(), Refusal> {
             tables.queries.len(),
             tables.kinds.as_ptr(),
             tables.kinds.len(),
+            reading.filled(),
             rows.as_mut_ptr(),
             rows.len(),
             &mut refusal,
@@ -223,9 +273,16 @@ pub fn check(tables: &Tables, rows: &mut [u64; ROWS]) -> Result<(), Refusal> {
 /// Each table is written from its first word on, and the words after it are not
 /// changed; the head and table 0, which are not written, are 0 features, as many
 /// attributes, model 0 and the one expression true (1 0 0), and the kind table stays
-/// as it is. Refused, no word of `lent` is changed. A configuration that is not permitted, and a table lent with
-/// fewer words than its source has, are refused.
-pub fn configure(tables: &Tables, configuration: u64, lent: Lent) -> Result<Counts, Refusal> {
+/// as it is. Read as filled, an absent relation is written as the query empty, and a
+/// projected attribute that is missing there is left out; what is written passes
+/// strictly. Refused, no word of `lent` is changed. A configuration that is not
+/// permitted, and a table lent with fewer words than its source has, are refused.
+pub fn configure(
+    tables: &Tables,
+    reading: Reading,
+    configuration: u64,
+    lent: Lent,
+) -> Result<Counts, Refusal> {
     let mut words = [0; 4];
     // The slices are lent for the call, and the lengths are theirs; the function
     // asks nothing else.
@@ -246,6 +303,7 @@ pub fn configure(tables: &Tables, configuration: u64, lent: Lent) -> Result<Coun
             tables.queries.len(),
             tables.kinds.as_ptr(),
             tables.kinds.len(),
+            reading.filled(),
             configuration,
             lent.entries.as_mut_ptr(),
             lent.entries.len(),
@@ -275,7 +333,7 @@ pub fn configure(tables: &Tables, configuration: u64, lent: Lent) -> Result<Coun
 /// `None` where no permitted configuration has them all, and the lowest permitted
 /// configuration where nothing is wanted. A wanted attribute that is not below the
 /// number of attributes is refused.
-pub fn find(tables: &Tables, wanted: u64) -> Result<Option<u64>, Refusal> {
+pub fn find(tables: &Tables, reading: Reading, wanted: u64) -> Result<Option<u64>, Refusal> {
     let mut words = [0; 4];
     // The slices are lent for the call, and the lengths are theirs; the function
     // asks nothing else.
@@ -296,6 +354,7 @@ pub fn find(tables: &Tables, wanted: u64) -> Result<Option<u64>, Refusal> {
             tables.queries.len(),
             tables.kinds.as_ptr(),
             tables.kinds.len(),
+            reading.filled(),
             wanted,
             &mut words,
         )
@@ -315,7 +374,7 @@ pub fn find(tables: &Tables, wanted: u64) -> Result<Option<u64>, Refusal> {
 /// right-aligned in 2. The page is written from the first byte on, and the bytes
 /// after it are not changed. Refused, no byte is changed. A page with fewer than
 /// [`PAGE_LINE`] bytes for each line is refused; [`MAX_PAGE`] bytes are always enough.
-pub fn page(tables: &Tables, page: &mut [u8]) -> Result<u64, Refusal> {
+pub fn page(tables: &Tables, reading: Reading, page: &mut [u8]) -> Result<u64, Refusal> {
     let mut words = [0; 4];
     // The slices are lent for the call, and the lengths are theirs; the function
     // asks nothing else.
@@ -336,6 +395,7 @@ pub fn page(tables: &Tables, page: &mut [u8]) -> Result<u64, Refusal> {
             tables.queries.len(),
             tables.kinds.as_ptr(),
             tables.kinds.len(),
+            reading.filled(),
             page.as_mut_ptr(),
             page.len(),
             &mut words,

@@ -4,7 +4,7 @@
 mod common;
 
 use common::{raw_check, refused, H1};
-use gelvomas::{check, Refusal, Tables, ROWS};
+use gelvomas::{check, Reading, Refusal, Tables, ROWS};
 
 /// What the words are before a call.
 const STALE: u64 = 0xABCD_EF01_2345_6789;
@@ -12,14 +12,14 @@ const STALE: u64 = 0xABCD_EF01_2345_6789;
 /// Refused so, with every word as it was.
 fn expect_refused(tables: &Tables, wanted: Refusal) {
     let mut rows = [STALE; ROWS];
-    assert_eq!(check(tables, &mut rows), Err(wanted));
+    assert_eq!(check(tables, Reading::Strict, &mut rows), Err(wanted));
     assert!(rows.iter().all(|&word| word == STALE));
 }
 
 /// Accepted, with these words at these places and 0 elsewhere.
 fn expect_rows(tables: &Tables, wanted: &[(usize, u64)]) {
     let mut rows = [STALE; ROWS];
-    assert_eq!(check(tables, &mut rows), Ok(()));
+    assert_eq!(check(tables, Reading::Strict, &mut rows), Ok(()));
     for (index, &word) in rows.iter().enumerate() {
         let at = wanted.iter().find(|(place, _)| *place == index);
         assert_eq!(word, at.map_or(0, |&(_, word)| word), "word {index}");
@@ -30,7 +30,7 @@ fn expect_rows(tables: &Tables, wanted: &[(usize, u64)]) {
 /// as it was.
 fn expect_rows_refused(tables: &Tables, length: usize, wanted: Refusal) {
     let mut rows = vec![STALE; length];
-    let (answer, refusal) = raw_check(tables, &mut rows);
+    let (answer, refusal) = raw_check(tables, Reading::Strict, &mut rows);
     assert_eq!((answer, Refusal::from(refusal)), (1, wanted));
     assert!(rows.iter().all(|&word| word == STALE));
 }

@@ -4,7 +4,7 @@
 mod common;
 
 use common::{refused, H1};
-use gelvomas::{check, configure, Counts, Lent, Refusal, Tables, ROWS};
+use gelvomas::{check, configure, Counts, Lent, Reading, Refusal, Tables, ROWS};
 
 /// What the words are before a call.
 const STALE: u16 = 0xBEEF;
@@ -71,7 +71,10 @@ fn configured_with(
         comparisons,
         queries,
     };
-    (configure(tables, configuration, lent), words)
+    (
+        configure(tables, Reading::Strict, configuration, lent),
+        words,
+    )
 }
 
 /// Refused so, with every word as it was.
@@ -110,7 +113,7 @@ fn shown(rows: &[u64], configuration: usize) -> Vec<usize> {
 
 fn columns(tables: &Tables, configuration: usize) -> Vec<usize> {
     let mut rows = [0; ROWS];
-    assert_eq!(check(tables, &mut rows), Ok(()));
+    assert_eq!(check(tables, Reading::Strict, &mut rows), Ok(()));
     shown(&rows, configuration)
 }
 
@@ -256,5 +259,8 @@ fn fourteen_tests_each_entry_by_itself() {
         ..RAMP_TWICE
     };
     expect_refused(&nowhere, 3, rooms(&nowhere), refused(14, 0, 1, 0));
-    assert_eq!(check(&nowhere, &mut [0; ROWS]), Err(refused(14, 0, 1, 0)));
+    assert_eq!(
+        check(&nowhere, Reading::Strict, &mut [0; ROWS]),
+        Err(refused(14, 0, 1, 0))
+    );
 }

@@ -6,7 +6,7 @@ mod common;
 
 use common::{refused, shown};
 use gelvomas::expression::{EXACTLY_ONE, NOT, TRUE};
-use gelvomas::{check, configure, find, page, query, Counts, Lent, Refusal, Tables};
+use gelvomas::{check, configure, find, page, query, Counts, Lent, Reading, Refusal, Tables};
 use gelvomas::{PAGE_LINE, ROWS};
 
 /// Features tidal 0, locked 1, floating 2, of which exactly one is on; attributes
@@ -53,14 +53,14 @@ fn held(features: u64, expressions: &[[u16; 3]]) -> Result<Vec<usize>, Refusal> 
         kinds: &[0],
     };
     let mut rows = [0; ROWS];
-    check(&tables, &mut rows)?;
+    check(&tables, Reading::Strict, &mut rows)?;
     Ok((0..1024).filter(|&c| shown(&rows, c) == 1).collect())
 }
 
 #[test]
 fn a_quay_is_of_one_kind() {
     let mut rows = [u64::MAX; ROWS];
-    assert_eq!(check(&QUAY, &mut rows), Ok(()));
+    assert_eq!(check(&QUAY, Reading::Strict, &mut rows), Ok(()));
     // Bits 1, 2 and 4; and then one of them for each kind.
     let wanted = [(0, 0b10110), (16, 0b10), (32, 0b100), (48, 0b10000)];
     for (index, &word) in rows.iter().enumerate() {
@@ -139,7 +139,7 @@ fn a_locked_quay() {
             comparisons: &mut [],
             queries: &mut queries,
         };
-        configure(&QUAY, configuration, lent)
+        configure(&QUAY, Reading::Strict, configuration, lent)
     };
     for configuration in [0, 3, 5, 6, 7] {
         let refusal = refused(Refusal::CONFIGURATION, 0, 0, configuration);
@@ -159,10 +159,16 @@ fn a_locked_quay() {
 
 #[test]
 fn which_kind_of_quay_has_it() {
-    assert_eq!(find(&QUAY, 0), Ok(Some(1)));
-    assert_eq!(find(&QUAY, set(&[VESSEL, LOCK])), Ok(Some(2)));
-    assert_eq!(find(&QUAY, set(&[PONTOON])), Ok(Some(4)));
-    assert_eq!(find(&QUAY, set(&[TIDE, PONTOON])), Ok(None));
+    assert_eq!(find(&QUAY, Reading::Strict, 0), Ok(Some(1)));
+    assert_eq!(
+        find(&QUAY, Reading::Strict, set(&[VESSEL, LOCK])),
+        Ok(Some(2))
+    );
+    assert_eq!(find(&QUAY, Reading::Strict, set(&[PONTOON])), Ok(Some(4)));
+    assert_eq!(
+        find(&QUAY, Reading::Strict, set(&[TIDE, PONTOON])),
+        Ok(None)
+    );
 }
 
 #[test]
@@ -173,8 +179,8 @@ fn the_page_of_a_quay() {
         "   4 o..o............................................................  2\n",
     ];
     let mut bytes = [0; 3 * PAGE_LINE];
-    assert_eq!(page(&QUAY, &mut bytes), Ok(3));
+    assert_eq!(page(&QUAY, Reading::Strict, &mut bytes), Ok(3));
     assert_eq!(String::from_utf8_lossy(&bytes), wanted.concat());
     let refusal = refused(Refusal::PAGE, 0, 0, 0);
-    assert_eq!(page(&QUAY, &mut bytes[1..]), Err(refusal));
+    assert_eq!(page(&QUAY, Reading::Strict, &mut bytes[1..]), Err(refusal));
 }

@@ -4,7 +4,7 @@
 mod common;
 
 use common::{moments, raw_find, refused, shown, H1};
-use gelvomas::{check, find, Refusal, Tables, ROWS};
+use gelvomas::{check, find, Reading, Refusal, Tables, ROWS};
 
 const VESSEL: u64 = 1 << 0;
 const BERTH: u64 = 1 << 1;
@@ -16,15 +16,27 @@ const SWAPS: u64 = 1;
 const RAMPS: u64 = 2;
 
 fn expect_found(tables: &Tables, wanted: u64, configuration: u64) {
-    assert_eq!(find(tables, wanted), Ok(Some(configuration)), "{wanted:b}");
+    assert_eq!(
+        find(tables, Reading::Strict, wanted),
+        Ok(Some(configuration)),
+        "{wanted:b}"
+    );
 }
 
 fn expect_none(tables: &Tables, wanted: u64) {
-    assert_eq!(find(tables, wanted), Ok(None), "{wanted:b}");
+    assert_eq!(
+        find(tables, Reading::Strict, wanted),
+        Ok(None),
+        "{wanted:b}"
+    );
 }
 
 fn expect_refused(tables: &Tables, wanted: u64, refusal: Refusal) {
-    assert_eq!(find(tables, wanted), Err(refusal), "{wanted:b}");
+    assert_eq!(
+        find(tables, Reading::Strict, wanted),
+        Err(refusal),
+        "{wanted:b}"
+    );
 }
 
 #[test]
@@ -213,24 +225,30 @@ fn the_report_is_checked_before_the_set() {
 #[test]
 fn what_is_found_is_what_the_rows_show() {
     let mut rows = [0; ROWS];
-    assert_eq!(check(&H1, &mut rows), Ok(()));
+    assert_eq!(check(&H1, Reading::Strict, &mut rows), Ok(()));
     for wanted in 0..=ALL {
         let has_all = |&c: &usize| wanted & !shown(&rows, c) == 0;
         let lowest = (0..4).find(has_all).map(|c| c as u64);
-        assert_eq!(find(&H1, wanted), Ok(lowest), "{wanted:b}");
+        assert_eq!(find(&H1, Reading::Strict, wanted), Ok(lowest), "{wanted:b}");
     }
 }
 
 #[test]
 fn all_four_words_of_the_answer_are_written() {
-    assert_eq!(raw_find(&H1, VESSEL), (0, [0, 0, 0, 0]));
-    assert_eq!(raw_find(&H1, VESSEL | RAMP), (0, [2, 0, 0, 0]));
-    assert_eq!(raw_find(&H1, BERTH), (2, [0, 0, 0, 0]));
-    assert_eq!(raw_find(&H1, 1 << 3), (1, [22, 0, 0, 0]));
-    assert_eq!(raw_find(&Tables::default(), 0), (1, [2, 0, 0, 0]));
+    assert_eq!(raw_find(&H1, Reading::Strict, VESSEL), (0, [0, 0, 0, 0]));
+    assert_eq!(
+        raw_find(&H1, Reading::Strict, VESSEL | RAMP),
+        (0, [2, 0, 0, 0])
+    );
+    assert_eq!(raw_find(&H1, Reading::Strict, BERTH), (2, [0, 0, 0, 0]));
+    assert_eq!(raw_find(&H1, Reading::Strict, 1 << 3), (1, [22, 0, 0, 0]));
+    assert_eq!(
+        raw_find(&Tables::default(), Reading::Strict, 0),
+        (1, [2, 0, 0, 0])
+    );
     let h2 = Tables {
         entries: &[0, 0, 1, 0, 2, 2, 0, 0, 2, 1],
         ..H1
     };
-    assert_eq!(raw_find(&h2, 0), (1, [17, 1, 2, 1]));
+    assert_eq!(raw_find(&h2, Reading::Strict, 0), (1, [17, 1, 2, 1]));
 }

@@ -5,7 +5,7 @@ mod common;
 
 use common::{moments, raw_check, refused, H1};
 use gelvomas::{check, comparison, configure, expression, find, kind, operator, page, query};
-use gelvomas::{Counts, Lent, Refusal, Tables, ROWS};
+use gelvomas::{Counts, Lent, Reading, Refusal, Tables, ROWS};
 
 const ARRIVAL: u16 = 0;
 const PASSENGERS: u16 = 1;
@@ -53,14 +53,14 @@ fn answer(listed: u16, comparisons: &[[u16; 5]], kinds: &[u16]) -> Result<(), Re
         kinds,
     };
     let mut rows = [7; ROWS];
-    let answer = check(&tables, &mut rows);
+    let answer = check(&tables, Reading::Strict, &mut rows);
     assert!(answer.is_ok() || rows == [7; ROWS]);
     assert_eq!(
-        find(&tables, 0).map(|found| assert_eq!(found, Some(0))),
+        find(&tables, Reading::Strict, 0).map(|found| assert_eq!(found, Some(0))),
         answer
     );
     assert_eq!(
-        page(&tables, &mut [0; 146]).map(|lines| assert_eq!(lines, 2)),
+        page(&tables, Reading::Strict, &mut [0; 146]).map(|lines| assert_eq!(lines, 2)),
         answer
     );
     answer
@@ -159,14 +159,17 @@ fn of_64_attributes_and_of_none() {
             kinds: moments(attributes),
             ..Tables::default()
         };
-        assert_eq!(check(&tables, &mut [0; ROWS]), Ok(()));
+        assert_eq!(check(&tables, Reading::Strict, &mut [0; ROWS]), Ok(()));
         let kinds = [0; 65];
         let longer = Tables {
             kinds: &kinds[..attributes as usize + 1],
             ..tables
         };
         let refusal = refused(Refusal::KIND, 0, 0, 0);
-        assert_eq!(check(&longer, &mut [0; ROWS]), Err(refusal));
+        assert_eq!(
+            check(&longer, Reading::Strict, &mut [0; ROWS]),
+            Err(refusal)
+        );
     }
 }
 
@@ -175,14 +178,14 @@ fn of_64_attributes_and_of_none() {
 fn the_place_of_the_check() {
     let kinds: &[u16] = &[0, 0];
     let mut rows = [0; 3];
-    let words = raw_check(&Tables { kinds, ..H1 }, &mut rows);
+    let words = raw_check(&Tables { kinds, ..H1 }, Reading::Strict, &mut rows);
     assert_eq!(words, (1, [Refusal::KIND, 0, 0, 0]));
     let left = Tables {
         kinds,
         queries: &[query::RELATION, 0, 0, 0],
         ..H1
     };
-    let words = raw_check(&left, &mut rows);
+    let words = raw_check(&left, Reading::Strict, &mut rows);
     assert_eq!(words, (1, [Refusal::ENTRY_LEFT, 3, 0, 0]));
 }
 
@@ -218,7 +221,7 @@ fn configuring_keeps_the_kinds_of_constants() {
         comparisons: 2,
         queries: 2,
     };
-    assert_eq!(configure(&tables, 0, lent), Ok(counts));
+    assert_eq!(configure(&tables, Reading::Strict, 0, lent), Ok(counts));
     assert_eq!(new[..10], comparisons[..2].concat());
     assert_eq!(new[10..], [7; 5]);
     let plain = Tables {
@@ -230,5 +233,5 @@ fn configuring_keeps_the_kinds_of_constants() {
         queries: &queries,
         ..tables
     };
-    assert_eq!(check(&plain, &mut [0; ROWS]), Ok(()));
+    assert_eq!(check(&plain, Reading::Strict, &mut [0; ROWS]), Ok(()));
 }

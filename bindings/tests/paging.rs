@@ -4,7 +4,7 @@
 mod common;
 
 use common::{moments, raw_page, refused, shown, H1};
-use gelvomas::{check, page, Refusal, Tables, MAX_PAGE, PAGE_LINE, ROWS};
+use gelvomas::{check, page, Reading, Refusal, Tables, MAX_PAGE, PAGE_LINE, ROWS};
 
 /// What the bytes are before a call: no line has it.
 const STALE: u8 = 0xA5;
@@ -29,7 +29,7 @@ fn paged(tables: &Tables, length: usize) -> (Result<u64, Refusal>, Vec<u8>) {
     let mut bytes = vec![STALE; length + 2 * PAGE_LINE];
     let (before, rest) = bytes.split_at_mut(PAGE_LINE);
     let (lent, after) = rest.split_at_mut(length);
-    let answer = page(tables, lent);
+    let answer = page(tables, Reading::Strict, lent);
     assert_eq!([before, after], [[STALE; PAGE_LINE]; 2]);
     (answer, lent.to_vec())
 }
@@ -239,7 +239,7 @@ fn every_mark_is_the_bit_of_its_row() {
             ..H1
         };
         let mut rows = [0; ROWS];
-        assert_eq!(check(&tables, &mut rows), Ok(()));
+        assert_eq!(check(&tables, Reading::Strict, &mut rows), Ok(()));
         let permitted = |c: &usize| match model {
             0 => true,
             1..=10 => c >> (model - 1) & 1 == 1,
@@ -356,21 +356,39 @@ fn typing_is_checked_before_the_page() {
 
 #[test]
 fn a_page_may_have_no_bytes() {
-    assert_eq!(page(&H1, &mut []), Err(refused(23, 0, 0, 0)));
-    assert_eq!(page(&Tables::default(), &mut []), Err(refused(2, 0, 0, 0)));
+    assert_eq!(
+        page(&H1, Reading::Strict, &mut []),
+        Err(refused(23, 0, 0, 0))
+    );
+    assert_eq!(
+        page(&Tables::default(), Reading::Strict, &mut []),
+        Err(refused(2, 0, 0, 0))
+    );
 }
 
 #[test]
 fn all_four_words_of_the_answer_are_written() {
     let with = |model| Tables { model, ..H1 };
-    assert_eq!(raw_page(&H1, &mut [STALE; 292]), (0, [4, 0, 0, 0]));
-    assert_eq!(raw_page(&with(SWAPS), &mut [STALE; 292]), (0, [2, 0, 0, 0]));
-    assert_eq!(raw_page(&H1, &mut [STALE; 291]), (1, [23, 0, 0, 0]));
-    assert_eq!(raw_page(&H1, &mut []), (1, [23, 0, 0, 0]));
-    assert_eq!(raw_page(&with(3), &mut [STALE; 292]), (1, [4, 0, 0, 0]));
+    assert_eq!(
+        raw_page(&H1, Reading::Strict, &mut [STALE; 292]),
+        (0, [4, 0, 0, 0])
+    );
+    assert_eq!(
+        raw_page(&with(SWAPS), Reading::Strict, &mut [STALE; 292]),
+        (0, [2, 0, 0, 0])
+    );
+    assert_eq!(
+        raw_page(&H1, Reading::Strict, &mut [STALE; 291]),
+        (1, [23, 0, 0, 0])
+    );
+    assert_eq!(raw_page(&H1, Reading::Strict, &mut []), (1, [23, 0, 0, 0]));
+    assert_eq!(
+        raw_page(&with(3), Reading::Strict, &mut [STALE; 292]),
+        (1, [4, 0, 0, 0])
+    );
     let h2 = Tables {
         entries: &[0, 0, 1, 0, 2, 2, 0, 0, 2, 1],
         ..H1
     };
-    assert_eq!(raw_page(&h2, &mut []), (1, [17, 1, 2, 1]));
+    assert_eq!(raw_page(&h2, Reading::Strict, &mut []), (1, [17, 1, 2, 1]));
 }

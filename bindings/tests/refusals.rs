@@ -7,7 +7,7 @@ use std::collections::BTreeMap;
 use std::error::Error;
 
 use common::{refused, H1};
-use gelvomas::{configure, Lent};
+use gelvomas::{configure, Lent, Reading};
 
 fn said(number: u64, place: u64, item: u64, configuration: u64) -> String {
     refused(number, place, item, configuration).to_string()
@@ -69,7 +69,7 @@ fn a_refusal_is_an_error() {
             comparisons: &mut [],
             queries: &mut [],
         };
-        configure(&H1, 0, lent)?;
+        configure(&H1, Reading::Strict, 0, lent)?;
         Ok(())
     }
     let error = without_room().expect_err("no words are lent");

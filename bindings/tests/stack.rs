@@ -1,17 +1,17 @@
 //! The stack that the calls take. No theorem bounds it: ../../include/gelvomas.h and
-//! ../README.md state what is tried here, on a report of full size that is as deep
-//! as a report can be, where the walk over query forms recurses most.
+//! ../README.md state what is tried here, in both readings, on a report of full size that
+//! is as deep as a report can be, where the walk over query forms recurses most.
 
 use std::thread;
 
 use gelvomas::{check, comparison, configure, expression, find, page, query};
-use gelvomas::{Counts, Lent, Refusal, Tables};
+use gelvomas::{Counts, Lent, Reading, Refusal, Tables};
 use gelvomas::{MAX_ATTRIBUTES, MAX_COMPARISONS, MAX_EXPRESSIONS, MAX_FEATURES};
 use gelvomas::{MAX_PAGE, MAX_QUERIES, ROWS};
 
-/// What is stated, in bytes. The least that was enough: 368 KiB for a check, for
-/// finding and for the page, 370 KiB for configuring, of which the thread needs some
-/// itself.
+/// What is stated, in bytes. The least that was enough, in either reading: 372 KiB for a
+/// check, for finding and for the page, 375 KiB for configuring, of which the thread needs
+/// some itself.
 const STACK_OF_CHECK: usize = 400 << 10;
 const STACK_OF_FIND: usize = 400 << 10;
 const STACK_OF_PAGE: usize = 400 << 10;
@@ -64,22 +64,14 @@ fn comparisons() -> Vec<u16> {
     forms.concat()
 }
 
-/// Eight times all attributes, the last one but at the last configuration: the list
-/// of the relation and those of seven projects.
-fn entries() -> Vec<u16> {
-    let list: Vec<_> = (0..ATTRIBUTES)
-        .map(|a| {
-            [
-                a,
-                if a == LAST_ATTRIBUTE {
-                    NOT_LAST
-                } else {
-                    ALWAYS
-                },
-            ]
-        })
-        .collect();
-    list.concat().repeat(8)
+/// Eight times all attributes, the last one under these expressions: the list of the
+/// relation and those of seven projects.
+fn entries(in_relation: u16, in_projects: u16) -> Vec<u16> {
+    let list = |last: u16| {
+        let always = (0..LAST_ATTRIBUTE).flat_map(|a| [a, ALWAYS]);
+        always.chain([LAST_ATTRIBUTE, last]).collect::<Vec<_>>()
+    };
+    [list(in_relation), list(in_projects).repeat(7)].concat()
 }
 
 /// A relation, and on it selects and seven projects, each on the form below it.
@@ -104,20 +96,20 @@ fn with_stack<T: Send>(bytes: usize, call: impl FnOnce() -> T + Send) -> T {
     })
 }
 
-fn checked(tables: &Tables, rows: &mut [u64; ROWS]) -> Result<(), Refusal> {
-    with_stack(STACK_OF_CHECK, || check(tables, rows))
+fn checked(tables: &Tables, reading: Reading, rows: &mut [u64; ROWS]) -> Result<(), Refusal> {
+    with_stack(STACK_OF_CHECK, || check(tables, reading, rows))
 }
 
-fn found(tables: &Tables, wanted: u64) -> Result<Option<u64>, Refusal> {
-    with_stack(STACK_OF_FIND, || find(tables, wanted))
+fn found(tables: &Tables, reading: Reading) -> Result<Option<u64>, Refusal> {
+    with_stack(STACK_OF_FIND, || find(tables, reading, u64::MAX))
 }
 
-fn paged(tables: &Tables) -> Result<u64, Refusal> {
+fn paged(tables: &Tables, reading: Reading) -> Result<u64, Refusal> {
     let mut bytes = vec![0; MAX_PAGE];
-    with_stack(STACK_OF_PAGE, || page(tables, &mut bytes))
+    with_stack(STACK_OF_PAGE, || page(tables, reading, &mut bytes))
 }
 
-fn configured(tables: &Tables, configuration: u64) -> Result<Counts, Refusal> {
+fn configured(tables: &Tables, reading: Reading, configuration: u64) -> Result<Counts, Refusal> {
     let mut entries = tables.entries.to_vec();
     let mut relations = tables.relations.to_vec();
     let mut comparisons = tables.comparisons.to_vec();
@@ -129,84 +121,165 @@ fn configured(tables: &Tables, configuration: u64) -> Result<Counts, Refusal> {
         queries: &mut queries,
     };
     with_stack(STACK_OF_CONFIGURE, || {
-        configure(tables, configuration, lent)
+        configure(tables, reading, configuration, lent)
     })
 }
 
-/// One test, the smaller stack first: a thread may be given the larger stack of one
-/// that has ended.
+/// A model: its expression, the configurations that it permits in each word of a row, the
+/// lowest of them, and how many there are. Where they are at most 64, typing goes through
+/// them one by one.
+#[derive(Clone, Copy)]
+struct Model {
+    expression: u16,
+    permits: u64,
+    lowest: u64,
+    count: u64,
+}
+
+const MODELS: [Model; 2] = [
+    Model {
+        expression: ALWAYS,
+        permits: u64::MAX,
+        lowest: 0,
+        count: 1024,
+    },
+    // The first four features are on.
+    Model {
+        expression: FEATURES + 3,
+        permits: 0x8000_8000_8000_8000,
+        lowest: 15,
+        count: 64,
+    },
+];
+
+/// A report of full size, the reading and the model that it is given with, and what it is
+/// refused for, if it is.
+struct Case<'a> {
+    tables: Tables<'a>,
+    reading: Reading,
+    model: Model,
+    refusal: Option<Refusal>,
+}
+
+impl Case<'_> {
+    fn expect_checked_found_and_paged(&self) {
+        let answer = self.refusal.map_or(Ok(()), Err);
+        let mut rows = [0; ROWS];
+        assert_eq!(checked(&self.tables, self.reading, &mut rows), answer);
+        // All attributes, the last one but at the last configuration.
+        let mut wanted = [self.model.permits; ROWS];
+        wanted[ROWS - 1] &= u64::MAX >> 1;
+        assert!(self.refusal.is_some() || rows == wanted);
+        let lowest = answer.map(|()| Some(self.model.lowest));
+        assert_eq!(found(&self.tables, self.reading), lowest);
+        let lines = answer.map(|()| self.model.count);
+        assert_eq!(paged(&self.tables, self.reading), lines);
+    }
+
+    /// At the last configuration eight lists are without the last attribute.
+    fn expect_configured(&self) {
+        let forms = self.tables.comparisons.chunks(5);
+        let kept = forms.filter(|form| form[0] != comparison::CHOICE).count();
+        for (configuration, entries) in [(self.model.lowest, 512), (LAST_CONFIGURATION, 504)] {
+            let counts = Counts {
+                entries,
+                relations: 1,
+                comparisons: kept as u64,
+                queries: 256,
+            };
+            let answer = self.refusal.map_or(Ok(counts), Err);
+            let configured = configured(&self.tables, self.reading, configuration);
+            assert_eq!(configured, answer);
+        }
+    }
+}
+
+/// The tables of the reports, and what stands in them for each refusal.
+struct Parts {
+    expressions: Vec<u16>,
+    comparisons: Vec<u16>,
+    entries: Vec<u16>,
+    /// The projects do not say where the last attribute is.
+    left_out: Vec<u16>,
+    queries: Vec<u16>,
+    /// The last form names the last attribute everywhere.
+    named_last: Vec<u16>,
+    kinds: Vec<u16>,
+    /// The last attribute is of another kind than what it is compared with.
+    kinds_differ: Vec<u16>,
+}
+
+impl Parts {
+    fn new() -> Parts {
+        let forms = queries();
+        let last = forms.len() - 1;
+        let mut named_last = forms.clone();
+        named_last[last] = [query::SELECT, NAMES_LAST, last as u16 - 1, 0];
+        // Moments, counts and names by turns, as the constants are.
+        let kinds: Vec<u16> = (0..ATTRIBUTES).map(|a| a % 3).collect();
+        let mut kinds_differ = kinds.clone();
+        kinds_differ[usize::from(LAST_ATTRIBUTE)] = 1;
+        Parts {
+            expressions: expressions(),
+            comparisons: comparisons(),
+            entries: entries(NOT_LAST, NOT_LAST),
+            left_out: entries(NOT_LAST, ALWAYS),
+            queries: forms.concat(),
+            named_last: named_last.concat(),
+            kinds,
+            kinds_differ,
+        }
+    }
+
+    fn cases(&self, reading: Reading, model: Model) -> [Case<'_>; 4] {
+        let deep = Tables {
+            features: MAX_FEATURES,
+            attributes: MAX_ATTRIBUTES,
+            model: model.expression.into(),
+            expressions: &self.expressions,
+            entries: &self.entries,
+            relations: &[ALWAYS, ATTRIBUTES],
+            comparisons: &self.comparisons,
+            queries: &self.queries,
+            kinds: &self.kinds,
+        };
+        let (entries, queries, kinds) = (&self.left_out, &self.named_last, &self.kinds_differ);
+        let missing = refused(Refusal::COMPARED_MISSING, 255, LAST_CONFIGURATION);
+        let differ = refused(Refusal::KINDS_DIFFER, NAMES_LAST, model.lowest);
+        // Form 32 is the first project.
+        let projected = refused(Refusal::PROJECTED_MISSING, 32, LAST_CONFIGURATION);
+        let strictly = Some(projected).filter(|_| reading == Reading::Strict);
+        let case = |tables, refusal| Case {
+            tables,
+            reading,
+            model,
+            refusal,
+        };
+        [
+            case(deep, None),
+            case(Tables { queries, ..deep }, Some(missing)),
+            case(Tables { kinds, ..deep }, Some(differ)),
+            case(Tables { entries, ..deep }, strictly),
+        ]
+    }
+}
+
+fn refused(number: u64, place: u16, configuration: u64) -> Refusal {
+    let item = LAST_ATTRIBUTE.into();
+    [number, place.into(), item, configuration].into()
+}
+
+/// One test, the smaller stack first: a thread may be given the larger stack of one that
+/// has ended.
 #[test]
 fn the_stated_stack_is_enough() {
-    let accepted = queries();
-    // Refused at the last form and the last configuration.
-    let mut refused_last = accepted.clone();
-    let last = accepted.len() as u16 - 1;
-    refused_last[usize::from(last)] = [query::SELECT, NAMES_LAST, last - 1, 0];
-    let [accepted, refused_last] = [accepted.concat(), refused_last.concat()];
-    let (expressions, entries, comparisons) = (expressions(), entries(), comparisons());
-    // Moments, counts and names by turns, as the constants are.
-    let kinds: Vec<u16> = (0..ATTRIBUTES).map(|a| a % 3).collect();
-    let deep = Tables {
-        features: MAX_FEATURES,
-        attributes: MAX_ATTRIBUTES,
-        model: ALWAYS.into(),
-        expressions: &expressions,
-        entries: &entries,
-        relations: &[ALWAYS, ATTRIBUTES],
-        comparisons: &comparisons,
-        queries: &accepted,
-        kinds: &kinds,
-    };
-    let deep_refused = Tables {
-        queries: &refused_last,
-        ..deep
-    };
-    // The first select that names the last attribute compares it with another kind.
-    let mut kinds_differ = kinds.clone();
-    kinds_differ[usize::from(LAST_ATTRIBUTE)] = 1;
-    let deep_differ = Tables {
-        kinds: &kinds_differ,
-        ..deep
-    };
-    let differ = Refusal {
-        number: Refusal::KINDS_DIFFER,
-        place: NAMES_LAST.into(),
-        item: LAST_ATTRIBUTE.into(),
-        configuration: 0,
-    };
-    let refusal = Refusal {
-        number: Refusal::COMPARED_MISSING,
-        place: last.into(),
-        item: LAST_ATTRIBUTE.into(),
-        configuration: LAST_CONFIGURATION,
-    };
-
-    let mut rows = [0; ROWS];
-    assert_eq!(checked(&deep, &mut rows), Ok(()));
-    let mut wanted = [u64::MAX; ROWS];
-    wanted[ROWS - 1] >>= 1;
-    assert!(rows == wanted);
-    assert_eq!(checked(&deep_refused, &mut rows), Err(refusal));
-    assert_eq!(checked(&deep_differ, &mut rows), Err(differ));
-
-    assert_eq!(found(&deep, u64::MAX), Ok(Some(0)));
-    assert_eq!(found(&deep_refused, u64::MAX), Err(refusal));
-    assert_eq!(found(&deep_differ, u64::MAX), Err(differ));
-
-    assert_eq!(paged(&deep), Ok(1024));
-    assert_eq!(paged(&deep_refused), Err(refusal));
-    assert_eq!(paged(&deep_differ), Err(differ));
-
-    let kept = comparisons
-        .chunks(5)
-        .filter(|form| form[0] != comparison::CHOICE);
-    let counts = Counts {
-        entries: 512,
-        relations: 1,
-        comparisons: kept.count() as u64,
-        queries: 256,
-    };
-    assert_eq!(configured(&deep, 0), Ok(counts));
-    assert_eq!(configured(&deep_refused, 0), Err(refusal));
-    assert_eq!(configured(&deep_differ, 0), Err(differ));
+    let parts = Parts::new();
+    let mut cases = Vec::new();
+    for reading in [Reading::Strict, Reading::Filled] {
+        for model in MODELS {
+            cases.extend(parts.cases(reading, model));
+        }
+    }
+    cases.iter().for_each(Case::expect_checked_found_and_paged);
+    cases.iter().for_each(Case::expect_configured);
 }

@@ -10,7 +10,7 @@ use std::fs;
 use std::path::Path;
 
 use common::{raw_check, raw_find, raw_page, refused, UNWRITTEN};
-use gelvomas::{configure, find, page, Lent, Refusal, Tables};
+use gelvomas::{configure, find, page, Lent, Reading, Refusal, Tables};
 use gelvomas::{COMPARISON_WORDS, ENTRY_WORDS, PAGE_LINE, QUERY_WORDS, RELATION_WORDS};
 
 /// What the words and the bytes lent are before a call.
@@ -39,10 +39,10 @@ fn refused_line(refusal: Refusal) -> String {
 
 /// What a check gives, with so many words of rows. Refused, the rows are as they
 /// were; accepted, the refusal is.
-fn checked(tables: &Tables, room: usize) -> String {
+fn checked(tables: &Tables, reading: Reading, room: usize) -> String {
     let lent = vec![u64::from(STALE); room];
     let mut rows = lent.clone();
-    match raw_check(tables, &mut rows) {
+    match raw_check(tables, reading, &mut rows) {
         (0, UNWRITTEN) => {
             let words = rows.iter().enumerate().filter(|(_, &word)| word != 0);
             let words: Vec<String> = words.map(|(at, word)| format!("{at}:{word}")).collect();
@@ -58,7 +58,7 @@ fn checked(tables: &Tables, room: usize) -> String {
 
 /// What configuring gives, with so many words for tables 1 to 4. Refused, they are
 /// as they were, and else those after what was written.
-fn configured(tables: &Tables, configuration: u64, rooms: [usize; 4]) -> String {
+fn configured(tables: &Tables, reading: Reading, configuration: u64, rooms: [usize; 4]) -> String {
     let mut words = rooms.map(|room| vec![STALE; room]);
     let [entries, relations, comparisons, queries] = &mut words;
     let lent = Lent {
@@ -67,7 +67,7 @@ fn configured(tables: &Tables, configuration: u64, rooms: [usize; 4]) -> String 
         comparisons,
         queries,
     };
-    let counts = match configure(tables, configuration, lent) {
+    let counts = match configure(tables, reading, configuration, lent) {
         Ok(counts) => counts,
         Err(refusal) => {
             assert_eq!(words, rooms.map(|room| vec![STALE; room]));
@@ -90,8 +90,8 @@ fn configured(tables: &Tables, configuration: u64, rooms: [usize; 4]) -> String 
 }
 
 /// What finding gives, by the C function and by the safe one.
-fn found(tables: &Tables, wanted: u64) -> String {
-    let (answer, line) = match raw_find(tables, wanted) {
+fn found(tables: &Tables, reading: Reading, wanted: u64) -> String {
+    let (answer, line) = match raw_find(tables, reading, wanted) {
         (0, [at, 0, 0, 0]) => (Ok(Some(at)), format!("found {at}")),
         (2, [0, 0, 0, 0]) => (Ok(None), "none".to_string()),
         (1, [number, place, item, configuration]) => {
@@ -100,7 +100,7 @@ fn found(tables: &Tables, wanted: u64) -> String {
         }
         other => panic!("no answer: {other:?}"),
     };
-    assert_eq!(find(tables, wanted), answer);
+    assert_eq!(find(tables, reading, wanted), answer);
     line
 }
 
@@ -118,10 +118,10 @@ fn page_lines(bytes: &[u8], count: u64) -> String {
 
 /// What a page gives, with so many bytes lent, by the C function and by the safe
 /// one. Refused, the bytes are as they were.
-fn paged(tables: &Tables, room: usize) -> String {
+fn paged(tables: &Tables, reading: Reading, room: usize) -> String {
     let lent = vec![STALE_BYTE; room];
     let [mut bytes, mut safe] = [lent.clone(), lent.clone()];
-    let (answer, text) = match raw_page(tables, &mut bytes) {
+    let (answer, text) = match raw_page(tables, reading, &mut bytes) {
         (0, [lines, 0, 0, 0]) => {
             let page = page_lines(&bytes, lines);
             (Ok(lines), format!("page {lines}{page}"))
@@ -133,19 +133,43 @@ fn paged(tables: &Tables, room: usize) -> String {
         }
         other => panic!("no answer: {other:?}"),
     };
-    assert_eq!(page(tables, &mut safe), answer);
+    assert_eq!(page(tables, reading, &mut safe), answer);
     assert_eq!(safe, bytes);
     text
 }
 
-/// Runs a case, given as its lines without the first and the last, and gives the
-/// name of its call.
-fn run<'a>(lines: &[&'a str]) -> &'a str {
-    if lines[0].starts_with("text") {
-        return "text";
+/// Makes a call as a case has it in its line, on these tables in this reading, and gives
+/// its answer.
+fn called(tables: &Tables, reading: Reading, call: &str) -> String {
+    let (name, asked) = call.split_once(' ').expect("what is asked");
+    let asked: Vec<u64> = numbers(asked);
+    match (name, &asked[..]) {
+        ("check", &[room]) => checked(tables, reading, room as usize),
+        ("configure", &[at, r1, r2, r3, r4]) => {
+            let rooms = [r1, r2, r3, r4].map(|room| room as usize);
+            configured(tables, reading, at, rooms)
+        }
+        ("find", &[wanted]) => found(tables, reading, wanted),
+        ("page", &[room]) => paged(tables, reading, room as usize),
+        _ => panic!("no call of the library: {call}"),
     }
-    let [head, t0, t1, t2, t3, t4, kinds, call, gives @ ..] = lines else {
-        panic!("a case has a head, five tables, kinds, a call and an answer");
+}
+
+/// Runs a case, given as its lines without the first and the last, and gives the
+/// name of its call, and `filled` before it where that is the reading.
+fn run(lines: &[&str]) -> String {
+    if lines[0].starts_with("text") {
+        return "text".to_string();
+    }
+    let [head, t0, t1, t2, t3, t4, kinds, rest @ ..] = lines else {
+        panic!("a case has a head, five tables and kinds");
+    };
+    let (reading, rest) = match rest {
+        ["reading filled", rest @ ..] => (Reading::Filled, rest),
+        _ => (Reading::Strict, rest),
+    };
+    let [call, gives @ ..] = rest else {
+        panic!("a case has a call");
     };
     let head: Vec<u64> = numbers(head.strip_prefix("head").expect("a head"));
     let words: [Vec<u16>; 5] = [t0, t1, t2, t3, t4].map(|line| numbers(&line[2..]));
@@ -162,19 +186,13 @@ fn run<'a>(lines: &[&'a str]) -> &'a str {
         kinds: &kinds,
     };
     let call = call.strip_prefix("call ").expect("a call");
-    let (name, asked) = call.split_once(' ').expect("what is asked");
-    let asked: Vec<u64> = numbers(asked);
-    let answer = match (name, &asked[..]) {
-        ("check", &[room]) => checked(&tables, room as usize),
-        ("configure", &[at, r1, r2, r3, r4]) => {
-            configured(&tables, at, [r1, r2, r3, r4].map(|room| room as usize))
-        }
-        ("find", &[wanted]) => found(&tables, wanted),
-        ("page", &[room]) => paged(&tables, room as usize),
-        _ => panic!("no call of the library: {call}"),
-    };
+    let answer = called(&tables, reading, call);
     assert_eq!(format!("gives {answer}"), gives.join("\n"));
-    name
+    let name = call.split(' ').next().expect("a name");
+    match reading {
+        Reading::Strict => name.to_string(),
+        Reading::Filled => format!("filled {name}"),
+    }
 }
 
 #[test]
@@ -191,15 +209,19 @@ fn every_stored_case_has_its_answer() {
         while let Some(first) = lines.next() {
             println!("{first}");
             let case: Vec<&str> = lines.by_ref().take_while(|&line| line != "end").collect();
-            *calls.entry(run(&case).to_string()).or_default() += 1;
+            *calls.entry(run(&case)).or_default() += 1;
         }
     }
     // How many there are of each. After a case more or fewer, it is to be changed.
     let wanted = [
-        ("check", 454),
-        ("configure", 54),
-        ("find", 70),
-        ("page", 108),
+        ("check", 541),
+        ("configure", 55),
+        ("filled check", 89),
+        ("filled configure", 21),
+        ("filled find", 10),
+        ("filled page", 4),
+        ("find", 71),
+        ("page", 109),
         ("text", 42),
     ];
     assert_eq!(

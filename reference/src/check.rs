@@ -1,7 +1,9 @@
 //! The checking call.
 
 use crate::expression::{self, Permitted};
+use crate::filled;
 use crate::form::{self, Lists};
+use crate::reading::Reading;
 use crate::refusal::Refusal;
 use crate::schema;
 use crate::tables::Tables;
@@ -21,28 +23,31 @@ pub struct Accepted {
 
 /// Checks the tables and writes the column rows. Refused, it leaves the rows as
 /// they were.
-pub fn check(tables: &Tables, rows: &mut [u64]) -> Result<(), Refusal> {
+pub fn check(tables: &Tables, reading: Reading, rows: &mut [u64]) -> Result<(), Refusal> {
     let lists = form::check(tables)?;
     if rows.len() != ROWS {
         return Err(Refusal::at(11, 0));
     }
-    let accepted = schema_and_typing(tables, lists)?;
+    let accepted = schema_and_typing(tables, reading, lists)?;
     write_rows(&accepted, rows);
     Ok(())
 }
 
 /// What configuring runs before 20: checks 1 to 10, 24, 12 to 19 and 25. "A call
 /// whose own checks come after 19" runs it first too; 11 is of checking only.
-pub fn accepted(tables: &Tables) -> Result<Accepted, Refusal> {
+pub fn accepted(tables: &Tables, reading: Reading) -> Result<Accepted, Refusal> {
     let lists = form::check(tables)?;
-    schema_and_typing(tables, lists)
+    schema_and_typing(tables, reading, lists)
 }
 
 /// Checks 12 to 19 and 25, on tables sound in form.
-fn schema_and_typing(tables: &Tables, lists: Lists) -> Result<Accepted, Refusal> {
+fn schema_and_typing(tables: &Tables, reading: Reading, lists: Lists) -> Result<Accepted, Refusal> {
     let permitted = expression::permitted(tables);
     schema::check(tables, &lists, &permitted)?;
-    let columns = typing::check(tables, &lists, &permitted)?;
+    let columns = match reading {
+        Reading::Strict => typing::check(tables, &lists, &permitted)?,
+        Reading::Filled => filled::check(tables, &lists, &permitted)?,
+    };
     Ok(Accepted {
         lists,
         permitted,

@@ -4,9 +4,11 @@ use std::ops::Range;
 
 use crate::check::{self, Accepted};
 use crate::expression::Permitted;
+use crate::filled;
+use crate::reading::Reading;
 use crate::refusal::Refusal;
 use crate::tables::{self, Tables};
-use crate::typing;
+use crate::typing::{self, Set};
 
 /// Writes tables 1 to 4 of the report configured at `c` into `out` and returns
 /// the number of forms in each. Words after them, and on a refusal all words,
@@ -14,11 +16,16 @@ use crate::typing;
 ///
 /// The head of the result is 0 features, the same attributes, model 0; its
 /// only expression is true (1 0 0). They are fixed, so they are not written.
-pub fn configure(tables: &Tables, c: u64, out: [&mut [u16]; 4]) -> Result<[usize; 4], Refusal> {
-    let accepted = check::accepted(tables)?;
+pub fn configure(
+    tables: &Tables,
+    reading: Reading,
+    c: u64,
+    out: [&mut [u16]; 4],
+) -> Result<[usize; 4], Refusal> {
+    let accepted = check::accepted(tables, reading)?;
     let at = permitted_at(&accepted, c)?;
     room(tables, &out)?;
-    let written = configured(tables, &accepted, at);
+    let written = configured(tables, reading, &accepted, at);
     let mut counts = [0; 4];
     for (index, lent) in out.into_iter().enumerate() {
         let words = &written[index];
@@ -46,62 +53,82 @@ fn room(tables: &Tables, out: &[&mut [u16]; 4]) -> Result<(), Refusal> {
 }
 
 /// The words of tables 1 to 4 of the configured report.
-fn configured(tables: &Tables, accepted: &Accepted, at: &Permitted) -> [Vec<u16>; 4] {
+fn configured(
+    tables: &Tables,
+    reading: Reading,
+    accepted: &Accepted,
+    at: &Permitted,
+) -> [Vec<u16>; 4] {
     let holds = &at.holds;
     let lists = &accepted.lists;
     let (relations, relation_numbers) = relations_at(tables, &lists.relations, holds);
     let (comparisons, comparison_numbers) = comparisons_at(tables, holds);
-    let numbers = Numbers {
+    let kept = Kept {
         relations: relation_numbers,
         comparisons: comparison_numbers,
+        attributes: attributes_at(tables, reading, accepted, at),
     };
-    let (queries, projects) = queries_at(tables, &lists.queries, holds, &numbers);
+    let (queries, projects) = queries_at(tables, &lists.queries, holds, &kept);
     let entries = [relations.1, projects].concat();
     [entries, relations.0, comparisons, queries]
 }
 
-/// New numbers by old number. Of forms not kept, and of choices, see each
-/// maker.
-struct Numbers {
-    relations: Vec<u16>,
+/// New numbers by old number, and the attributes that a project above each query form may
+/// keep. Of forms not kept, and of choices, see each maker.
+struct Kept {
+    relations: Vec<Option<u16>>,
     comparisons: Vec<u16>,
+    attributes: Vec<Set>,
 }
 
-/// "Each attribute's first entry that holds", with expression 0, in the order
-/// of the list: a later entry of an attribute that is kept goes.
-fn entries_at(tables: &Tables, list: &Range<usize>, holds: &[bool]) -> Vec<u16> {
+/// The filled reading "leaves dropped entries out": a project keeps what its operand has.
+/// In the strict one that is all it lists, because the report was accepted.
+fn attributes_at(
+    tables: &Tables,
+    reading: Reading,
+    accepted: &Accepted,
+    at: &Permitted,
+) -> Vec<Set> {
+    match reading {
+        Reading::Strict => vec![Set::MAX; tables.count(4)],
+        Reading::Filled => filled::sets_at(tables, &accepted.lists, at),
+    }
+}
+
+/// "Each attribute's first entry that holds", of the given attributes, with expression
+/// 0, in the order of the list: a later entry of an attribute that is kept goes.
+fn entries_at(tables: &Tables, list: &Range<usize>, holds: &[bool], mut of: Set) -> Vec<u16> {
     let mut words = Vec::new();
-    let mut kept = [false; 64];
     for number in list.clone() {
         let [attribute, expression] = tables.entry(number);
-        let is_kept = &mut kept[usize::from(attribute)];
-        if holds[usize::from(expression)] && !*is_kept {
-            *is_kept = true;
+        if holds[usize::from(expression)] && of >> attribute & 1 == 1 {
+            of &= !(1 << attribute);
             words.extend([attribute, 0]);
         }
     }
     words
 }
 
+/// Words of relations and of their entries, and the new numbers.
+type Relations = ((Vec<u16>, Vec<u16>), Vec<Option<u16>>);
+
 /// "Relations present are kept in order", each with the entries that configuring
-/// keeps: words of the relations and of their entries, and the new numbers (that
-/// of an absent relation is never used, because the report was accepted).
-fn relations_at(
-    tables: &Tables,
-    lists: &[Range<usize>],
-    holds: &[bool],
-) -> ((Vec<u16>, Vec<u16>), Vec<u16>) {
+/// keeps: words of the relations and of their entries, and the new numbers; an absent
+/// relation has none.
+fn relations_at(tables: &Tables, lists: &[Range<usize>], holds: &[bool]) -> Relations {
     let mut relations = Vec::new();
     let mut entries = Vec::new();
     let mut numbers = Vec::new();
     for (number, list) in lists.iter().enumerate() {
-        numbers.push((relations.len() / 2) as u16);
         let presence = usize::from(tables.relation(number)[0]);
-        if holds[presence] {
-            let kept = entries_at(tables, list, holds);
-            relations.extend([0, (kept.len() / 2) as u16]);
-            entries.extend(kept);
+        if !holds[presence] {
+            numbers.push(None);
+            continue;
         }
+        numbers.push(Some((relations.len() / 2) as u16));
+        let kept = entries_at(tables, list, holds, Set::MAX);
+        relations.extend([0, (kept.len() / 2) as u16]);
+        entries.extend(kept);
     }
     ((relations, entries), numbers)
 }
@@ -131,6 +158,15 @@ fn comparisons_at(tables: &Tables, holds: &[bool]) -> (Vec<u16>, Vec<u16>) {
     (words, numbers)
 }
 
+/// A relation form by the new number. "Configuring writes empty for the absent relation":
+/// in the strict reading no form reached has such a relation.
+fn relation_form(number: Option<u16>) -> [u16; 4] {
+    match number {
+        Some(number) => [tables::RELATION, number, 0, 0],
+        None => [tables::EMPTY, 0, 0, 0],
+    }
+}
+
 /// "Kept queries are the non-choice forms reached at c, in order"; project lists
 /// keep entries as relations do. "Lists of forms not kept go." Words of the
 /// queries and of the project lists.
@@ -138,7 +174,7 @@ fn queries_at(
     tables: &Tables,
     lists: &[Range<usize>],
     holds: &[bool],
-    numbers: &Numbers,
+    kept: &Kept,
 ) -> (Vec<u16>, Vec<u16>) {
     let reached = typing::reached_at(tables, holds);
     let mut words: Vec<u16> = Vec::new();
@@ -156,11 +192,12 @@ fn queries_at(
             new[form] = if holds[usize::from(a)] { to(b) } else { to(c) };
             continue;
         }
-        let kept = match kind {
-            tables::RELATION => [kind, numbers.relations[usize::from(a)], 0, 0],
-            tables::SELECT => [kind, numbers.comparisons[usize::from(a)], to(b), 0],
+        let query = match kind {
+            tables::RELATION => relation_form(kept.relations[usize::from(a)]),
+            tables::SELECT => [kind, kept.comparisons[usize::from(a)], to(b), 0],
             tables::PROJECT => {
-                let list = entries_at(tables, &lists[form], holds);
+                let of = kept.attributes[usize::from(b)];
+                let list = entries_at(tables, &lists[form], holds, of);
                 let length = (list.len() / 2) as u16;
                 entries.extend(list);
                 [kind, length, to(b), 0]
@@ -169,7 +206,7 @@ fn queries_at(
             _ => [kind, 0, 0, 0],
         };
         new[form] = (words.len() / 4) as u16;
-        words.extend(kept);
+        words.extend(query);
     }
     (words, entries)
 }

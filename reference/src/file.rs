@@ -1,10 +1,11 @@
-//! The harbour file, its print and its page.
+//! The harbour file, its print and its page. The programs' reading "stays strict".
 
 use std::io::{self, Read};
 
 use crate::check::{self, ROWS};
 use crate::expression;
 use crate::page::{self, LINE, MOST_LINES};
+use crate::reading::Reading;
 use crate::refusal::Refusal;
 use crate::tables::{self, Tables, MOST_ATTRIBUTES, RANGES, WIDTHS};
 
@@ -146,7 +147,7 @@ fn read_number(digits: &[u8]) -> Option<u16> {
 /// What the program `columns` prints for tables.
 pub fn print_tables(tables: &Tables) -> Vec<u8> {
     let mut rows = [0; ROWS];
-    let text = match check::check(tables, &mut rows) {
+    let text = match check::check(tables, Reading::Strict, &mut rows) {
         Err(refusal) => refused_line(refusal),
         Ok(()) => accepted_lines(tables, &rows),
     };
@@ -156,7 +157,7 @@ pub fn print_tables(tables: &Tables) -> Vec<u8> {
 /// What the program `page` prints for tables. It has room for every page.
 fn page_tables(tables: &Tables) -> Vec<u8> {
     let mut text = vec![0; LINE * MOST_LINES];
-    match page::page(tables, &mut text) {
+    match page::page(tables, Reading::Strict, &mut text) {
         Err(refusal) => refused_line(refusal).into_bytes(),
         Ok(lines) => {
             text.truncate(LINE * lines);

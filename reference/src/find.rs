@@ -1,14 +1,15 @@
 //! The finding call: which configuration gives these columns?
 
 use crate::check::{self, Accepted};
+use crate::reading::Reading;
 use crate::refusal::Refusal;
 use crate::tables::{Tables, MOST_ATTRIBUTES};
 use crate::typing::Set;
 
 /// The "lowest permitted configuration whose set holds them all, or none when
 /// no permitted configuration has them". None is an answer, not a refusal.
-pub fn find(tables: &Tables, wanted: Set) -> Result<Option<u64>, Refusal> {
-    let accepted = check::accepted(tables)?;
+pub fn find(tables: &Tables, reading: Reading, wanted: Set) -> Result<Option<u64>, Refusal> {
+    let accepted = check::accepted(tables, reading)?;
     names_attributes(tables, wanted)?;
     Ok(lowest_with(&accepted, wanted))
 }

@@ -1,6 +1,7 @@
 //! The wall page: the columns as lines of text, to be pinned up.
 
 use crate::check;
+use crate::reading::Reading;
 use crate::refusal::Refusal;
 use crate::tables::{Tables, MOST_ATTRIBUTES, MOST_FEATURES};
 use crate::typing::Set;
@@ -13,8 +14,8 @@ pub const MOST_LINES: usize = 1 << MOST_FEATURES;
 
 /// Writes the page and returns the number of its lines. Bytes after them, and on
 /// a refusal all bytes, stay as they were.
-pub fn page(tables: &Tables, page: &mut [u8]) -> Result<usize, Refusal> {
-    let accepted = check::accepted(tables)?;
+pub fn page(tables: &Tables, reading: Reading, page: &mut [u8]) -> Result<usize, Refusal> {
+    let accepted = check::accepted(tables, reading)?;
     let lines = accepted.permitted.len();
     room(lines, page)?;
     // The permitted configurations ascend, and so do the lines.

@@ -1,14 +1,16 @@
 //! The plain rules of relational algebra, on the configured report as a tree
-//! under the configured schema (docs/FORMAT.md, "Plain rules", "Configuring").
+//! under the configured schema (docs/FORMAT.md, "Plain rules", "Configuring"), in either
+//! reading.
 //!
 //! Used by tests only, to try demand 3. On purpose it shares nothing with
-//! `typing` but the values of the expressions: trees instead of passes, sorted
+//! `typing` and `filled` but the values of the expressions: trees instead of passes, sorted
 //! sets instead of bits, rules without expressions and choices.
 
 use std::collections::{BTreeMap, BTreeSet};
 
 use crate::expression;
 use crate::form::Lists;
+use crate::reading::Reading;
 use crate::tables::{self, Tables};
 
 pub type Attributes = BTreeSet<u16>;
@@ -46,25 +48,35 @@ pub struct Report {
     pub kinds: BTreeMap<u16, u16>,
 }
 
-/// The report of tables sound in form and schema, configured at `c`.
-pub fn configured(tables: &Tables, lists: &Lists, c: u64) -> Report {
-    configured_form(tables, lists, c, tables.count(4) - 1)
+/// The report of tables sound in form and schema, accepted or refused, configured at `c`.
+pub fn configured(tables: &Tables, reading: Reading, lists: &Lists, c: u64) -> Report {
+    configured_form(tables, reading, lists, c, tables.count(4) - 1)
 }
 
 /// The same with the tree of some query form in place of the report.
-pub fn configured_form(tables: &Tables, lists: &Lists, c: u64, form: usize) -> Report {
+pub fn configured_form(
+    tables: &Tables,
+    reading: Reading,
+    lists: &Lists,
+    c: u64,
+    form: usize,
+) -> Report {
     let holds = expression::values(tables, c);
     let configurer = Configurer {
         tables,
         lists,
         holds: &holds,
     };
-    Report {
+    let mut report = Report {
         schema: configurer.schema(),
         comparisons: configurer.comparisons(),
         tree: configurer.tree(form),
         kinds: (0..).zip(tables.kinds.iter().copied()).collect(),
+    };
+    if reading == Reading::Filled {
+        report.tree = report.filled(&report.tree);
     }
+    report
 }
 
 /// The query forms reached at `c`: those that the walk from the report meets.
@@ -191,6 +203,31 @@ impl Report {
                 let (left, right) = (self.columns_of(left)?, self.columns_of(right)?);
                 (left == right).then_some(left)
             }
+        }
+    }
+
+    /// The tree in the filled reading: empty for a relation that the schema lacks, and a
+    /// project keeps those of its attributes that are columns of its operand's own tree.
+    /// An operand that breaks a rule has no columns: there nothing is dropped, and the
+    /// report breaks that rule whatever is.
+    fn filled(&self, tree: &Tree) -> Tree {
+        let under = |operand: &Tree| Box::new(self.filled(operand));
+        match tree {
+            Tree::Empty => Tree::Empty,
+            Tree::Relation(number) if !self.schema.contains_key(number) => Tree::Empty,
+            Tree::Relation(number) => Tree::Relation(*number),
+            Tree::Select(comparison, of) => Tree::Select(*comparison, under(of)),
+            Tree::Project(list, of) => {
+                let of = under(of);
+                let mut list = list.clone();
+                if let Some(columns) = self.columns_of(&of) {
+                    list.retain(|attribute| columns.contains(attribute));
+                }
+                Tree::Project(list, of)
+            }
+            Tree::Product(left, right) => Tree::Product(under(left), under(right)),
+            Tree::Union(left, right) => Tree::Union(under(left), under(right)),
+            Tree::Intersection(left, right) => Tree::Intersection(under(left), under(right)),
         }
     }
 

@@ -8,27 +8,70 @@ use crate::find;
 use crate::generate::{self, LIMITS};
 use crate::page::{self, LINE};
 use crate::random::Random;
-use crate::refusal::{self, Refusal};
+use crate::reading::{Reading, READINGS};
+use crate::refusal::{self, Refusal, TYPING};
 use crate::tables::Tables;
 
 /// One small case: a call with all that it is given.
 #[derive(Clone, Debug)]
 pub enum Case {
     /// Checking, with so many words of rows lent.
-    Check { tables: Tables, room: usize },
+    Check {
+        tables: Tables,
+        reading: Reading,
+        room: usize,
+    },
     /// Configuring at a configuration, with so many words lent for each of
     /// tables 1 to 4.
     Configure {
         tables: Tables,
+        reading: Reading,
         c: u64,
         room: [usize; 4],
     },
     /// Finding a configuration with the wanted attributes.
-    Find { tables: Tables, wanted: u64 },
+    Find {
+        tables: Tables,
+        reading: Reading,
+        wanted: u64,
+    },
     /// The wall page, with so many bytes lent.
-    Page { tables: Tables, room: usize },
+    Page {
+        tables: Tables,
+        reading: Reading,
+        room: usize,
+    },
     /// The program, given a text.
     Text(Vec<u8>),
+}
+
+impl Case {
+    pub fn check(tables: Tables, reading: Reading, room: usize) -> Case {
+        Case::Check {
+            tables,
+            reading,
+            room,
+        }
+    }
+
+    /// The tables and the reading; a text has none.
+    pub fn tables(&self) -> Option<(&Tables, Reading)> {
+        match self {
+            Case::Check {
+                tables, reading, ..
+            }
+            | Case::Configure {
+                tables, reading, ..
+            }
+            | Case::Find {
+                tables, reading, ..
+            }
+            | Case::Page {
+                tables, reading, ..
+            } => Some((tables, *reading)),
+            Case::Text(_) => None,
+        }
+    }
 }
 
 /// H1 of docs/FORMAT.md, "Worked examples".
@@ -56,38 +99,57 @@ const REFUSALS: [u64; 27] = [
 /// What a lent page is before the call: a byte that no line has.
 const LENT_BYTE: u8 = 0xA5;
 
-/// The small case of a seed.
+/// The small case of a seed, in either reading.
 pub fn case(seed: u64) -> Case {
     let mut random = Random::new(seed ^ 0x0073_6D61_6C6C);
+    let reading = Random::new(!seed).pick(&READINGS);
     match random.below(100) {
-        0..=19 => {
-            let tables = varied(&mut random);
-            Case::Check { tables, room: ROWS }
+        0..=19 => Case::check(varied(&mut random, reading), reading, ROWS),
+        20..=27 if reading == Reading::Filled => {
+            let number = random.pick(&TYPING);
+            Case::check(refused(&mut random, reading, number), reading, ROWS)
         }
         20..=36 => {
             // Neighbouring seeds go through all limits.
             let limit = &LIMITS[(seed % LIMITS.len() as u64) as usize];
             let tables = generate::small_limit(&mut random, limit);
-            refused_check(&mut random, tables, limit.number)
+            refused_check(&mut random, tables, reading, limit.number)
         }
         37..=47 => {
             let number = random.pick(&REFUSALS);
             let tables = match number {
-                11 => generate::small_accepted(&mut random),
-                _ => generate::small_refused(&mut random, number),
+                11 => accepted(&mut random, reading),
+                _ => refused(&mut random, reading, number),
             };
-            refused_check(&mut random, tables, number)
+            refused_check(&mut random, tables, reading, number)
         }
-        48..=60 => configuring(&mut random),
-        61..=77 => finding(&mut random),
-        78..=92 => paging(&mut random),
+        48..=60 => configuring(&mut random, reading),
+        61..=77 => finding(&mut random, reading),
+        78..=92 => paging(&mut random, reading),
         _ => text(&mut random),
     }
 }
 
+/// Tables that the reading accepts; most of those of the filled one have something to
+/// fill in.
+fn accepted(random: &mut Random, reading: Reading) -> Tables {
+    match reading {
+        Reading::Filled if random.chance(4, 5) => generate::small_filled(random, 0),
+        _ => generate::small_accepted(random),
+    }
+}
+
+/// Tables that the reading refuses by the number, as far as some tries give it.
+fn refused(random: &mut Random, reading: Reading, number: u64) -> Tables {
+    match reading {
+        Reading::Filled if refusal::is_of_typing(number) => generate::small_filled(random, number),
+        _ => generate::small_refused(random, number),
+    }
+}
+
 /// Accepted tables. Those of one configuration are taken now and then only.
-fn varied(random: &mut Random) -> Tables {
-    let mut tables = generate::small_accepted(random);
+fn varied(random: &mut Random, reading: Reading) -> Tables {
+    let mut tables = accepted(random, reading);
     for _ in 0..6 {
         if tables.features > 0 && tables.attributes > 0 && tables.count(4) > 1 {
             break;
@@ -95,14 +157,14 @@ fn varied(random: &mut Random) -> Tables {
         if random.chance(1, 5) {
             break;
         }
-        tables = generate::small_accepted(random);
+        tables = accepted(random, reading);
     }
     tables
 }
 
 /// Tables that are refused by the number, with rows to fit: those of another
 /// length are refused before 12, and after 10 and 24.
-fn refused_check(random: &mut Random, tables: Tables, number: u64) -> Case {
+fn refused_check(random: &mut Random, tables: Tables, reading: Reading, number: u64) -> Case {
     let room = match number {
         11 => random.pick(&[0, 1023, 1025]),
         _ if refusal::is_of_form(number) => {
@@ -110,15 +172,15 @@ fn refused_check(random: &mut Random, tables: Tables, number: u64) -> Case {
         }
         _ => ROWS,
     };
-    Case::Check { tables, room }
+    Case::check(tables, reading, room)
 }
 
-fn configuring(random: &mut Random) -> Case {
+fn configuring(random: &mut Random, reading: Reading) -> Case {
     let kind = random.below(10);
     let mut tables = match kind {
         0 => refused_early(random),
-        1 => refused_by_typing(random),
-        _ => generate::small_accepted(random),
+        1 => refused_by_typing(random, reading),
+        _ => accepted(random, reading),
     };
     if kind > 1 && random.chance(2, 3) {
         // Configuring writes all comparisons, also those that nothing names.
@@ -135,6 +197,17 @@ fn configuring(random: &mut Random) -> Case {
         2 => random.pick(&[count, count + 1, 1024, 1 << 16, 1 << 32, 1 << 63, u64::MAX]),
         _ => inside,
     };
+    let room = room_for_tables(random, kind, &tables);
+    Case::Configure {
+        tables,
+        reading,
+        c,
+        room,
+    }
+}
+
+/// The words lent for tables 1 to 4: as many as the source has, or fewer, or more.
+fn room_for_tables(random: &mut Random, kind: usize, tables: &Tables) -> [usize; 4] {
     let mut room = [1, 2, 3, 4].map(|table| tables.words(table).len());
     match kind {
         4 | 5 => {
@@ -148,7 +221,7 @@ fn configuring(random: &mut Random) -> Case {
         0..=2 => room = room.map(|words| words.saturating_sub(random.below(2))),
         _ => {}
     }
-    Case::Configure { tables, c, room }
+    room
 }
 
 /// Tables that are refused before typing.
@@ -157,31 +230,39 @@ fn refused_early(random: &mut Random) -> Tables {
     generate::small_refused(random, number)
 }
 
-fn refused_by_typing(random: &mut Random) -> Tables {
+fn refused_by_typing(random: &mut Random, reading: Reading) -> Tables {
     let number = random.pick(&[15, 16, 17, 18, 19, 25]);
-    generate::small_refused(random, number)
+    refused(random, reading, number)
 }
 
 /// Accepted tables in eight of ten cases, for a call whose own check comes after
 /// 19.
-fn mostly_accepted(random: &mut Random) -> Tables {
+fn mostly_accepted(random: &mut Random, reading: Reading) -> Tables {
     match random.below(10) {
         0 => refused_early(random),
-        1 => refused_by_typing(random),
-        _ => varied(random),
+        1 => refused_by_typing(random, reading),
+        _ => varied(random, reading),
     }
 }
 
-fn finding(random: &mut Random) -> Case {
-    let tables = mostly_accepted(random);
-    let wanted = generate::wanted(random, &tables);
-    Case::Find { tables, wanted }
+fn finding(random: &mut Random, reading: Reading) -> Case {
+    let tables = mostly_accepted(random, reading);
+    let wanted = generate::wanted(random, &tables, reading);
+    Case::Find {
+        tables,
+        reading,
+        wanted,
+    }
 }
 
-fn paging(random: &mut Random) -> Case {
-    let tables = mostly_accepted(random);
+fn paging(random: &mut Random, reading: Reading) -> Case {
+    let tables = mostly_accepted(random, reading);
     let room = generate::page_room(random, &tables);
-    Case::Page { tables, room }
+    Case::Page {
+        tables,
+        reading,
+        room,
+    }
 }
 
 /// A short harbour file, sound or damaged, whose print is short too.
@@ -211,38 +292,40 @@ fn text(random: &mut Random) -> Case {
 /// What the case gives, as its lines without the word `gives`. All are one line,
 /// but for a page.
 pub fn answer(case: &Case) -> String {
+    let given = match case {
+        Case::Text(text) => return format!("print{}", spaced(&file::print_file(text))),
+        _ => answer_of_tables(case),
+    };
+    given.unwrap_or_else(refused_line)
+}
+
+fn answer_of_tables(case: &Case) -> Result<String, Refusal> {
+    let (tables, reading) = case.tables().expect("a text has none");
     match case {
-        Case::Check { tables, room } => {
+        Case::Check { room, .. } => {
             let mut rows = vec![0x5555_AAAA; *room];
-            match check::check(tables, &mut rows) {
-                Ok(()) => rows_line(&rows),
-                Err(refusal) => refused_line(refusal),
-            }
+            check::check(tables, reading, &mut rows)?;
+            Ok(rows_line(&rows))
         }
-        Case::Configure { tables, c, room } => {
+        Case::Configure { c, room, .. } => {
             let mut out = room.map(|words| vec![0x5A5A; words]);
-            let [e, r, q, s] = &mut out;
-            match configure::configure(tables, *c, [e, r, q, s]) {
-                Ok(counts) => written_line(&out, counts),
-                Err(refusal) => refused_line(refusal),
-            }
+            let lent = out.each_mut().map(Vec::as_mut_slice);
+            let counts = configure::configure(tables, reading, *c, lent)?;
+            Ok(written_line(&out, counts))
         }
-        Case::Find { tables, wanted } => match find::find(tables, *wanted) {
-            Ok(Some(configuration)) => format!("found {configuration}"),
-            Ok(None) => String::from("none"),
-            Err(refusal) => refused_line(refusal),
-        },
-        Case::Page { tables, room } => {
+        Case::Find { wanted, .. } => Ok(match find::find(tables, reading, *wanted)? {
+            Some(configuration) => format!("found {configuration}"),
+            None => String::from("none"),
+        }),
+        Case::Page { room, .. } => {
             let mut page = vec![LENT_BYTE; *room];
-            match page::page(tables, &mut page) {
-                Ok(lines) => page_lines(&page, lines),
-                Err(refusal) => {
-                    assert_unchanged(&page);
-                    refused_line(refusal)
-                }
+            let lines = page::page(tables, reading, &mut page);
+            if lines.is_err() {
+                assert_unchanged(&page);
             }
+            Ok(page_lines(&page, lines?))
         }
-        Case::Text(text) => format!("print{}", spaced(&file::print_file(text))),
+        Case::Text(_) => panic!("a text has no tables"),
     }
 }
 
@@ -294,19 +377,31 @@ fn spaced<T: std::fmt::Display>(numbers: &[T]) -> String {
     numbers.iter().map(|number| format!(" {number}")).collect()
 }
 
-/// The lines of a case, its answer among them.
+/// The lines of a case, its answer among them. A block without a line that
+/// tells the reading is of the strict one.
 pub fn lines(number: u64, case: &Case) -> String {
-    let given = match case {
-        Case::Check { tables, room } => format!("{}call check {room}\n", tables_lines(tables)),
-        Case::Configure { tables, c, room } => {
-            let tables = tables_lines(tables);
-            format!("{tables}call configure {c}{}\n", spaced(room))
+    let (call, asked) = match case {
+        Case::Check { room, .. } => ("check", format!("{room}")),
+        Case::Configure { c, room, .. } => ("configure", format!("{c}{}", spaced(room))),
+        Case::Find { wanted, .. } => ("find", format!("{wanted}")),
+        Case::Page { room, .. } => ("page", format!("{room}")),
+        Case::Text(text) => ("text", spaced(text)),
+    };
+    let given = match case.tables() {
+        Some((tables, reading)) => {
+            let before = format!("{}{}", tables_lines(tables), reading_line(reading));
+            format!("{before}call {call} {asked}\n")
         }
-        Case::Find { tables, wanted } => format!("{}call find {wanted}\n", tables_lines(tables)),
-        Case::Page { tables, room } => format!("{}call page {room}\n", tables_lines(tables)),
-        Case::Text(text) => format!("text{}\n", spaced(text)),
+        None => format!("text{asked}\n"),
     };
     format!("case {number}\n{given}gives {}\nend\n", answer(case))
+}
+
+fn reading_line(reading: Reading) -> &'static str {
+    match reading {
+        Reading::Strict => "",
+        Reading::Filled => "reading filled\n",
+    }
 }
 
 fn tables_lines(tables: &Tables) -> String {

@@ -1,4 +1,5 @@
-//! Checks 15 to 19 and 25: the typing rules, one permitted configuration at a time.
+//! Checks 15 to 19 and 25 in the strict reading: the typing rules, one permitted
+//! configuration at a time.
 
 use std::ops::Range;
 
@@ -92,15 +93,15 @@ pub fn reached_at(tables: &Tables, holds: &[bool]) -> Vec<bool> {
 }
 
 /// What each comparison names and where its kinds differ, at one configuration.
-struct Compared {
+pub(crate) struct Compared {
     /// "Every attribute that the comparison names there, its choices taken".
-    named: Vec<Set>,
+    pub(crate) named: Vec<Set>,
     /// The left attributes of the comparisons in it whose sides differ in kind.
-    clashing: Vec<Set>,
+    pub(crate) clashing: Vec<Set>,
 }
 
 impl Compared {
-    fn at(tables: &Tables, holds: &[bool]) -> Compared {
+    pub(crate) fn at(tables: &Tables, holds: &[bool]) -> Compared {
         let named = joined_over(tables, holds, |comparison| match comparison {
             [tables::WITH_CONSTANT, _, a, ..] => 1 << a,
             [tables::WITH_ATTRIBUTE, _, a, b, _] => 1 << a | 1 << b,
@@ -182,7 +183,7 @@ fn set_of_form(
 
 /// The attributes of a list's entries whose expression holds: one that occurs
 /// more than once "is there when any of its entries holds".
-fn joined(tables: &Tables, list: &Range<usize>, holds: &[bool]) -> Set {
+pub(crate) fn joined(tables: &Tables, list: &Range<usize>, holds: &[bool]) -> Set {
     let mut set = 0;
     for number in list.clone() {
         let [attribute, expression] = tables.entry(number);

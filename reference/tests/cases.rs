@@ -8,7 +8,7 @@ use std::path::Path;
 use reference::cases::FILES;
 use reference::generate::NUMBERS;
 use reference::small::{self, Case};
-use reference::Tables;
+use reference::{Reading, Tables};
 
 fn stored(name: &str) -> String {
     let path = Path::new(env!("CARGO_MANIFEST_DIR"))
@@ -49,8 +49,13 @@ fn read_case(lines: &[&str]) -> Case {
         let bytes = text.strip_prefix("text").expect("a text");
         return Case::Text(numbers(bytes));
     }
-    let [head, t0, t1, t2, t3, t4, kinds, call] = lines else {
+    let [head, t0, t1, t2, t3, t4, kinds, reading @ .., call] = lines else {
         panic!("a case has a text, or a head, five tables, kinds and a call");
+    };
+    let reading = match reading {
+        [] => Reading::Strict,
+        ["reading filled"] => Reading::Filled,
+        _ => panic!("no such reading: {reading:?}"),
     };
     let words = |line: &str| numbers(&line[2..]);
     let head: Vec<u64> = numbers(head.strip_prefix("head").expect("a head"));
@@ -65,29 +70,32 @@ fn read_case(lines: &[&str]) -> Case {
         queries: words(t4),
         kinds: numbers(kinds.strip_prefix("kinds").expect("kinds")),
     };
-    read_call(call, tables)
+    read_call(call, tables, reading)
 }
 
 /// The call of such tables, from its line.
-fn read_call(line: &str, tables: Tables) -> Case {
+fn read_call(line: &str, tables: Tables, reading: Reading) -> Case {
     let (name, asked) = line
         .strip_prefix("call ")
         .and_then(|call| call.split_once(' '))
         .expect("a call");
     let asked: Vec<u64> = numbers(asked);
     match (name, &asked[..]) {
-        ("check", &[room]) => Case::Check {
-            tables,
-            room: room as usize,
-        },
+        ("check", &[room]) => Case::check(tables, reading, room as usize),
         ("configure", &[c, r1, r2, r3, r4]) => Case::Configure {
             tables,
+            reading,
             c,
             room: [r1, r2, r3, r4].map(|words| words as usize),
         },
-        ("find", &[wanted]) => Case::Find { tables, wanted },
+        ("find", &[wanted]) => Case::Find {
+            tables,
+            reading,
+            wanted,
+        },
         ("page", &[room]) => Case::Page {
             tables,
+            reading,
             room: room as usize,
         },
         _ => panic!("no such call: {line}"),

@@ -6,7 +6,7 @@ use reference::generate::{self, Family};
 use reference::plain::{self, Attributes};
 use reference::random::Random;
 use reference::refusal::{is_of_form, is_of_typing};
-use reference::{expression, form, Refusal, Tables};
+use reference::{expression, form, Reading, Refusal, Tables};
 
 /// Cases of all families, the full ones being rare.
 fn cases() -> impl Iterator<Item = Tables> {
@@ -33,7 +33,7 @@ fn plain_columns(tables: &Tables) -> Vec<(u64, Option<Attributes>)> {
     let lists = form::check(tables).expect("sound in form");
     let mut all = Vec::new();
     for at in expression::permitted(tables) {
-        let report = plain::configured(tables, &lists, at.configuration);
+        let report = plain::configured(tables, Reading::Strict, &lists, at.configuration);
         all.push((at.configuration, report.columns()));
     }
     all
@@ -76,7 +76,7 @@ fn first_fault(tables: &Tables) -> Option<Refusal> {
         let mut faults = Vec::new();
         for at in &permitted {
             let c = at.configuration;
-            let report = plain::configured_form(tables, &lists, c, number);
+            let report = plain::configured_form(tables, Reading::Strict, &lists, c, number);
             if plain::reached(tables, c).contains(&number) && report.columns().is_none() {
                 let (rule, item) = report.broken_on_top().expect("it breaks a rule");
                 faults.push(Refusal::new(rule, number as u64, u64::from(item), c));

@@ -5,13 +5,15 @@
 use std::collections::BTreeMap;
 
 use crate::common::readings::{self, RIGHT, WRONG};
-use crate::common::{checked, configured_with, made, paged_with, refused, source_room, written};
+use crate::common::{
+    checked, configured_with, find, made, paged_with, refused, source_room, written,
+};
 use reference::cases::{Aimed, FILES};
 use reference::check::{shown, ROWS};
 use reference::file::{print_file, read_file, write_file};
 use reference::generate;
 use reference::small::{self, Case};
-use reference::{expression, find, Refusal, Tables};
+use reference::{expression, Reading, Refusal, Tables};
 
 /// So many features. Attribute 0 is listed where exactly one of the `count`
 /// features from `first` on is on, and attribute 1 always.
@@ -343,7 +345,7 @@ fn spelled_out_it_gives_the_same_answers() {
     let walls = (0..100).map(generate::wall);
     let full = (0..8).map(made::full);
     let checks = varied.chain(walls).chain(full);
-    let checks = checks.map(|tables| Case::Check { tables, room: ROWS });
+    let checks = checks.map(|tables| Case::check(tables, Reading::Strict, ROWS));
     let mut compared = 0;
     for case in checks.chain((0..4000).map(small::case)) {
         if let Some(answer) = readings::answer(&case, &RIGHT) {

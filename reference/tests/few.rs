@@ -18,7 +18,9 @@ fn stored() -> BTreeMap<u64, Tables> {
     let file = files.find(|file| file.name == "few");
     let cases = file.expect("there is such a file").numbered();
     let check = |(number, aimed): (u64, Aimed)| match aimed.case {
-        Case::Check { tables, room: ROWS } => Some((number, tables)),
+        Case::Check {
+            tables, room: ROWS, ..
+        } => Some((number, tables)),
         _ => None,
     };
     cases.into_iter().filter_map(check).collect()

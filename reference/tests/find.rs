@@ -3,12 +3,14 @@
 
 use std::collections::BTreeSet;
 
-use crate::common::{checked, configured_with, h1, h1_without_list, made, refused, source_room};
+use crate::common::{
+    checked, configured_with, find, h1, h1_without_list, made, refused, source_room,
+};
 use reference::check::shown;
 use reference::generate::{self, LIMITS, NUMBERS};
 use reference::plain::{self, Attributes};
 use reference::random::Random;
-use reference::{expression, find, form, Refusal, Tables};
+use reference::{expression, form, Reading, Refusal, Tables};
 
 /// The set of the given attributes.
 fn set(attributes: &[u64]) -> u64 {
@@ -242,7 +244,7 @@ fn calls() -> impl Iterator<Item = (Tables, u64)> {
     let full = (0..12).map(made::full);
     let mut random = Random::new(1);
     varied.chain(small).chain(full).map(move |tables| {
-        let wanted = generate::wanted(&mut random, &tables);
+        let wanted = generate::wanted(&mut random, &tables, Reading::Strict);
         (tables, wanted)
     })
 }
@@ -277,7 +279,7 @@ fn by_trees(tables: &Tables, wanted: u64) -> Result<Option<u64>, Refusal> {
     let lists = form::check(tables).expect("sound in form");
     let wanted: Attributes = (0..64).filter(|a| wanted >> a & 1 == 1).collect();
     for at in expression::permitted(tables) {
-        let report = plain::configured(tables, &lists, at.configuration);
+        let report = plain::configured(tables, Reading::Strict, &lists, at.configuration);
         let columns = report.columns().expect("accepted");
         if wanted.is_subset(&columns) {
             return Ok(Some(at.configuration));

@@ -7,7 +7,7 @@ use crate::common::{checked, kind_readings::constant_over_2, made};
 use reference::check::ROWS;
 use reference::small::{self, Case};
 use reference::tables::{SELECT, WITH_ATTRIBUTE, WITH_CONSTANT};
-use reference::{expression, Refusal, Tables};
+use reference::{expression, Reading, Refusal, Tables};
 
 /// The sorts that a refused report is of.
 fn sorts_of_refused(tables: &Tables, refusal: Refusal) -> BTreeSet<&'static str> {
@@ -119,8 +119,12 @@ fn kinds_are_no_rare_thing() {
     assert!(times.values().all(|&times| times >= 3), "{times:?}");
     assert!(times["accepted, with a select"] >= 1600);
     assert!(times["accepted, kinds differ where not taken"] >= 100);
-    let small = (0..8000).filter_map(|seed| match small::case(seed) {
-        Case::Check { tables, .. } => Some(tables),
+    let small = (0..16_000).filter_map(|seed| match small::case(seed) {
+        Case::Check {
+            tables,
+            reading: Reading::Strict,
+            ..
+        } => Some(tables),
         _ => None,
     });
     let times = sorts_of(small);
@@ -151,7 +155,7 @@ fn cases_show_how_kinds_are_read() {
     let tables = tables.chain((0..400).map(made::compared));
     let not_large = |tables: &Tables| tables.count(4) << tables.features.min(10) < 2_000;
     let checks = tables.filter(not_large);
-    let varied = wrong_readings(checks.map(|tables| Case::Check { tables, room: ROWS }));
+    let varied = wrong_readings(checks.map(|tables| Case::check(tables, Reading::Strict, ROWS)));
     let no_rows = ["24 after 11"];
     let told = |(words, times): (&&str, &u64)| *times >= 3 || no_rows.contains(words);
     assert!(varied.iter().all(told), "{varied:?}");

@@ -10,7 +10,7 @@ use reference::generate::{Answer, Family, Kept, AIMS, DIGITS, LIMITS, NUMBERS, R
 use reference::random::Random;
 use reference::small::{self, Case};
 use reference::tables::{operands, EXACTLY_ONE, RANGES};
-use reference::{expression, find, Tables};
+use reference::{expression, find, Reading, Tables};
 
 /// Accepted, with more than one permitted configuration and column set.
 fn varies(tables: &Tables) -> bool {
@@ -147,14 +147,11 @@ fn has_guarded_relation(tables: &Tables) -> bool {
     })
 }
 
-/// The tables that a small case's call is given.
+/// The tables that a small case's call is given, to be read strictly.
 fn tables_of(case: &Case) -> Option<&Tables> {
-    match case {
-        Case::Check { tables, .. }
-        | Case::Configure { tables, .. }
-        | Case::Find { tables, .. }
-        | Case::Page { tables, .. } => Some(tables),
-        Case::Text(_) => None,
+    match case.tables() {
+        Some((tables, Reading::Strict)) => Some(tables),
+        _ => None,
     }
 }
 
@@ -233,8 +230,12 @@ fn repeats_are_no_rare_thing() {
     for number in ["16 by a repeat", "18 by a repeat", "19 by a repeat"] {
         assert!(times[number] >= 12, "{number}");
     }
-    let checks = (0..6000).filter_map(|seed| match small::case(seed) {
-        Case::Check { tables, .. } => Some(tables),
+    let checks = (0..12_000).filter_map(|seed| match small::case(seed) {
+        Case::Check {
+            tables,
+            reading: Reading::Strict,
+            ..
+        } => Some(tables),
         _ => None,
     });
     let small = sorts_of_repeats(checks);
@@ -310,7 +311,7 @@ fn ranges_are_no_rare_thing() {
     let times = sorts_of_ranges((0..6000).map(made::case));
     assert_eq!(times.len(), 10);
     assert!(times.values().all(|&times| times >= 60), "{times:?}");
-    let small = (0..3600).filter_map(|seed| tables_of(&small::case(seed)).cloned());
+    let small = (0..7200).filter_map(|seed| tables_of(&small::case(seed)).cloned());
     let times = sorts_of_ranges(small);
     assert_eq!(times.len(), 10);
     assert!(times.values().all(|&times| times >= 20), "{times:?}");
@@ -320,10 +321,10 @@ fn ranges_are_no_rare_thing() {
 #[test]
 fn ranges_show_how_they_are_read() {
     let tables = (0..10_000).map(made::case);
-    let checks = tables.map(|tables| Case::Check { tables, room: ROWS });
+    let checks = tables.map(|tables| Case::check(tables, Reading::Strict, ROWS));
     let varied = wrong_readings(checks);
     assert!(varied.values().all(|&times| times >= 8), "{varied:?}");
-    let small = wrong_readings((0..6000).map(small::case));
+    let small = wrong_readings((0..12_000).map(small::case));
     assert!(small.values().all(|&times| times >= 5), "{small:?}");
 }
 
@@ -374,16 +375,18 @@ fn configuring_shows_which_entry_is_kept() {
     }
     let varied = wrong_configurers(calls);
     assert!(varied.values().all(|&times| times >= 150), "{varied:?}");
-    let small = (0..6000).filter_map(|seed| match small::case(seed) {
-        Case::Configure { tables, c, room } => {
-            let answer = small::answer(&Case::Configure {
-                tables: tables.clone(),
+    let small = (0..12_000).filter_map(|seed| {
+        let case = small::case(seed);
+        let written = small::answer(&case).starts_with("written");
+        match case {
+            Case::Configure {
+                tables,
+                reading: Reading::Strict,
                 c,
-                room,
-            });
-            answer.starts_with("written").then_some((tables, c))
+                ..
+            } if written => Some((tables, c)),
+            _ => None,
         }
-        _ => None,
     });
     let small = wrong_configurers(small.collect());
     assert!(small.values().all(|&times| times >= 15), "{small:?}");
@@ -451,12 +454,13 @@ fn every_aim_is_hit() {
         let mut times = 0;
         for seed in 0..200 {
             let tables = generate::accepted(seed);
-            let Some(wanted) = generate::wanted_by(&mut random, &tables, aim) else {
+            let Some(wanted) = generate::wanted_by(&mut random, &tables, Reading::Strict, aim)
+            else {
                 continue;
             };
             times += 1;
             let lowest = expression::permitted(&tables)[0].configuration;
-            let hit = match find(&tables, wanted) {
+            let hit = match find(&tables, Reading::Strict, wanted) {
                 Ok(Some(c)) if c == lowest => Answer::Lowest,
                 Ok(Some(_)) => Answer::Later,
                 Ok(None) => Answer::Nowhere,
@@ -475,8 +479,8 @@ fn answers_of_find(cases: impl Iterator<Item = Tables>) -> BTreeMap<&'static str
     let mut random = Random::new(5);
     let mut answers = BTreeMap::new();
     for tables in cases {
-        let wanted = generate::wanted(&mut random, &tables);
-        let answer = match find(&tables, wanted) {
+        let wanted = generate::wanted(&mut random, &tables, Reading::Strict);
+        let answer = match find(&tables, Reading::Strict, wanted) {
             Ok(Some(0)) => "found 0",
             Ok(Some(_)) => "found another",
             Ok(None) => "none",
@@ -528,7 +532,7 @@ fn every_room_is_hit() {
 type Lines = Vec<(u64, u64, u32)>;
 
 fn lines_of(tables: &Tables) -> Lines {
-    let accepted = check::accepted(tables).expect("accepted");
+    let accepted = check::accepted(tables, Reading::Strict).expect("accepted");
     let columns = accepted.permitted.iter().zip(&accepted.columns);
     columns
         .map(|(at, &set)| (at.configuration, set, set.count_ones()))
@@ -592,8 +596,12 @@ fn walls_have_no_columns_and_all() {
 fn pages_show_how_they_are_made() {
     let walls = wrong_pages((0..200).map(generate::wall));
     assert!(walls.values().all(|&times| times >= 30), "{walls:?}");
-    let small = (0..3530).filter_map(|seed| match small::case(seed) {
-        Case::Page { tables, room } => paged_with(&tables, room).is_ok().then_some(tables),
+    let small = (0..7000).filter_map(|seed| match small::case(seed) {
+        Case::Page {
+            tables,
+            reading: Reading::Strict,
+            room,
+        } => paged_with(&tables, room).is_ok().then_some(tables),
         _ => None,
     });
     let small = wrong_pages(small);
@@ -646,14 +654,16 @@ const WRONG_LINES: &[WrongLines] = &[
     }),
 ];
 
-/// Small cases: all numbers from 1 to 25, the mixture, and the bounds. They are
-/// so many that some 3,000 are other calls than of the page.
+/// Small cases: all numbers from 1 to 25, the mixture, and the bounds; about half of the
+/// calls are of the filled reading.
 #[test]
 fn small_cases_cover_everything() {
     let mut outcomes: BTreeMap<(&str, String), u64> = BTreeMap::new();
-    for seed in 0..3600 {
+    let mut filled = 0;
+    for seed in 0..4200 {
         let case = small::case(seed);
-        assert!(tables_of(&case).is_none_or(is_small));
+        filled += u64::from(matches!(case.tables(), Some((_, Reading::Filled))));
+        assert!(case.tables().is_none_or(|(tables, _)| is_small(tables)));
         let call = match &case {
             Case::Check { .. } => "check",
             Case::Configure { .. } => "configure",
@@ -698,10 +708,11 @@ fn small_cases_cover_everything() {
         let calls = outcomes.iter().filter(|((call, _), _)| *call == name);
         calls.map(|(_, times)| times).sum::<u64>()
     };
-    assert!((540..660).contains(&calls("find")));
-    assert!((480..580).contains(&calls("page")));
+    assert!((1800..2100).contains(&filled), "{filled}");
+    assert!((630..770).contains(&calls("find")));
+    assert!((560..680).contains(&calls("page")));
     assert!(times("page", "page") >= 200 && times("page", "23") >= 80);
-    assert!((590..790).contains(&times("check", "rows")));
+    assert!((690..920).contains(&times("check", "rows")));
     assert!(times("configure", "written") >= 200);
     assert!((200..400).contains(&times("text", "print")));
 }

@@ -5,7 +5,7 @@
 use std::collections::BTreeMap;
 
 use crate::common::kind_readings::{self, without_kinds, RIGHT, WRONG};
-use crate::common::{checked, checked_with, configured_with, h1, made, paged_with, refused};
+use crate::common::{checked, checked_with, configured_with, find, h1, made, paged_with, refused};
 use crate::common::{source_room, written};
 use reference::cases::{Aimed, FILES};
 use reference::check::{shown, ROWS};
@@ -15,7 +15,7 @@ use reference::plain;
 use reference::random::Random;
 use reference::refusal::{is_of_form, is_of_typing};
 use reference::small::{self, Case, H1};
-use reference::{expression, find, form, Refusal, Tables};
+use reference::{expression, form, Reading, Refusal, Tables};
 
 /// Features 0 and 1; attributes arrival 0 (a moment), passengers 1 (a count), crew 2 (a
 /// count) and vessel 3 (a name), of which the second is listed under the expression:
@@ -186,7 +186,7 @@ fn the_plain_rules_have_it_too() {
         let Ok(lists) = form::check(&tables) else {
             continue;
         };
-        let passes = |c: u64| plain::configured(&tables, &lists, c).columns();
+        let passes = |c: u64| plain::configured(&tables, Reading::Strict, &lists, c).columns();
         match checked(&tables) {
             Ok(rows) => {
                 accepted += 1;
@@ -360,7 +360,7 @@ fn calls() -> impl Iterator<Item = Case> {
     let several = (0..500).map(|seed| generate::of_family(Family::Several, seed));
     let not_large = |tables: &Tables| tables.count(4) << tables.features.min(10) < 10_000;
     let checks = varied.chain(several).filter(not_large);
-    let checks = checks.map(|tables| Case::Check { tables, room: ROWS });
+    let checks = checks.map(|tables| Case::check(tables, Reading::Strict, ROWS));
     checks.chain((0..6000).map(small::case))
 }
 

@@ -8,7 +8,7 @@ use reference::file::{page_file, print_file, print_tables, read_file, write_file
 use reference::generate::{self, LIMITS, NUMBERS};
 use reference::plain::{self, Attributes};
 use reference::random::Random;
-use reference::{expression, form, page, Refusal, Tables};
+use reference::{expression, form, page, Reading, Refusal, Tables};
 
 /// Room for every page.
 const ROOM: usize = 73 * 1024;
@@ -170,7 +170,7 @@ fn every_length_of_a_page() {
     ] {
         let tables = h1_under(2, model);
         for room in 0..73 * 5 {
-            let answer = page(&tables, &mut vec![0; room]);
+            let answer = page(&tables, Reading::Strict, &mut vec![0; room]);
             let wanted = if room < 73 * lines {
                 Err(TOO_SHORT)
             } else {
@@ -306,7 +306,7 @@ fn the_plain_rules_give_the_same_columns() {
     for (tables, page) in pages() {
         let lists = form::check(&tables).expect("sound in form");
         for line in lines_of(&page) {
-            let report = plain::configured(&tables, &lists, line.configuration);
+            let report = plain::configured(&tables, Reading::Strict, &lists, line.configuration);
             assert_eq!(report.columns(), Some(line.present), "{tables:?}");
         }
     }
@@ -331,7 +331,10 @@ fn every_byte_of_the_lines_is_written() {
     for (tables, page_of) in pages().take(400) {
         for byte in [b'o', b'.', b' ', b'\n', b'0'] {
             let mut lent = vec![byte; page_of.len()];
-            assert_eq!(page(&tables, &mut lent), Ok(page_of.len() / 73));
+            assert_eq!(
+                page(&tables, Reading::Strict, &mut lent),
+                Ok(page_of.len() / 73)
+            );
             assert_eq!(lent, page_of, "{tables:?}");
         }
     }

@@ -2,14 +2,14 @@
 //! sentences of the request one by one, worked out by hand, and then the demands
 //! over generated tables that have repeats.
 
-use crate::common::{checked, configured_with, first_that_hold, lists_at, made};
+use crate::common::{checked, configured_with, find, first_that_hold, lists_at, made};
 use crate::common::{refused, source_room, written};
 use reference::check::shown;
 use reference::generate::{self, Family, Kept};
 use reference::plain::{self, Attributes, Tree};
 use reference::random::Random;
 use reference::refusal::is_of_typing;
-use reference::{expression, find, form, Tables};
+use reference::{expression, form, Reading, Tables};
 
 // The harbour of all tests: features swaps 0 and gates 1, attributes vessel 0,
 // berth 1, ramp 2, and these expressions.
@@ -331,7 +331,7 @@ fn the_configured_tree_has_joined_lists() {
         .iter()
         .enumerate()
     {
-        let report = plain::configured(&tables, &lists, c as u64);
+        let report = plain::configured(&tables, Reading::Strict, &lists, c as u64);
         let Tree::Project(list, _) = &report.tree else {
             panic!("the report is a project");
         };
@@ -361,7 +361,7 @@ fn the_configured_report_passes_exactly_where_accepted() {
     let (mut accepted, mut refused) = (0, 0);
     for tables in with_repeats() {
         let lists = form::check(&tables).expect("sound in form");
-        let at = |c: u64| plain::configured(&tables, &lists, c).columns();
+        let at = |c: u64| plain::configured(&tables, Reading::Strict, &lists, c).columns();
         match checked(&tables) {
             Ok(rows) => {
                 accepted += 1;

@@ -1,5 +1,5 @@
-//! Compares configuring with the reference's, and gives what was written to the
-//! checker: arguments are a seed and a count.
+//! Compares configuring with the reference's in both readings, and gives what was written
+//! to the strict checker: arguments are a seed and a count.
 
 use std::collections::BTreeMap;
 use std::process::ExitCode;
@@ -8,7 +8,8 @@ use bench::cases::{differ, mostly_accepted, seed_and_count};
 use bench::reports::written;
 use reference::check::{shown, ROWS};
 use reference::random::Random;
-use reference::{expression, form, Refusal, Tables};
+use reference::reading::READINGS;
+use reference::{expression, form, Reading, Refusal, Tables};
 
 /// Where the first difference is written.
 const FILE: &str = "configure-difference.txt";
@@ -36,8 +37,9 @@ fn main() -> ExitCode {
         eprintln!("usage: configure SEED COUNT");
         return ExitCode::FAILURE;
     };
-    let mut answers: BTreeMap<u64, u64> = BTreeMap::new();
-    let [mut kinds, mut configurations, mut rooms, mut left_out] = [const { Tally::new() }; 4];
+    let mut answers = [const { BTreeMap::<u64, u64>::new() }; 2];
+    let mut left_out = [const { Tally::new() }; 2];
+    let [mut kinds, mut configurations, mut rooms] = [const { Tally::new() }; 3];
     for number in 0..count {
         let mut random = Random::new(seed ^ number.wrapping_mul(0x9E37_79B9));
         let (kind, tables) = mostly_accepted(&mut random, seed, number);
@@ -45,44 +47,52 @@ fn main() -> ExitCode {
             configuration: any_configuration(&mut random, &tables, &mut configurations),
             lent: any_lent(&mut random, &tables, &mut rooms),
         };
-        let answer = match compare(number, &tables, &asked) {
-            Ok(answer) => answer,
-            Err(code) => return code,
-        };
-        if let Ok(counts) = answer {
-            tally_left_out(&tables, counts, &mut left_out);
+        for (of, reading) in READINGS.into_iter().enumerate() {
+            let answer = match compare(number, &tables, reading, &asked) {
+                Ok(answer) => answer,
+                Err(code) => return code,
+            };
+            if let Ok(counts) = answer {
+                tally_left_out(&tables, counts, &mut left_out[of]);
+            }
+            let refused = answer.map_or_else(|refusal| refusal.number, |_| 0);
+            *answers[of].entry(refused).or_default() += 1;
         }
-        *answers
-            .entry(answer.map_or_else(|refusal| refusal.number, |_| 0))
-            .or_default() += 1;
-        *kinds.entry(kind).or_default() += 1;
+        met(&mut kinds, kind);
     }
     println!("tables by kind: {kinds:?}");
     println!("configurations asked for: {configurations:?}");
     println!("tables lent, against their sources: {rooms:?}");
-    println!("answers by number, 0 for written: {answers:?}");
-    println!("reports written that have fewer forms than their source: {left_out:?}");
-    println!("{count} configurings, seed {seed}: no difference in answers and words; what was written is accepted with the same columns");
+    for (of, reading) in READINGS.into_iter().enumerate() {
+        print_answers(reading, &answers[of], &left_out[of]);
+    }
+    println!("{count} configurings, seed {seed}, each in both readings: no difference in answers and words; what was written is accepted with the same columns");
     ExitCode::SUCCESS
 }
 
-/// The answer of both, where answers and words are the same and the checker
+fn print_answers(reading: Reading, answers: &BTreeMap<u64, u64>, left_out: &Tally) {
+    println!("{reading:?}, answers by number, 0 for written: {answers:?}");
+    println!("{reading:?}, reports written that have fewer forms than their source: {left_out:?}");
+}
+
+/// The answer of both, where answers and words are the same and the strict checker
 /// accepts what was written, with the same columns.
 fn compare(
     number: u64,
     tables: &Tables,
+    reading: Reading,
     asked: &Asked,
 ) -> Result<Result<[usize; 4], Refusal>, ExitCode> {
-    let wanted = by_reference(tables, asked);
-    let ours = by_product(tables, asked);
+    let wanted = by_reference(tables, reading, asked);
+    let ours = by_product(tables, reading, asked);
     if ours.as_ref() != Ok(&wanted) || wanted.answer.is_err() && wanted.words != asked.lent {
-        return Err(differ(FILE, number, tables, (asked, wanted), ours));
+        return Err(differ(FILE, number, tables, reading, (asked, wanted), ours));
     }
     if let Ok(counts) = wanted.answer {
         let plain = written(tables, counts, &wanted.words);
-        if let Err(rows) = same_columns(tables, asked.configuration, &plain) {
+        if let Err(rows) = same_columns(tables, reading, asked.configuration, &plain) {
             println!("what was written is not accepted with the same columns");
-            return Err(differ(FILE, number, tables, (asked, wanted), rows));
+            return Err(differ(FILE, number, tables, reading, (asked, wanted), rows));
         }
     }
     Ok(wanted.answer)
@@ -149,30 +159,40 @@ fn any_lent(random: &mut Random, tables: &Tables, tally: &mut Tally) -> [Vec<u16
     })
 }
 
-fn by_reference(tables: &Tables, asked: &Asked) -> Outcome {
+fn by_reference(tables: &Tables, reading: Reading, asked: &Asked) -> Outcome {
     let mut words = asked.lent.clone();
     let lent = words.each_mut().map(Vec::as_mut_slice);
-    let answer = reference::configure(tables, asked.configuration, lent);
+    let answer = reference::configure(tables, reading, asked.configuration, lent);
     Outcome { answer, words }
 }
 
 /// An error where the answer is none that the contract allows.
-fn by_product(tables: &Tables, asked: &Asked) -> Result<Outcome, (u64, [u64; 4])> {
+fn by_product(
+    tables: &Tables,
+    reading: Reading,
+    asked: &Asked,
+) -> Result<Outcome, (u64, [u64; 4])> {
     let mut words = asked.lent.clone();
     let lent = words.each_mut().map(Vec::as_mut_slice);
-    let answer = bench::configure(tables, asked.configuration, lent)?;
+    let answer = bench::configure(tables, reading, asked.configuration, lent)?;
     Ok(Outcome { answer, words })
 }
 
-/// Our check accepts the tables that were written, and its rows have at
-/// configuration 0 what the reference's rows of the source have at the given one,
-/// and no other bit. Else the answer, and what the rows show.
-fn same_columns(tables: &Tables, configuration: u64, plain: &Tables) -> Result<(), String> {
+/// Our strict check accepts the tables that were written, whatever the reading they were
+/// written in, and its rows have at configuration 0 what the reference's rows of the source
+/// have in that reading at the given one, and no other bit. Else the answer, and what the
+/// rows show.
+fn same_columns(
+    tables: &Tables,
+    reading: Reading,
+    configuration: u64,
+    plain: &Tables,
+) -> Result<(), String> {
     let mut rows = [0; ROWS];
-    let source = reference::check(tables, &mut rows);
+    let source = reference::check(tables, reading, &mut rows);
     let set = shown(&rows, configuration);
     let mut mine = [u64::MAX; ROWS];
-    let answer = bench::check(plain, &mut mine);
+    let answer = bench::check(plain, Reading::Strict, &mut mine);
     let only = (0..ROWS).all(|word| {
         mine[word]
             == if word % 16 == 0 {

@@ -1,5 +1,5 @@
-//! Compares the wall page with the reference's on generated and damaged tables, with
-//! lent pages aimed at the number of lines: arguments are a seed and a count.
+//! Compares the wall page with the reference's in both readings, on generated and damaged
+//! tables, with lent pages aimed at the number of lines: arguments are a seed and a count.
 
 use std::collections::BTreeMap;
 use std::process::ExitCode;
@@ -8,12 +8,13 @@ use bench::cases::{differ, mostly_accepted, seed_and_count};
 use reference::generate;
 use reference::page::{LINE, MOST_LINES};
 use reference::random::Random;
-use reference::{Refusal, Tables};
+use reference::reading::READINGS;
+use reference::{Reading, Refusal, Tables};
 
 /// Where the first difference is written.
 const FILE: &str = "page-difference.txt";
 
-/// The answers, by what they are.
+/// The answers in one reading, by what they are.
 #[derive(Default)]
 struct Tally {
     /// Pages that were written, by their number of lines: up to each.
@@ -29,24 +30,31 @@ fn main() -> ExitCode {
         return ExitCode::FAILURE;
     };
     let mut kinds: BTreeMap<&str, u64> = BTreeMap::new();
-    let mut tally = Tally::default();
+    let mut tallies = [Tally::default(), Tally::default()];
     for number in 0..count {
         let mut random = Random::new(seed ^ number.wrapping_mul(0x9E37_79B9));
         let (kind, tables) = any_tables(&mut random, seed, number);
         let length = generate::page_room(&mut random, &tables);
-        // What the bytes are before both calls: anything.
+        // What the bytes are before all calls: anything.
         let lent: Vec<u8> = (0..length).map(|_| random.word() as u8).collect();
-        match compare(number, &tables, &lent) {
-            Ok(answer) => tally.add(answer, length),
-            Err(code) => return code,
+        for (reading, tally) in READINGS.into_iter().zip(&mut tallies) {
+            match compare(number, &tables, reading, &lent) {
+                Ok(answer) => tally.add(answer, length),
+                Err(code) => return code,
+            }
         }
         *kinds.entry(kind).or_default() += 1;
     }
     println!("tables by kind: {kinds:?}");
-    println!("pages written, by lines up to: {:?}", tally.written);
-    println!("of these longer than needed: {}", tally.longer);
-    println!("refusals by number: {:?}", tally.refusals);
-    println!("{count} pages, seed {seed}: no difference in answers, words and bytes");
+    for (reading, tally) in READINGS.into_iter().zip(&tallies) {
+        println!(
+            "{reading:?}, pages written, by lines up to: {:?}",
+            tally.written
+        );
+        println!("{reading:?}, of these longer than needed: {}", tally.longer);
+        println!("{reading:?}, refusals by number: {:?}", tally.refusals);
+    }
+    println!("{count} pages, seed {seed}, each in both readings: no difference in answers, words and bytes");
     ExitCode::SUCCESS
 }
 
@@ -60,10 +68,15 @@ fn any_tables(random: &mut Random, seed: u64, number: u64) -> (&'static str, Tab
 
 /// The answer of both, where it is the same and every byte is too. The bytes after
 /// the lines, and of a refused call all bytes, must be those lent.
-fn compare(number: u64, tables: &Tables, lent: &[u8]) -> Result<Result<usize, Refusal>, ExitCode> {
+fn compare(
+    number: u64,
+    tables: &Tables,
+    reading: Reading,
+    lent: &[u8],
+) -> Result<Result<usize, Refusal>, ExitCode> {
     let [mut theirs, mut mine] = [lent.to_vec(), lent.to_vec()];
-    let wanted = reference::page(tables, &mut theirs);
-    let ours = bench::page(tables, &mut mine);
+    let wanted = reference::page(tables, reading, &mut theirs);
+    let ours = bench::page(tables, reading, &mut mine);
     let written = LINE * wanted.unwrap_or(0);
     let same = mine == theirs && mine[written..] == lent[written..];
     if !same {
@@ -71,7 +84,7 @@ fn compare(number: u64, tables: &Tables, lent: &[u8]) -> Result<Result<usize, Re
     }
     if ours != Ok(wanted) || !same {
         let asked = format!("lent {}", lent.len());
-        return Err(differ(FILE, number, tables, (asked, wanted), ours));
+        return Err(differ(FILE, number, tables, reading, (asked, wanted), ours));
     }
     Ok(wanted)
 }

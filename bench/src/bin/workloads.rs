@@ -2,29 +2,32 @@
 //! configuration by configuration, in one run and in a thread with a stack of
 //! 1 MiB; on three workloads also that of all configurations at once
 //! (`bench::parallel`); the time of configuring; that of finding, to our check's; that
-//! of the page; that of the check of a table of expression kind 6 alone; and that of
-//! the check of a report whose selects compare attributes and constants of three kinds.
+//! of the page; that of the check of a table of expression kind 6 alone; that of the
+//! check of a report whose selects compare attributes and constants of three kinds; and
+//! that of the filled reading, to the strict one's.
 
 use std::collections::BTreeMap;
 use std::hint::black_box;
 use std::process::ExitCode;
 use std::time::Instant;
 
-use bench::measure::{self, median, micros, same_answer, say_goal, Call, Samples};
+use bench::measure::{self, figure, median, micros, same_answer, same_filled_answer, say_goal};
+use bench::measure::{words, Call, Samples};
 use bench::reports::{
     deep, first_expressions, mixed_comparisons, mixed_expressions, not_last, three_workloads,
-    ATTRIBUTES, FEATURES, FORMS, MIDDLE,
+    LeftOut, ATTRIBUTES, FEATURES, FORMS, MIDDLE,
 };
 use reference::check::ROWS;
 use reference::generate;
 use reference::page::{LINE, MOST_LINES};
 use reference::tables::{COMPARISON_CHOICE, COUNT, EXACTLY_ONE, WITH_ATTRIBUTE, WITH_CONSTANT};
-use reference::{expression, Tables};
+use reference::{expression, Reading, Tables};
 
-/// Measurements of each workload, and of each of the generated cases.
+/// Measurements of each workload, of each of the generated cases, and of each line of (j).
 const TIMES: usize = 201;
 const SAMPLES: Samples = Samples::single(TIMES);
 const FEWER: Samples = Samples::single(15);
+const OF_READINGS: Samples = Samples::single(51);
 
 /// Our goal for each workload: of a check to the reference's, and of finding to our
 /// check.
@@ -51,7 +54,8 @@ fn run() -> Result<(), String> {
     time_finding(&workloads[..2])?;
     time_paging(&workloads[..2])?;
     time_ranges()?;
-    time_kinds(deep.clone())
+    time_kinds(deep.clone())?;
+    time_filled(&workloads)
 }
 
 fn time_checks(workloads: &[Workload]) -> Result<(), String> {
@@ -176,8 +180,8 @@ fn time_finding(workloads: &[Workload]) -> Result<(), String> {
 
 /// The configuration that both find.
 fn same_found(tables: &Tables, wanted: u64) -> Option<u64> {
-    let found = reference::find(tables, wanted);
-    let same = bench::find(tables, wanted) == Ok(found);
+    let found = reference::find(tables, Reading::Strict, wanted);
+    let same = bench::find(tables, Reading::Strict, wanted) == Ok(found);
     found.ok().flatten().filter(|_| same)
 }
 
@@ -207,8 +211,8 @@ fn time_paging(workloads: &[Workload]) -> Result<(), String> {
 fn same_page(tables: &Tables) -> Option<usize> {
     let lent = vec![7; LINE * MOST_LINES];
     let [mut mine, mut theirs] = [lent.clone(), lent];
-    let lines = reference::page(tables, &mut theirs);
-    let same = bench::page(tables, &mut mine) == Ok(lines) && mine == theirs;
+    let lines = reference::page(tables, Reading::Strict, &mut theirs);
+    let same = bench::page(tables, Reading::Strict, &mut mine) == Ok(lines) && mine == theirs;
     lines.ok().filter(|_| same)
 }
 
@@ -241,6 +245,49 @@ fn time_kinds(deep: Tables) -> Result<(), String> {
     check_ratios(&workloads).map(drop)
 }
 
+/// The check in the filled reading: of reports that repeat the schema's conditions, to the
+/// strict check of the same tables; and of reports that do not, to the strict check of the
+/// same report with them. Then to the reference's in the filled reading.
+fn time_filled(workloads: &[Workload]) -> Result<(), String> {
+    println!("(j) our strict check and our filled check in turn, and then our filled check and the reference's in turn:");
+    println!(
+        "{:<28} {:>8} {:>8} {:>7} {:>8} {:>10} {:>7}  filled answer",
+        "workload", "strict", "filled", "ratio", "filled", "reference", "ratio"
+    );
+    for (name, tables) in workloads {
+        time_readings(name, tables, tables)?;
+    }
+    for (name, LeftOut { repeated, left_out }) in &LeftOut::by_permitted() {
+        time_readings(name, repeated, repeated)?;
+        time_readings("  left out", repeated, left_out)?;
+    }
+    Ok(())
+}
+
+/// The reference's has turns of its own: after it ours takes longer, as in `time_paging`.
+fn time_readings(name: &str, repeated: &Tables, tables: &Tables) -> Result<(), String> {
+    let differ = || format!("{name}: the answers or the rows differ");
+    if same_answer(repeated).is_none() {
+        return Err(differ());
+    }
+    let answer = same_filled_answer(tables).ok_or_else(differ)?;
+    let readings = [Call::Check, Call::FilledCheck];
+    let [strict, filled] = OF_READINGS.in_turn([repeated, tables], readings);
+    let both = [Call::FilledCheck, Call::ReferenceFilledCheck];
+    let [ours, theirs] = OF_READINGS.in_turn([tables; 2], both);
+    println!(
+        "{name:<28} {:>8} {:>8} {:>7.3} {:>8} {:>10} {:>7.3}  {}",
+        figure(strict),
+        figure(filled),
+        filled / strict,
+        figure(ours),
+        figure(theirs),
+        ours / theirs,
+        words(answer)
+    );
+    Ok(())
+}
+
 /// Medians in µs of configuring, ours and the reference's, into tables as long as
 /// their sources. None where the answers or the words differ, or it is refused.
 fn configuring(tables: &Tables) -> Option<[f64; 2]> {
@@ -253,10 +300,20 @@ fn configuring(tables: &Tables) -> Option<[f64; 2]> {
             .map(|of| of.each_mut().map(Vec::as_mut_slice));
         let tables = black_box(tables);
         let start = Instant::now();
-        let ours = black_box(bench::configure(tables, MIDDLE, black_box(mine)));
+        let ours = black_box(bench::configure(
+            tables,
+            Reading::Strict,
+            MIDDLE,
+            black_box(mine),
+        ));
         times[0].push(micros(start.elapsed()));
         let start = Instant::now();
-        let wanted = black_box(reference::configure(tables, MIDDLE, black_box(theirs)));
+        let wanted = black_box(reference::configure(
+            tables,
+            Reading::Strict,
+            MIDDLE,
+            black_box(theirs),
+        ));
         times[1].push(micros(start.elapsed()));
         if wanted.is_err() || ours != Ok(wanted) || words[0] != words[1] {
             return None;
@@ -347,7 +404,8 @@ fn differ_last(tables: &mut Tables) {
 
 /// The first 40 full cases of the reference's generator that are accepted.
 fn generated() -> Vec<Tables> {
-    let accepted = |tables: &Tables| reference::check(tables, &mut [0; ROWS]).is_ok();
+    let accepted =
+        |tables: &Tables| reference::check(tables, Reading::Strict, &mut [0; ROWS]).is_ok();
     let cases = (1..).map(generate::full).filter(accepted);
     cases.take(40).collect()
 }

@@ -2,7 +2,7 @@
 
 #![allow(dead_code)]
 
-use gelvomas::{ffi, kind, Refusal, Tables, ROWS};
+use gelvomas::{ffi, kind, Reading, Refusal, Tables, ROWS};
 
 pub const H1: Tables = Tables {
     features: 2,
@@ -41,7 +41,7 @@ pub const UNWRITTEN: [u64; 4] = [0xDEAD_0000, 0xDEAD_0001, 0xDEAD_0002, 0xDEAD_0
 
 /// What the C function returns, and the refusal's four words afterwards. It takes
 /// rows of any length.
-pub fn raw_check(tables: &Tables, rows: &mut [u64]) -> (u64, [u64; 4]) {
+pub fn raw_check(tables: &Tables, reading: Reading, rows: &mut [u64]) -> (u64, [u64; 4]) {
     let mut refusal = UNWRITTEN;
     let answer = unsafe {
         ffi::gelvomas_check(
@@ -60,6 +60,7 @@ pub fn raw_check(tables: &Tables, rows: &mut [u64]) -> (u64, [u64; 4]) {
             tables.queries.len(),
             tables.kinds.as_ptr(),
             tables.kinds.len(),
+            reading == Reading::Filled,
             rows.as_mut_ptr(),
             rows.len(),
             &mut refusal,
@@ -69,7 +70,7 @@ pub fn raw_check(tables: &Tables, rows: &mut [u64]) -> (u64, [u64; 4]) {
 }
 
 /// What the C function returns, and the answer's four words afterwards.
-pub fn raw_find(tables: &Tables, wanted: u64) -> (u64, [u64; 4]) {
+pub fn raw_find(tables: &Tables, reading: Reading, wanted: u64) -> (u64, [u64; 4]) {
     let mut words = UNWRITTEN;
     let answer = unsafe {
         ffi::gelvomas_find(
@@ -88,6 +89,7 @@ pub fn raw_find(tables: &Tables, wanted: u64) -> (u64, [u64; 4]) {
             tables.queries.len(),
             tables.kinds.as_ptr(),
             tables.kinds.len(),
+            reading == Reading::Filled,
             wanted,
             &mut words,
         )
@@ -96,7 +98,7 @@ pub fn raw_find(tables: &Tables, wanted: u64) -> (u64, [u64; 4]) {
 }
 
 /// What the C function returns, and the answer's four words afterwards.
-pub fn raw_page(tables: &Tables, page: &mut [u8]) -> (u64, [u64; 4]) {
+pub fn raw_page(tables: &Tables, reading: Reading, page: &mut [u8]) -> (u64, [u64; 4]) {
     let mut words = UNWRITTEN;
     let answer = unsafe {
         ffi::gelvomas_page(
@@ -115,6 +117,7 @@ pub fn raw_page(tables: &Tables, page: &mut [u8]) -> (u64, [u64; 4]) {
             tables.queries.len(),
             tables.kinds.as_ptr(),
             tables.kinds.len(),
+            reading == Reading::Filled,
             page.as_mut_ptr(),
             page.len(),
             &mut words,

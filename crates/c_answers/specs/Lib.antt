@@ -1,1 +1,2 @@
 pub mod RefusalWords
+pub mod ReadingTold

@@ -6,7 +6,8 @@ use lib.ListN.{length}
 use Rattle.report.specs.Tables.{Tables}
 use Rattle.report.specs.Calls.{answer, checking, rowsAfter}
 use Rattle.report.specs.declared.Verdict.{Verdict}
+use Rattle.report.specs.declared.Reading.{Reading}
 
--- with these rows lent
-abbrev pub Checks : Tables → List ℕ → Verdict → List ℕ → Type 0
-Checks T rows r rows′ = (r ≡ answer T (checking (length rows))) × (rows′ ≡ rowsAfter T rows)
+-- in this reading, with these rows lent
+abbrev pub Checks : Tables → Reading → List ℕ → Verdict → List ℕ → Type 0
+Checks T R rows r rows′ = (r ≡ answer T R (checking (length rows))) × (rows′ ≡ rowsAfter T R rows)

@@ -3,6 +3,7 @@ use forms::check_forms;
 use judging::COLUMN_WORDS;
 use judging::judge_tables_into_columns;
 use report::Head;
+use report::Reading;
 use report::Verdict;
 use verdicts::refuse;
 ghost use mathlib.Core.Path.{_≡_};
@@ -27,6 +28,7 @@ fn copy_words(from: &[u64], to: &mut [u64])
 // Checks 12 to 19 and 25 of tables that have passed 1 to 10 and 24. Accepted: `rows`, of 1,024 words, holds the column rows. Refused: `rows` is as it was.
 fn check_meaning(
     head: Head,
+    reading: Reading,
     expressions: &[u16],
     entries: &[u16],
     relations: &[u16],
@@ -38,11 +40,12 @@ fn check_meaning(
     requires { ⌜ MeaningReads (tablesUnder head (now expressions) (now entries) (now relations) (now comparisons) (now queries) (now kinds)) (now rows) ⌝ }
     ensures { λ v.
         ⌜ Meant (tablesUnder head (now (expressions .entry)) (now (entries .entry)) (now (relations .entry)) (now (comparisons .entry))
-        (now (queries .entry)) (now (kinds .entry))) v (now (rows .entry)) (now (rows .exit)) ⌝ }
+        (now (queries .entry)) (now (kinds .entry))) reading v (now (rows .entry)) (now (rows .exit)) ⌝ }
 {
     let mut columns = [0; COLUMN_WORDS];
     let judged = judge_tables_into_columns(
         head,
+        reading,
         expressions,
         entries,
         relations,
@@ -59,9 +62,10 @@ fn check_meaning(
     Verdict::Accepted
 }
 
-// Checks the report of these tables. Accepted: `rows` holds its column rows. Refused: `rows` is as it was.
+// Checks the report of these tables in the reading. Accepted: `rows` holds its column rows. Refused: `rows` is as it was.
 pub fn check(
     head: Head,
+    reading: Reading,
     expressions: &[u16],
     entries: &[u16],
     relations: &[u16],
@@ -73,7 +77,7 @@ pub fn check(
     ensures { λ r.
         ⌜ Checks (tablesUnder head (now (expressions .entry)) (now (entries .entry)) (now (relations .entry))
         (now (comparisons .entry)) (now (queries .entry)) (now (kinds .entry)))
-        (now (rows .entry)) r (now (rows .exit)) ⌝ }
+        reading (now (rows .entry)) r (now (rows .exit)) ⌝ }
 {
     let form = check_forms(
         head,
@@ -92,6 +96,7 @@ pub fn check(
     }
     check_meaning(
         head,
+        reading,
         expressions,
         entries,
         relations,

@@ -14,13 +14,17 @@ use Rattle.report.specs.Expressions.{holds, permitted, tablesOf}
 use Rattle.report.specs.Configuring.{configured, written}
 use Rattle.report.specs.Verdicts.{refusal, refuseIf, firstOf}
 use Rattle.report.specs.Formed.{Formed}
-use Rattle.report.specs.Checks.{isTypingFault}
+use Rattle.report.specs.FormChecks.{formCheck}
+use Rattle.report.specs.Checks.{modelAndSchemaCheck, typingCheck, isTypingFault}
 use Rattle.report.specs.Calls.{Call, roomConditions, configuring}
 use Rattle.report.specs.declared.Refusal.{Refusal}
 use Rattle.report.specs.declared.Verdict.{Verdict}
+use Rattle.report.specs.declared.Reading.{Reading}
+use Rattle.report.proofs.Formed.{formed}
 use Rattle.report.proofs.VerdictLaws.{both-accepted, if-accepted}
+use Rattle.report.proofs.SameTables.{same-tables}
 use Rattle.report.proofs.FirstFault.{first-none, room-fits, first-own}
-use Rattle.judging.specs.Judging.{reportCheck}
+use Rattle.judging.specs.Judging.{meaningCheck, reportCheck}
 use Rattle.judging.proofs.JudgingLaws.{call-refused, call-late, Rows}
 use Rattle.configuring.specs.declared.Configured.{Configured}
 use Rattle.configuring.specs.Promises.{configuredAnswer, Rooms, Leaves, Configures, isConfiguredFault}
@@ -52,29 +56,36 @@ pub leaves-refused : {v : Verdict} {r : Refusal} {U : Tables} {newEntries newRel
     → Leaves v U newEntries newRelations newComparisons newQueries (Configured.Refused r) newEntries newRelations newComparisons newQueries
 leaves-refused e = rw (← e) record { answers = refl; entries = refl; relations = refl; comparisons = refl; queries = refl }
 
-module _ (T : Tables) (c : ℕ) (newEntries newRelations newComparisons newQueries : List ℕ) {v : Verdict} (checked : v ≡ reportCheck T) where
+-- where a reading accepts, what the writers write, which is what the filled one does, is what it does
+same-written : (T : Tables) (R : Reading) → reportCheck T R ≡ Verdict.Accepted → (c : ℕ) → configured T c Reading.Filled ≡ configured T c R
+same-written T Reading.Strict e c =
+    let p = both-accepted (formCheck T) (meaningCheck T Reading.Strict) e in
+    same-tables (formed T (p .0)) (both-accepted (modelAndSchemaCheck T) (typingCheck T Reading.Strict) (p .1) .1) c
+same-written T Reading.Filled e c = refl
+
+module _ (T : Tables) (R : Reading) (c : ℕ) (newEntries newRelations newComparisons newQueries : List ℕ) {v : Verdict} (checked : v ≡ reportCheck T R) where
   abbrev call : Call
   call = configuring c (length newEntries) (length newRelations) (length newComparisons) (length newQueries)
 
   -- a check before 20 refuses
   pub report-refuses : {r : Refusal} → v ≡ Verdict.Refused r
-      → Configures T c newEntries newRelations newComparisons newQueries (Configured.Refused r) newEntries newRelations newComparisons newQueries
-  report-refuses f = leaves-refused (call-refused T call first-none checked f)
+      → Configures T R c newEntries newRelations newComparisons newQueries (Configured.Refused r) newEntries newRelations newComparisons newQueries
+  report-refuses f = leaves-refused (call-refused T R call first-none checked f)
 
   -- 20 and 21 answer
   pub late-answers : v ≡ Verdict.Accepted → {r : Configured} {newEntries′ newRelations′ newComparisons′ newQueries′ : List ℕ}
-      → Leaves (lateVerdict T c newEntries newRelations newComparisons newQueries) (configured T c)
+      → Leaves (lateVerdict T c newEntries newRelations newComparisons newQueries) (configured T c Reading.Filled)
       newEntries newRelations newComparisons newQueries r newEntries′ newRelations′ newComparisons′ newQueries′
-      → Configures T c newEntries newRelations newComparisons newQueries r newEntries′ newRelations′ newComparisons′ newQueries′
-  late-answers f L = rw (← call-late T call first-none checked f) L
+      → Configures T R c newEntries newRelations newComparisons newQueries r newEntries′ newRelations′ newComparisons′ newQueries′
+  late-answers f L = rw (← call-late T R call first-none checked f, ← same-written T R (sym checked ∙ f) c) L
 
 -- 20 and 21 accept, and the tables are written
 pub written-late : (T : Tables) (c : ℕ) (newEntries newRelations newComparisons newQueries : List ℕ) {v : Verdict}
     → v ≡ lateVerdict T c newEntries newRelations newComparisons newQueries → v ≡ Verdict.Accepted
     → {r : Configured} {newEntries′ newRelations′ newComparisons′ newQueries′ : List ℕ}
-    → (permitted T c ≡ true → Leaves Verdict.Accepted (configured T c) newEntries newRelations newComparisons newQueries r
+    → (permitted T c ≡ true → Leaves Verdict.Accepted (configured T c Reading.Filled) newEntries newRelations newComparisons newQueries r
     newEntries′ newRelations′ newComparisons′ newQueries′)
-    → Leaves (lateVerdict T c newEntries newRelations newComparisons newQueries) (configured T c)
+    → Leaves (lateVerdict T c newEntries newRelations newComparisons newQueries) (configured T c Reading.Filled)
     newEntries newRelations newComparisons newQueries r newEntries′ newRelations′ newComparisons′ newQueries′
 written-late T c newEntries newRelations newComparisons newQueries e f L =
     rw (← e, f) (L (late-accepted T c newEntries newRelations newComparisons newQueries (sym e ∙ f) .0))
@@ -136,11 +147,11 @@ read-tables {U} worked F {newEntries} {newRelations} {newComparisons} {newQuerie
     rw (e1, e2, e3, e4, ← worked)
 
 -- so what the call answers and leaves gives the tables written
-pub read-back : (T : Tables) (k : ℕ) → Formed (configured T k)
+pub read-back : (T : Tables) (k : ℕ) (R : Reading) → Formed (configured T k R)
     → {newEntries newRelations newComparisons newQueries newEntries′ newRelations′ newComparisons′ newQueries′ : List ℕ} {a b c d : ℕ}
-    → Leaves Verdict.Accepted (configured T k) newEntries newRelations newComparisons newQueries
+    → Leaves Verdict.Accepted (configured T k R) newEntries newRelations newComparisons newQueries
     (Configured.Written a b c d) newEntries′ newRelations′ newComparisons′ newQueries′
     → tablesOf 0 (T .attributes) 0 (1 ∷ 0 ∷ 0 ∷ []) (take (a * 2) newEntries′) (take (b * 2) newRelations′) (take (c * 5) newComparisons′)
-    (take (d * 4) newQueries′) (T .kinds) ≡ configured T k
+    (take (d * 4) newQueries′) (T .kinds) ≡ configured T k R
 unfolding configured
-read-back T k = read-tables refl
+read-back T k R = read-tables refl

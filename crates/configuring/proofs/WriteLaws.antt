@@ -11,10 +11,12 @@ use Rattle.sets.specs.Writing.{Room, WrittenAt}
 use Rattle.sets.proofs.ListLaws.{numbers-are}
 use Rattle.sets.proofs.WritingLaws.{from-start}
 use Rattle.report.specs.Tables.{Tables, comparisonCount, queryCount, relationStart, relationsEnd, entriesOfRelations, entriesOfProjects}
+use Rattle.report.specs.Typing.{setOf}
 use Rattle.report.specs.Expressions.{permitted}
 use Rattle.report.specs.Configuring.{newComparison, newQuery, configured, written}
 use Rattle.report.specs.Formed.{Formed}
 use Rattle.report.specs.declared.Verdict.{Verdict}
+use Rattle.report.specs.declared.Reading.{Reading}
 use Rattle.report.proofs.FormedFacts.{counts}
 use Rattle.report.proofs.EntryParts.{split-in}
 use Rattle.report.proofs.TypingLaws.{permitted-within}
@@ -23,30 +25,31 @@ use Rattle.expression_rows.proofs.PermittedLaws.{model-row}
 use Rattle.expression_rows.proofs.PreparedLaws.{prepare}
 use Rattle.at_configuration.specs.AtConfiguration.{RelationReads, ComparisonReads, ComparisonNumberable}
 use Rattle.at_configuration.proofs.PreparedLaws.{at-reads, relation-reads, comparison-reads}
+use Rattle.faults_at.specs.SetsAt.{FormSetsReads, FormSetsReadable}
 use Rattle.kept_lists.specs.Keeping.{relationLists, projectLists, relationForms, KeptRelationWritable, ProjectReads}
 use Rattle.kept_forms.specs.Numbering.{comparisonForms, queryForms, ComparisonFormReads, ComparisonFormWritable}
 use Rattle.kept_forms.specs.Numbering.{QueryReads, QueryNumberable, QueryFormReads, QueryFormWritable}
 use Rattle.late_checks.specs.LateReads.{LateReads}
 use Rattle.configuring.specs.declared.Configured.{Configured}
 use Rattle.configuring.specs.Promises.{Rooms, Leaves}
-use Rattle.configuring.specs.AfterTyping.{ConfigureReads, EntriesReads, EntriesWritable, KeptReads, KeptWritable}
+use Rattle.configuring.specs.AfterTyping.{ConfigureReads, EntriesReads, EntriesWritable, KeptReads, KeptWritable, TypedReads, TypedWritable}
 
 -- ---- the texts are the tables of `configured`
 
 module _ (T : Tables) (c : ℕ) where
-  entries-text : configured T c .entries ≡ relationLists T c ++ projectLists T c
+  entries-text : configured T c Reading.Filled .entries ≡ relationLists T c ++ projectLists T c
   unfolding configured relationLists projectLists
   entries-text = refl
 
-  relations-text : configured T c .relations ≡ relationForms T c
+  relations-text : configured T c Reading.Filled .relations ≡ relationForms T c
   unfolding configured relationForms
   relations-text = refl
 
-  comparisons-text : configured T c .comparisons ≡ comparisonForms T c
+  comparisons-text : configured T c Reading.Filled .comparisons ≡ comparisonForms T c
   unfolding configured comparisonForms
   comparisons-text = refl
 
-  queries-text : configured T c .queries ≡ queryForms T c
+  queries-text : configured T c Reading.Filled .queries ≡ queryForms T c
   unfolding configured queryForms
   queries-text = refl
 
@@ -83,23 +86,23 @@ same-rooms {T} {U} S R H = record {
 module _ {T : Tables} (F : Formed T) (c : ℕ) {newEntries newRelations newComparisons newQueries : List ℕ}
     (S : Rooms T newEntries newRelations newComparisons newQueries) where
   entries-fit : Room (relationLists T c ++ projectLists T c) newEntries 0
-  entries-fit = text-room (entries-text T c) (entries-room F c) (S .entries)
+  entries-fit = text-room (entries-text T c) (entries-room F c Reading.Filled) (S .entries)
 
   relations-fit : Room (relationForms T c) newRelations 0
-  relations-fit = text-room (relations-text T c) (relations-room F c) (S .relations)
+  relations-fit = text-room (relations-text T c) (relations-room F c Reading.Filled) (S .relations)
 
   comparisons-fit : Room (comparisonForms T c) newComparisons 0
-  comparisons-fit = text-room (comparisons-text T c) (comparisons-room F c) (S .comparisons)
+  comparisons-fit = text-room (comparisons-text T c) (comparisons-room F c Reading.Filled) (S .comparisons)
 
   queries-fit : Room (queryForms T c) newQueries 0
-  queries-fit = text-room (queries-text T c) (queries-room F c) (S .queries)
+  queries-fit = text-room (queries-text T c) (queries-room F c Reading.Filled) (S .queries)
 
   -- what the writers leave
   pub tables-left : {newEntries′ newRelations′ newComparisons′ newQueries′ : List ℕ} {e r f q : ℕ}
       → WrittenAt (relationLists T c ++ projectLists T c) newEntries 0 newEntries′ e
       → WrittenAt (relationForms T c) newRelations 0 newRelations′ r → WrittenAt (comparisonForms T c) newComparisons 0 newComparisons′ f
       → WrittenAt (queryForms T c) newQueries 0 newQueries′ q
-      → Leaves Verdict.Accepted (configured T c) newEntries newRelations newComparisons newQueries
+      → Leaves Verdict.Accepted (configured T c Reading.Filled) newEntries newRelations newComparisons newQueries
       (Configured.Written (e / 2) (r / 2) (f / 5) (q / 4)) newEntries′ newRelations′ newComparisons′ newQueries′
   tables-left entriesWritten relationsWritten comparisonsWritten queriesWritten =
       let w1 = text-written (entries-text T c) entries-fit entriesWritten in
@@ -121,13 +124,13 @@ module _ {T : Tables} {expressionRows reach relationEntries projectEntries relat
   pub lists-read : RelationReads T expressionRows relationEntries relations c
   lists-read = relation-reads (R .prepared) (R .inside)
 
-  project-reads : ProjectReads T expressionRows reach projectEntries queries c
-  project-reads =
-      let P = R .prepared in
-      record { reads = at-reads P (R .inside); reaching = R .reaching; entriesAre = P .projectEntriesAre; queriesAre = P .queriesAre }
+  -- the sets of the query forms, and what they are worked out from
+  pub sets-reads : FormSetsReads T c expressionRows relationEntries projectEntries relations queries
+  sets-reads = record { related = lists-read; entriesAre = R .prepared .projectEntriesAre; queriesAre = R .prepared .queriesAre }
 
-  pub entries-reads : EntriesReads T expressionRows reach relationEntries projectEntries relations queries c
-  entries-reads = record { lists = lists-read; projects = project-reads }
+  pub typed-reads : {formSets : List ℕ} → formSets ≡ written (table (queryCount T) (setOf T c)) (replicate 256 0)
+      → TypedReads T expressionRows reach formSets relationEntries projectEntries relations comparisons queries c
+  typed-reads e = record { kept = R; typed = numbers-are (queryCount T) (setOf T c) _ e }
 
   pub comparisons-read : ComparisonReads T expressionRows comparisons c
   comparisons-read = comparison-reads (R .prepared) (R .inside)
@@ -135,20 +138,38 @@ module _ {T : Tables} {expressionRows reach relationEntries projectEntries relat
   pub query-reads : QueryReads T expressionRows reach queries c
   query-reads = record { reads = at-reads (R .prepared) (R .inside); reaching = R .reaching; queriesAre = R .prepared .queriesAre }
 
+module _ {T : Tables} {expressionRows reach formSets relationEntries projectEntries relations comparisons queries : List ℕ} {c : ℕ}
+    (R : TypedReads T expressionRows reach formSets relationEntries projectEntries relations comparisons queries c) where
+  project-reads : ProjectReads T expressionRows reach formSets projectEntries queries c
+  project-reads =
+      let K = R .kept in
+      record {
+        reads = at-reads (K .prepared) (K .inside);
+        reaching = K .reaching;
+        typed = R .typed;
+        entriesAre = K .prepared .projectEntriesAre;
+        queriesAre = K .prepared .queriesAre;
+      }
+
+  pub entries-reads : EntriesReads T expressionRows reach formSets relationEntries projectEntries relations queries c
+  entries-reads = record { lists = lists-read (R .kept); projects = project-reads }
+
   module _ {comparisonNumbers : List ℕ}
       (first-numbers : comparisonNumbers ≡ written (table (comparisonCount T) (newComparison T c)) (replicate 256 0)) where
     compared : NumbersAre (comparisonCount T) (newComparison T c) comparisonNumbers
     compared = numbers-are (comparisonCount T) (newComparison T c) _ first-numbers
 
     pub comparison-form-reads : ComparisonFormReads T c comparisons comparisonNumbers
-    comparison-form-reads = record { formed = R .prepared .formed; comparisonsAre = R .prepared .comparisonsAre; numbered = compared }
+    comparison-form-reads =
+        let P = R .kept .prepared in
+        record { formed = P .formed; comparisonsAre = P .comparisonsAre; numbered = compared }
 
     pub form-reads : {queryNumbers : List ℕ} → queryNumbers ≡ written (table (queryCount T) (newQuery T c)) (replicate 256 0)
-        → QueryFormReads T expressionRows reach projectEntries relations queries c comparisonNumbers queryNumbers
+        → QueryFormReads T expressionRows reach formSets relations queries c comparisonNumbers queryNumbers
     form-reads e = record {
-      reads = query-reads;
-      entriesAre = R .prepared .projectEntriesAre;
-      relationsAre = R .prepared .relationsAre;
+      reads = query-reads (R .kept);
+      typed = R .typed;
+      relationsAre = R .kept .prepared .relationsAre;
       comparisonsNumbered = compared;
       queriesNumbered = numbers-are (queryCount T) (newQuery T c) _ e;
     }
@@ -159,27 +180,45 @@ module _ {expressionRows reach relationEntries projectEntries relations comparis
     {newEntries newRelations newComparisons newQueries : List ℕ}
     (W : KeptWritable expressionRows reach relationEntries projectEntries relations comparisons queries c newEntries newRelations newComparisons newQueries)
   where
-    formed : Formed (W .tables)
-    formed = W .reads .prepared .formed
+    pub sets-readable : {lent : List ℕ} → 256 ≤ length lent
+        → FormSetsReadable c expressionRows relationEntries projectEntries relations queries lent
+    sets-readable h = record {
+      tables = W .tables;
+      reads = sets-reads (W .reads);
+      room = let m = counts (W .reads .prepared .formed) .most4 in omega arith;
+    }
 
-    pub entries-writable : EntriesWritable expressionRows reach relationEntries projectEntries relations queries c newEntries
+    pub typed-writable : {formSets : List ℕ} → formSets ≡ written (table (queryCount (W .tables)) (setOf (W .tables) c)) (replicate 256 0)
+        → TypedWritable expressionRows reach formSets relationEntries projectEntries relations comparisons queries c newEntries newRelations newComparisons
+        newQueries
+    typed-writable e = record { tables = W .tables; reads = typed-reads (W .reads) e; rooms = W .rooms }
+
+module _ {expressionRows reach formSets relationEntries projectEntries relations comparisons queries : List ℕ} {c : ℕ}
+    {newEntries newRelations newComparisons newQueries : List ℕ}
+    (W : TypedWritable expressionRows reach formSets relationEntries projectEntries relations comparisons queries c newEntries newRelations newComparisons
+    newQueries)
+  where
+    formed : Formed (W .tables)
+    formed = W .reads .kept .prepared .formed
+
+    pub entries-writable : EntriesWritable expressionRows reach formSets relationEntries projectEntries relations queries c newEntries
     entries-writable = record { tables = W .tables; reads = entries-reads (W .reads); room = entries-fit formed c (W .rooms) }
 
     pub relations-writable : KeptRelationWritable relationForms expressionRows relationEntries relations c newRelations 0
-    relations-writable = record { tables = W .tables; reads = lists-read (W .reads); room = relations-fit formed c (W .rooms) }
+    relations-writable = record { tables = W .tables; reads = lists-read (W .reads .kept); room = relations-fit formed c (W .rooms) }
 
     pub comparisons-numberable : {numbers : List ℕ} → 256 ≤ length numbers → ComparisonNumberable expressionRows comparisons c numbers
     comparisons-numberable h = record {
       tables = W .tables;
-      reads = comparisons-read (W .reads);
-      room = let m = counts formed .most3 in omega (arith, ap length (W .reads .prepared .comparisonsAre));
+      reads = comparisons-read (W .reads .kept);
+      room = let m = counts formed .most3 in omega (arith, ap length (W .reads .kept .prepared .comparisonsAre));
     }
 
     pub queries-numberable : {numbers : List ℕ} → 256 ≤ length numbers → QueryNumberable expressionRows reach queries c numbers
     queries-numberable h = record {
       tables = W .tables;
-      reads = query-reads (W .reads);
-      room = let m = counts formed .most4 in omega (arith, ap length (W .reads .prepared .queriesAre));
+      reads = query-reads (W .reads .kept);
+      room = let m = counts formed .most4 in omega (arith, ap length (W .reads .kept .prepared .queriesAre));
     }
 
     module _ {comparisonNumbers : List ℕ}
@@ -195,7 +234,7 @@ module _ {expressionRows reach relationEntries projectEntries relations comparis
 
         pub queries-writable : {queryNumbers : List ℕ}
             → queryNumbers ≡ written (table (queryCount (W .tables)) (newQuery (W .tables) c)) (replicate 256 0)
-            → QueryFormWritable expressionRows reach projectEntries relations queries c comparisonNumbers queryNumbers newQueries
+            → QueryFormWritable expressionRows reach formSets relations queries c comparisonNumbers queryNumbers newQueries
         queries-writable e =
             record { tables = W .tables; reads = form-reads (W .reads) first-numbers e; room = queries-fit formed c (W .rooms) }
 

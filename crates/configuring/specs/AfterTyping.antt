@@ -3,8 +3,10 @@ use Prim.Native.Nat.{ℕ, _<_}
 use mathlib.Core.Path.{_≡_}
 use mathlib.Core.List.{List, _++_}
 use lib.ListN.{length}
+use Rattle.sets.specs.Lists.{NumbersAre}
 use Rattle.sets.specs.Writing.{Room}
-use Rattle.report.specs.Tables.{Tables}
+use Rattle.report.specs.Tables.{Tables, queryCount}
+use Rattle.report.specs.Typing.{setOf}
 use Rattle.report.specs.Expressions.{configurations}
 use Rattle.report.specs.Verdicts.{firstOf}
 use Rattle.report.specs.Calls.{permittedCondition, roomConditions}
@@ -33,14 +35,15 @@ pub record ConfigureReadable (model : ℕ) (expressionRows reach entries relatio
   pub tables : Tables
   pub reads : ConfigureReads tables model expressionRows reach entries relations comparisons queries
 
--- what table 1 is written from: its parts, tables 2 and 4
-pub record EntriesReads (T : Tables) (expressionRows reach relationEntries projectEntries relations queries : List ℕ) (c : ℕ) : Type 0 where
+-- what table 1 is written from: its parts, tables 2 and 4, and the sets of the query forms
+pub record EntriesReads (T : Tables) (expressionRows reach formSets relationEntries projectEntries relations queries : List ℕ) (c : ℕ) : Type 0 where
   pub lists : RelationReads T expressionRows relationEntries relations c
-  pub projects : ProjectReads T expressionRows reach projectEntries queries c
+  pub projects : ProjectReads T expressionRows reach formSets projectEntries queries c
 
-pub record EntriesWritable (expressionRows reach relationEntries projectEntries relations queries : List ℕ) (c : ℕ) (out : List ℕ) : Type 0 where
+pub record EntriesWritable (expressionRows reach formSets relationEntries projectEntries relations queries : List ℕ) (c : ℕ) (out : List ℕ)
+    : Type 0 where
   pub tables : Tables
-  pub reads : EntriesReads tables expressionRows reach relationEntries projectEntries relations queries c
+  pub reads : EntriesReads tables expressionRows reach formSets relationEntries projectEntries relations queries c
   pub room : Room (relationLists tables c ++ projectLists tables c) out 0
 
 -- the prepared tables, a configuration of their features, and the reach rows
@@ -53,4 +56,16 @@ pub record KeptWritable (expressionRows reach relationEntries projectEntries rel
     (newEntries newRelations newComparisons newQueries : List ℕ) : Type 0 where
   pub tables : Tables
   pub reads : KeptReads tables expressionRows reach relationEntries projectEntries relations comparisons queries c
+  pub rooms : Rooms tables newEntries newRelations newComparisons newQueries
+
+-- besides, the sets of the query forms at c
+pub record TypedReads (T : Tables) (expressionRows reach formSets relationEntries projectEntries relations comparisons queries : List ℕ) (c : ℕ)
+    : Type 0 where
+  pub kept : KeptReads T expressionRows reach relationEntries projectEntries relations comparisons queries c
+  pub typed : NumbersAre (queryCount T) (setOf T c) formSets
+
+pub record TypedWritable (expressionRows reach formSets relationEntries projectEntries relations comparisons queries : List ℕ) (c : ℕ)
+    (newEntries newRelations newComparisons newQueries : List ℕ) : Type 0 where
+  pub tables : Tables
+  pub reads : TypedReads tables expressionRows reach formSets relationEntries projectEntries relations comparisons queries c
   pub rooms : Rooms tables newEntries newRelations newComparisons newQueries

@@ -10,6 +10,7 @@ use Rattle.report.specs.Verdicts.{after}
 use Rattle.report.specs.Checks.{isTypingFault}
 use Rattle.report.specs.Calls.{answer, configuring}
 use Rattle.report.specs.declared.Verdict.{Verdict}
+use Rattle.report.specs.declared.Reading.{Reading}
 use Rattle.configuring.specs.declared.Configured.{Configured}
 
 -- the answer: the number of forms in tables 1 to 4 of what is written, or the refusal
@@ -37,10 +38,10 @@ pub record Leaves (v : Verdict) (U : Tables) (newEntries newRelations newCompari
   pub comparisons : newComparisons′ ≡ tableAfter v (U .comparisons) newComparisons
   pub queries : newQueries′ ≡ tableAfter v (U .queries) newQueries
 
--- the promise of `configure`: at c, with these tables 1 to 4 lent for writing
-abbrev pub Configures : Tables → ℕ → List ℕ → List ℕ → List ℕ → List ℕ → Configured → List ℕ → List ℕ → List ℕ → List ℕ → Type 0
-Configures T c newEntries newRelations newComparisons newQueries =
-    Leaves (answer T (configuring c (length newEntries) (length newRelations) (length newComparisons) (length newQueries))) (configured T c)
+-- the promise of `configure`: in a reading at c, with these tables 1 to 4 lent for writing
+abbrev pub Configures : Tables → Reading → ℕ → List ℕ → List ℕ → List ℕ → List ℕ → Configured → List ℕ → List ℕ → List ℕ → List ℕ → Type 0
+Configures T R c newEntries newRelations newComparisons newQueries =
+    Leaves (answer T R (configuring c (length newEntries) (length newRelations) (length newComparisons) (length newQueries))) (configured T c R)
     newEntries newRelations newComparisons newQueries
 
 -- an answer of configuring that is a typing fault

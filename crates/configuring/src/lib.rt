@@ -1,4 +1,5 @@
 // The entry point `configure`: the plain tables of an accepted report at one configuration.
+use faults_at::fill_form_sets;
 use forms::relations_end;
 use judging::COLUMN_WORDS;
 use judging::EXPRESSION_WORDS;
@@ -15,6 +16,7 @@ use late_checks::LentWords;
 use late_checks::check_late;
 use report::Head;
 use report::Limits;
+use report::Reading;
 use report::Refusal;
 use report::Verdict;
 use sets::Row;
@@ -24,10 +26,11 @@ ghost use Rattle.report.specs.Tables.{Tables};
 ghost use Rattle.report.specs.Expressions.{tablesUnder};
 ghost use Rattle.report.specs.Configuring.{configured};
 ghost use Rattle.report.specs.declared.Verdict.{Verdict};
+ghost use Rattle.report.specs.declared.Reading.{Reading};
 ghost use Rattle.kept_lists.specs.Keeping.{relationLists, projectLists};
 ghost use Rattle.configuring.specs.Promises.{Leaves, Configures};
 ghost use Rattle.configuring.specs.AfterTyping.{lateVerdict, ConfigureReads, ConfigureReadable};
-ghost use Rattle.configuring.specs.AfterTyping.{EntriesReads, EntriesWritable, KeptReads, KeptWritable};
+ghost use Rattle.configuring.specs.AfterTyping.{EntriesReads, EntriesWritable, TypedReads, TypedWritable, KeptReads, KeptWritable};
 
 // What configuring answers: how many forms tables 1 to 4 have, or the refusal.
 pub enum Configured {
@@ -44,14 +47,15 @@ fn write_entries(
     relations: &[u16],
     queries: &[u16],
     reach: &[u64],
+    form_sets: &[u64],
     out: &mut [u16],
 ) -> usize
-    requires { ⌜ EntriesWritable (now «expression_rows») (now reach) (now «relation_entries») (now «project_entries») (now relations) (now queries) c
-        (now out) ⌝ }
+    requires { ⌜ EntriesWritable (now «expression_rows») (now reach) (now «form_sets») (now «relation_entries») (now «project_entries») (now relations)
+        (now queries) c (now out) ⌝ }
     ensures { λ r.
         ⌜ ((T : Tables)
-        → EntriesReads T (now («expression_rows» .entry)) (now (reach .entry)) (now («relation_entries» .entry)) (now («project_entries» .entry))
-        (now (relations .entry)) (now (queries .entry)) c
+        → EntriesReads T (now («expression_rows» .entry)) (now (reach .entry)) (now («form_sets» .entry)) (now («relation_entries» .entry))
+        (now («project_entries» .entry)) (now (relations .entry)) (now (queries .entry)) c
         → WrittenAt (relationLists T c ++ projectLists T c) (now (out .entry)) 0 (now (out .exit)) r) ⌝ }
 {
     let lists = write_relation_lists(c, expression_rows, relation_entries, relations, &mut *out);
@@ -61,12 +65,80 @@ fn write_entries(
         project_entries,
         queries,
         reach,
+        form_sets,
         out,
         lists,
     )
 }
 
-// Writes what the report keeps at c, from the expression rows and the configurations that reach each query form.
+// Writes what the report keeps at c, from the expression rows, the configurations that reach each query form, and the sets of the forms at c.
+fn write_with(
+    c: usize,
+    expression_rows: &[u64],
+    relation_entries: &[u16],
+    project_entries: &[u16],
+    relations: &[u16],
+    comparisons: &[u16],
+    queries: &[u16],
+    reach: &[u64],
+    form_sets: &[u64],
+    new_entries: &mut [u16],
+    new_relations: &mut [u16],
+    new_comparisons: &mut [u16],
+    new_queries: &mut [u16],
+) -> Configured
+    requires { ⌜ TypedWritable (now «expression_rows») (now reach) (now «form_sets») (now «relation_entries») (now «project_entries») (now relations)
+        (now comparisons) (now queries) c (now «new_entries») (now «new_relations») (now «new_comparisons») (now «new_queries») ⌝ }
+    ensures { λ r.
+        ⌜ ((T : Tables)
+        → TypedReads T (now («expression_rows» .entry)) (now (reach .entry)) (now («form_sets» .entry)) (now («relation_entries» .entry))
+        (now («project_entries» .entry)) (now (relations .entry)) (now (comparisons .entry)) (now (queries .entry)) c
+        → Leaves Verdict.Accepted (configured T c Reading.Filled) (now («new_entries» .entry)) (now («new_relations» .entry)) (now («new_comparisons» .entry))
+        (now («new_queries» .entry)) r
+        (now («new_entries» .exit)) (now («new_relations» .exit)) (now («new_comparisons» .exit)) (now («new_queries» .exit))) ⌝ }
+{
+    let entry_count = write_entries(
+        c,
+        expression_rows,
+        relation_entries,
+        project_entries,
+        relations,
+        queries,
+        reach,
+        form_sets,
+        new_entries,
+    )
+        / 2;
+    let relation_count = write_relation_forms(
+        c,
+        expression_rows,
+        relation_entries,
+        relations,
+        new_relations,
+    )
+        / 2;
+    let mut comparison_numbers = [0; Limits::MOST_COMPARISONS];
+    number_comparisons(c, expression_rows, comparisons, &mut comparison_numbers);
+    let comparison_count = write_comparisons(comparisons, &comparison_numbers, new_comparisons) / 5;
+    let mut query_numbers = [0; Limits::MOST_QUERIES];
+    number_queries(c, expression_rows, queries, reach, &mut query_numbers);
+    let query_count = write_queries(
+        c,
+        expression_rows,
+        relations,
+        queries,
+        reach,
+        form_sets,
+        &comparison_numbers,
+        &query_numbers,
+        new_queries,
+    )
+        / 4;
+    Configured::Written(entry_count, relation_count, comparison_count, query_count)
+}
+
+// The same. The sets of the forms at c are its own. It is not told the reading: it writes what the filled one says, which of a report that the strict
+// one accepts is the same.
 fn write_kept(
     c: usize,
     expression_rows: &[u64],
@@ -87,48 +159,34 @@ fn write_kept(
         ⌜ ((T : Tables)
         → KeptReads T (now («expression_rows» .entry)) (now (reach .entry)) (now («relation_entries» .entry)) (now («project_entries» .entry))
         (now (relations .entry)) (now (comparisons .entry)) (now (queries .entry)) c
-        → Leaves Verdict.Accepted (configured T c) (now («new_entries» .entry)) (now («new_relations» .entry)) (now («new_comparisons» .entry))
+        → Leaves Verdict.Accepted (configured T c Reading.Filled) (now («new_entries» .entry)) (now («new_relations» .entry)) (now («new_comparisons» .entry))
         (now («new_queries» .entry)) r
         (now («new_entries» .exit)) (now («new_relations» .exit)) (now («new_comparisons» .exit)) (now («new_queries» .exit))) ⌝ }
 {
-    let entry_words = write_entries(
+    let mut form_sets = [0; Limits::MOST_QUERIES];
+    fill_form_sets(
         c,
         expression_rows,
         relation_entries,
         project_entries,
         relations,
         queries,
+        &mut form_sets,
+    );
+    write_with(
+        c,
+        expression_rows,
+        relation_entries,
+        project_entries,
+        relations,
+        comparisons,
+        queries,
         reach,
+        &form_sets,
         new_entries,
-    );
-    let relation_words = write_relation_forms(
-        c,
-        expression_rows,
-        relation_entries,
-        relations,
         new_relations,
-    );
-    let mut comparison_numbers = [0; Limits::MOST_COMPARISONS];
-    number_comparisons(c, expression_rows, comparisons, &mut comparison_numbers);
-    let comparison_words = write_comparisons(comparisons, &comparison_numbers, new_comparisons);
-    let mut query_numbers = [0; Limits::MOST_QUERIES];
-    number_queries(c, expression_rows, queries, reach, &mut query_numbers);
-    let query_words = write_queries(
-        c,
-        expression_rows,
-        project_entries,
-        relations,
-        queries,
-        reach,
-        &comparison_numbers,
-        &query_numbers,
+        new_comparisons,
         new_queries,
-    );
-    Configured::Written(
-        entry_words / 2,
-        relation_words / 2,
-        comparison_words / 5,
-        query_words / 4,
     )
 }
 
@@ -154,7 +212,7 @@ fn configure_judged(
         (now (comparisons .entry)) (now (queries .entry))
         → Leaves (lateVerdict T c (now («new_entries» .entry)) (now («new_relations» .entry)) (now («new_comparisons» .entry))
         (now («new_queries» .entry)))
-        (configured T c) (now («new_entries» .entry)) (now («new_relations» .entry)) (now («new_comparisons» .entry)) (now («new_queries» .entry)) r
+        (configured T c Reading.Filled) (now («new_entries» .entry)) (now («new_relations» .entry)) (now («new_comparisons» .entry)) (now («new_queries» .entry)) r
         (now («new_entries» .exit)) (now («new_relations» .exit)) (now («new_comparisons» .exit)) (now («new_queries» .exit))) ⌝ }
 {
     let lent = LentWords {
@@ -185,9 +243,10 @@ fn configure_judged(
     )
 }
 
-// Writes the tables that the report of these tables becomes at configuration c into the tables lent for it. Refused: they are as they were.
+// Writes the tables that the report of these tables, in the reading, becomes at configuration c into the tables lent for it. Refused: they are as they were.
 pub fn configure(
     head: Head,
+    reading: Reading,
     c: u64,
     expressions: &[u16],
     entries: &[u16],
@@ -203,7 +262,7 @@ pub fn configure(
     ensures { λ r.
         ⌜ Configures
         (tablesUnder head (now (expressions .entry)) (now (entries .entry)) (now (relations .entry)) (now (comparisons .entry))
-        (now (queries .entry)) (now (kinds .entry))) c
+        (now (queries .entry)) (now (kinds .entry))) reading c
         (now («new_entries» .entry)) (now («new_relations» .entry)) (now («new_comparisons» .entry)) (now («new_queries» .entry)) r
         (now («new_entries» .exit)) (now («new_relations» .exit)) (now («new_comparisons» .exit)) (now («new_queries» .exit)) ⌝ }
 {
@@ -212,6 +271,7 @@ pub fn configure(
     let mut columns = [0; COLUMN_WORDS];
     let checked = check_into_rows(
         head,
+        reading,
         expressions,
         entries,
         relations,

@@ -28,6 +28,7 @@ use Rattle.report.specs.WrittenTables.{WrittenAccepted}
 use Rattle.report.specs.GivenDemands.{RulesThroughout, PassesThroughout}
 use Rattle.report.specs.declared.Refusal.{Refusal}
 use Rattle.report.specs.declared.Verdict.{Verdict}
+use Rattle.report.specs.declared.Reading.{Reading}
 use Rattle.report.proofs.VerdictLaws.{both-accepted, if-accepted}
 use Rattle.report.proofs.FirstFault.{first-own}
 use Rattle.report.proofs.CallLaws.{refused-foremost, sound-formed}
@@ -45,37 +46,37 @@ use Rattle.demands.specs.FoundWritten.{FoundWritten}
 -- no lent word"
 
 -- of any call: its answer r is `refused x` where it is refused by x
-module _ (T : Tables) (call : Call) {A : Type 0} (refused : Refusal → A) {r : A}
-    (says : (x : Refusal) → (r ≡ refused x) ↔ (answer T call ≡ Verdict.Refused x)) where
+module _ (T : Tables) (R : Reading) (call : Call) {A : Type 0} (refused : Refusal → A) {r : A}
+    (says : (x : Refusal) → (r ≡ refused x) ↔ (answer T R call ≡ Verdict.Refused x)) where
   -- it is refused exactly by the first of its conditions that hold
-  pub call-foremost : (x : Refusal) → (r ≡ refused x) ↔ Foremost (conditions T call) x
-  call-foremost x = let f = refused-foremost T call x in (λ e. f .0 (says x .0 e), λ h. says x .1 (f .1 h))
+  pub call-foremost : (x : Refusal) → (r ≡ refused x) ↔ Foremost (conditions T R call) x
+  call-foremost x = let f = refused-foremost T R call x in (λ e. f .0 (says x .0 e), λ h. says x .1 (f .1 h))
 
   -- and then what was lent to it is as it was
-  pub call-unchanged : {B : Type 0} (new : B) {lent left : B} → left ≡ after (answer T call) new lent → (x : Refusal) → r ≡ refused x → left ≡ lent
+  pub call-unchanged : {B : Type 0} (new : B) {lent left : B} → left ≡ after (answer T R call) new lent → (x : Refusal) → r ≡ refused x → left ≡ lent
   call-unchanged new {lent} stored x e = stored ∙ ap (λ (v : Verdict). after v new lent) (says x .0 e)
 
 -- checking
-module _ (T : Tables) (rows rows′ : List ℕ) (r : Verdict) (checks : Checks T rows r rows′) where
-  says : (x : Refusal) → (r ≡ Verdict.Refused x) ↔ (answer T (checking (length rows)) ≡ Verdict.Refused x)
+module _ (T : Tables) (R : Reading) (rows rows′ : List ℕ) (r : Verdict) (checks : Checks T R rows r rows′) where
+  says : (x : Refusal) → (r ≡ Verdict.Refused x) ↔ (answer T R (checking (length rows)) ≡ Verdict.Refused x)
   says x = (λ e. sym (checks .0) ∙ e, λ e. checks .0 ∙ e)
 
-  pub check-foremost : (x : Refusal) → (r ≡ Verdict.Refused x) ↔ Foremost (conditions T (checking (length rows))) x
-  check-foremost = call-foremost T (checking (length rows)) Verdict.Refused says
+  pub check-foremost : (x : Refusal) → (r ≡ Verdict.Refused x) ↔ Foremost (conditions T R (checking (length rows))) x
+  check-foremost = call-foremost T R (checking (length rows)) Verdict.Refused says
 
   pub check-unchanged : (x : Refusal) → r ≡ Verdict.Refused x → rows′ ≡ rows
-  check-unchanged = call-unchanged T (checking (length rows)) Verdict.Refused says (columnRows T) (checks .1)
+  check-unchanged = call-unchanged T R (checking (length rows)) Verdict.Refused says (columnRows T) (checks .1)
 
 -- a check that accepts leaves the column rows
-pub left-rows : (T : Tables) (rows rows′ : List ℕ) → Checks T rows Verdict.Accepted rows′ → rows′ ≡ columnRows T
-left-rows T rows rows′ k = k .1 ∙ ap (λ (v : Verdict). after v (columnRows T) rows) (sym (k .0))
+pub left-rows : (T : Tables) (R : Reading) (rows rows′ : List ℕ) → Checks T R rows Verdict.Accepted rows′ → rows′ ≡ columnRows T
+left-rows T R rows rows′ k = k .1 ∙ ap (λ (v : Verdict). after v (columnRows T) rows) (sym (k .0))
 
--- ---- "Tables sound in form and schema, with rows lent at their full length, it accepts exactly when those rules do, and the column rows it writes
--- are the rows of the rules, bit by bit."
+-- ---- In the strict reading (in either: Filled). "Tables sound in form and schema, with rows lent at their full length, it accepts exactly when those rules
+-- do, and the column rows it writes are the rows of the rules, bit by bit."
 
-module _ (T : Tables) (sound : Sound T) (rows rows′ : List ℕ) (r : Verdict) (full : length rows ≡ 1024) (checks : Checks T rows r rows′) where
-  answers : r ≡ answer T (checking 1024)
-  answers = checks .0 ∙ ap (λ (n : ℕ). answer T (checking n)) full
+module _ (T : Tables) (sound : Sound T) (rows rows′ : List ℕ) (r : Verdict) (full : length rows ≡ 1024) (checks : Checks T Reading.Strict rows r rows′) where
+  answers : r ≡ answer T Reading.Strict (checking 1024)
+  answers = checks .0 ∙ ap (λ (n : ℕ). answer T Reading.Strict (checking n)) full
 
   -- the rules accept where at each permitted configuration some sets keep them
   pub check-accepts : (r ≡ Verdict.Accepted) ↔ RulesThroughout T
@@ -101,85 +102,85 @@ module _ (T : Tables) (sound : Sound T) where
 
   -- so it is at each of these configurations by itself
   pub rules-agree : (c : ℕ) → permitted T c ≡ true
-      → ((S : ℕ → ℕ) × Rules T c S) ↔ (passes (kindOf T) (configuredSchema T c) (configuredReport T c) ≡ true)
+      → ((S : ℕ → ℕ) × Rules T c S) ↔ (passes (kindOf T) (configuredSchema T c) (configuredReport T c Reading.Strict) ≡ true)
   rules-agree = rules-plain (sound-formed T sound)
 
   -- and of the checks of typing, 15 to 19 and 25
-  pub typing-agrees : (typingCheck T ≡ Verdict.Accepted) ↔ PassesThroughout T
+  pub typing-agrees : (typingCheck T Reading.Strict ≡ Verdict.Accepted) ↔ PassesThroughout T
   typing-agrees = typing-passes (sound-formed T sound)
 
--- ---- "Found afterwards, whichever configuration that the feature model permits was chosen: the configured report passes the plain rules under the
--- configured schema, and its columns are exactly those the rows show at that configuration. Done before: a schema and report, whatever they are,
--- were accepted, and no word of them has changed since."
+-- ---- In either reading, the report being configured in it. "Found afterwards, whichever configuration that the feature model permits was chosen: the
+-- configured report passes the plain rules under the configured schema, and its columns are exactly those the rows show at that configuration. Done
+-- before: a schema and report, whatever they are, were accepted, and no word of them has changed since."
 
-pub found-afterwards : (T : Tables) (rows rows′ : List ℕ) → Checks T rows Verdict.Accepted rows′ → (c : ℕ) → permitted T c ≡ true
-    → (passes (kindOf T) (configuredSchema T c) (configuredReport T c) ≡ true) × (columns (configuredSchema T c) (configuredReport T c) ≡ shown rows′ c)
-found-afterwards T rows rows′ k c chosen =
+pub found-afterwards : (T : Tables) (R : Reading) (rows rows′ : List ℕ) → Checks T R rows Verdict.Accepted rows′ → (c : ℕ) → permitted T c ≡ true
+    → (passes (kindOf T) (configuredSchema T c) (configuredReport T c R) ≡ true) × (columns (configuredSchema T c) (configuredReport T c R) ≡ shown rows′ c)
+found-afterwards T R rows rows′ k c chosen =
     let accepted = sym (k .0) in (
-      checked-passes T (length rows) accepted c chosen,
-      checked-columns T (length rows) accepted c chosen ∙ ap (λ (l : List ℕ). shown l c) (sym (left-rows T rows rows′ k)),
+      checked-passes T R (length rows) accepted c chosen,
+      checked-columns T R (length rows) accepted c chosen ∙ ap (λ (l : List ℕ). shown l c) (sym (left-rows T R rows rows′ k)),
     )
 
 -- ---- configuring: demand 1, and the same found in the tables that it writes at that configuration
 
-module _ (T : Tables) (c : ℕ) (newEntries newRelations newComparisons newQueries : List ℕ) (r : Configured)
+module _ (T : Tables) (R : Reading) (c : ℕ) (newEntries newRelations newComparisons newQueries : List ℕ) (r : Configured)
     (newEntries′ newRelations′ newComparisons′ newQueries′ : List ℕ)
-    (configures : Configures T c newEntries newRelations newComparisons newQueries r newEntries′ newRelations′ newComparisons′ newQueries′)
+    (configures : Configures T R c newEntries newRelations newComparisons newQueries r newEntries′ newRelations′ newComparisons′ newQueries′)
   where
     abbrev writing : Call
     writing = configuring c (length newEntries) (length newRelations) (length newComparisons) (length newQueries)
 
-    pub configure-foremost : (x : Refusal) → (r ≡ Configured.Refused x) ↔ Foremost (conditions T writing) x
-    configure-foremost = call-foremost T writing Configured.Refused (configured-refused configures)
+    pub configure-foremost : (x : Refusal) → (r ≡ Configured.Refused x) ↔ Foremost (conditions T R writing) x
+    configure-foremost = call-foremost T R writing Configured.Refused (configured-refused configures)
 
     pub configure-unchanged : (x : Refusal) → r ≡ Configured.Refused x
         → (newEntries′ ≡ newEntries) × (newRelations′ ≡ newRelations) × (newComparisons′ ≡ newComparisons) × (newQueries′ ≡ newQueries)
     configure-unchanged x e = (
-      same (configured T c .entries) (configures .entries),
-      same (configured T c .relations) (configures .relations),
-      same (configured T c .comparisons) (configures .comparisons),
-      same (configured T c .queries) (configures .queries),
+      same (configured T c R .entries) (configures .entries),
+      same (configured T c R .relations) (configures .relations),
+      same (configured T c R .comparisons) (configures .comparisons),
+      same (configured T c R .queries) (configures .queries),
     )
       where
-        same : (new : List ℕ) {lent left : List ℕ} → left ≡ tableAfter (answer T writing) new lent → left ≡ lent
-        same new {lent} stored = call-unchanged T writing Configured.Refused (configured-refused configures) (written new lent) stored x e
+        same : (new : List ℕ) {lent left : List ℕ} → left ≡ tableAfter (answer T R writing) new lent → left ≡ lent
+        same new {lent} stored = call-unchanged T R writing Configured.Refused (configured-refused configures) (written new lent) stored x e
 
     -- after a check that accepted, with tables lent of any length that check 21 takes, and any words in them
-    pub found-written : (rows rows′ : List ℕ) → Checks T rows Verdict.Accepted rows′ → permitted T c ≡ true
+    pub found-written : (rows rows′ : List ℕ) → Checks T R rows Verdict.Accepted rows′ → permitted T c ≡ true
         → Rooms T newEntries newRelations newComparisons newQueries
-        → FoundWritten T c rows′ newEntries newRelations newComparisons newQueries r newEntries′ newRelations′ newComparisons′ newQueries′
+        → FoundWritten T R c rows′ newEntries newRelations newComparisons newQueries r newEntries′ newRelations′ newComparisons′ newQueries′
     found-written rows rows′ k chosen room = record {
       leaves = leaves;
-      readBack = λ a b d e f. read-back T c (there .written .formed) (rw f at leaves);
+      readBack = λ a b d e f. read-back T c R (there .written .formed) (rw f at leaves);
       accepted = there;
       shows = shows;
     }
       where
-        there : WrittenAccepted T c
-        there = accepted-written T (length rows) (sym (k .0)) c chosen
+        there : WrittenAccepted T c R
+        there = accepted-written T R (length rows) (sym (k .0)) c chosen
 
-        leaves : Leaves Verdict.Accepted (configured T c) newEntries newRelations newComparisons newQueries r
+        leaves : Leaves Verdict.Accepted (configured T c R) newEntries newRelations newComparisons newQueries r
             newEntries′ newRelations′ newComparisons′ newQueries′
         leaves =
-            rw (configure-accepted T (length rows) (sym (k .0)) c chosen
+            rw (configure-accepted T R (length rows) (sym (k .0)) c chosen
             (length newEntries) (length newRelations) (length newComparisons) (length newQueries)
             (room .entries) (room .relations) (room .comparisons) (room .queries)) at configures
 
-        shows : (lent lent′ : List ℕ) (v : Verdict) → length lent ≡ 1024 → Checks (configured T c) lent v lent′
+        shows : (lent lent′ : List ℕ) (v : Verdict) → length lent ≡ 1024 → Checks (configured T c R) Reading.Strict lent v lent′
             → (v ≡ Verdict.Accepted) × (shown lent′ 0 ≡ shown rows′ c)
         shows lent lent′ v full w =
-            let e : v ≡ Verdict.Accepted = w .0 ∙ ap (λ (n : ℕ). answer (configured T c) (checking n)) full ∙ there .checked in (
+            let e : v ≡ Verdict.Accepted = w .0 ∙ ap (λ (n : ℕ). answer (configured T c R) Reading.Strict (checking n)) full ∙ there .checked in (
               e,
-              ap (λ (l : List ℕ). shown l 0) (left-rows (configured T c) lent lent′ (rw e at w)) ∙ there .written .shows
-                  ∙ ap (λ (l : List ℕ). shown l c) (sym (left-rows T rows rows′ k)),
+              ap (λ (l : List ℕ). shown l 0) (left-rows (configured T c R) Reading.Strict lent lent′ (rw e at w)) ∙ there .written .shows
+                  ∙ ap (λ (l : List ℕ). shown l c) (sym (left-rows T R rows rows′ k)),
             )
 
     -- From `configure` alone, where it answers that it has written
     module _ (a b d e : ℕ) (written : r ≡ Configured.Written a b d e) where
-      accepts : answer T writing ≡ Verdict.Accepted
-      accepts = go (answer T writing) (sym written ∙ configures .answers)
+      accepts : answer T R writing ≡ Verdict.Accepted
+      accepts = go (answer T R writing) (sym written ∙ configures .answers)
         where
-          go : (v : Verdict) → Configured.Written a b d e ≡ configuredAnswer v (configured T c) → v ≡ Verdict.Accepted
+          go : (v : Verdict) → Configured.Written a b d e ≡ configuredAnswer v (configured T c R) → v ≡ Verdict.Accepted
           go Verdict.Accepted u = refl
           go (Verdict.Refused x) u = absurd (let z : _≡_ {A = ℕ} 0 1 = cc in omega arith)
 
@@ -187,11 +188,11 @@ module _ (T : Tables) (c : ℕ) (newEntries newRelations newComparisons newQueri
           × (firstOf (roomConditions (length newEntries) (length newRelations) (length newComparisons) (length newQueries) T) ≡ Verdict.Accepted)
       own-accepted =
           both-accepted _ _
-          (sym (first-own T c (length newEntries) (length newRelations) (length newComparisons) (length newQueries)) ∙ called-own T writing accepts)
+          (sym (first-own T c (length newEntries) (length newRelations) (length newComparisons) (length newQueries)) ∙ called-own T R writing accepts)
 
       -- checking accepts the tables too, with 1,024 words of rows; c is permitted; and there was room
-      pub written-checked : answer T (checking 1024) ≡ Verdict.Accepted
-      written-checked = check-typing T (called-sound T writing accepts) ∙ called-typed T writing accepts
+      pub written-checked : answer T R (checking 1024) ≡ Verdict.Accepted
+      written-checked = check-typing T R (called-sound T R writing accepts) ∙ called-typed T R writing accepts
 
       pub written-permitted : permitted T c ≡ true
       written-permitted = not-false (permitted T c) (if-accepted (not (permitted T c)) (refusal 20 0 0 c) (own-accepted .0))
@@ -200,31 +201,31 @@ module _ (T : Tables) (c : ℕ) (newEntries newRelations newComparisons newQueri
       written-rooms = room-accepted T newEntries newRelations newComparisons newQueries (own-accepted .1)
 
       -- so all that is found of the tables written after a check is found, of the rows that a check would write
-      pub written-alone : FoundWritten T c (columnRows T) newEntries newRelations newComparisons newQueries r
+      pub written-alone : FoundWritten T R c (columnRows T) newEntries newRelations newComparisons newQueries r
           newEntries′ newRelations′ newComparisons′ newQueries′
       written-alone =
           found-written (replicate 1024 0) (columnRows T)
           (sym written-checked, ap (λ (v : Verdict). after v (columnRows T) (replicate 1024 0)) (sym written-checked)) written-permitted written-rooms
 
       -- that is: the configured report passes the plain rules; given to the checker, what is written is accepted, and its columns are the report's
-      pub written-columns : (lent lent′ : List ℕ) (v : Verdict) → length lent ≡ 1024 → Checks (configured T c) lent v lent′
-          → (passes (kindOf T) (configuredSchema T c) (configuredReport T c) ≡ true)
+      pub written-columns : (lent lent′ : List ℕ) (v : Verdict) → length lent ≡ 1024 → Checks (configured T c R) Reading.Strict lent v lent′
+          → (passes (kindOf T) (configuredSchema T c) (configuredReport T c R) ≡ true)
           × (v ≡ Verdict.Accepted)
-          × (shown lent′ 0 ≡ columns (configuredSchema T c) (configuredReport T c))
+          × (shown lent′ 0 ≡ columns (configuredSchema T c) (configuredReport T c R))
       written-columns lent lent′ v full w =
           let s = written-alone .shows lent lent′ v full w in (
-            checked-passes T 1024 written-checked c written-permitted,
+            checked-passes T R 1024 written-checked c written-permitted,
             s .0,
-            s .1 ∙ sym (checked-columns T 1024 written-checked c written-permitted),
+            s .1 ∙ sym (checked-columns T R 1024 written-checked c written-permitted),
           )
 
--- ---- "Found also, for all tables sound in form and schema: a call that gets as far as typing refuses them for a typing fault exactly when, at some
+-- ---- In the strict reading. "Found also, for all tables sound in form and schema: a call that gets as far as typing refuses them for a typing fault exactly when, at some
 -- permitted configuration, the configured report breaks a plain rule; the configuration named is then one of those. No report that passes at every
 -- permitted configuration is refused so."
 
 -- of any call that gets as far as typing, where the answer's being a typing fault is told by `fault`
 module _ (T : Tables) {call : Call} (own : OwnNumbers call) (gets : GetsAsFarAsTyping T call) {fault : Bool}
-    (same : fault ≡ isTypingFault (answer T call)) where
+    (same : fault ≡ isTypingFault (answer T Reading.Strict call)) where
   pub call-refuses : (fault ≡ true) ↔ Broken T
   call-refuses = let b = refused-broken T own gets in (λ e. b .0 (sym same ∙ e), λ e. same ∙ b .1 e)
 
@@ -244,14 +245,14 @@ module _ (T : Tables) (sound : Sound T) where
   which-configure = configure-gets T sound
 
   -- checking
-  module _ (rows rows′ : List ℕ) (r : Verdict) (full : length rows ≡ 1024) (checks : Checks T rows r rows′) where
+  module _ (rows rows′ : List ℕ) (r : Verdict) (full : length rows ≡ 1024) (checks : Checks T Reading.Strict rows r rows′) where
     abbrev call : Call
     call = checking (length rows)
 
     gets : GetsAsFarAsTyping T call
     gets = which-check rows .1 full
 
-    same : isTypingFault r ≡ isTypingFault (answer T call)
+    same : isTypingFault r ≡ isTypingFault (answer T Reading.Strict call)
     same = ap isTypingFault (checks .0)
 
     pub check-refuses : (isTypingFault r ≡ true) ↔ Broken T
@@ -266,7 +267,7 @@ module _ (T : Tables) (sound : Sound T) where
   -- configuring
   module _ (c : ℕ) (newEntries newRelations newComparisons newQueries : List ℕ) (r : Configured)
       (newEntries′ newRelations′ newComparisons′ newQueries′ : List ℕ)
-      (configures : Configures T c newEntries newRelations newComparisons newQueries r newEntries′ newRelations′ newComparisons′ newQueries′) where
+      (configures : Configures T Reading.Strict c newEntries newRelations newComparisons newQueries r newEntries′ newRelations′ newComparisons′ newQueries′) where
     abbrev called : Call
     called = configuring c (length newEntries) (length newRelations) (length newComparisons) (length newQueries)
 

@@ -23,6 +23,7 @@ use Rattle.report.specs.Verdicts.{refusal, refuseAt, orElse}
 use Rattle.report.specs.Calls.{Call, answer}
 use Rattle.report.specs.declared.Expression.{Expression}
 use Rattle.report.specs.declared.Verdict.{Verdict}
+use Rattle.report.specs.declared.Reading.{Reading}
 use Rattle.report.proofs.ValueLaws.{value-step}
 use Rattle.report.proofs.VerdictLaws.{both-accepted, then-next, then-refused}
 use Rattle.report.proofs.CallLaws.{form-refused}
@@ -134,7 +135,7 @@ module _ {T : Tables} {e first count : ℕ} (K : IsKind6 T e first count) where
 
 -- ---- "A count outside 1 to 10 or a range that passes n is refusal 3": of every call, where checks 1 and 2 find nothing and all lower forms fit
 
-module _ (T : Tables) (call : Call) (e : ℕ) (inside : e < expressionCount T)
+module _ (T : Tables) (R : Reading) (call : Call) (e : ℕ) (inside : e < expressionCount T)
     (passed : orElse (headCheck (T .features) (T .attributes)) (lengthsCheck T) ≡ Verdict.Accepted)
     (lower : (f : ℕ) → f < e → expressionOk T f ≡ true) where
   check-3 : expressionOk T e ≡ false → expressionsCheck (T .features) (T .expressions) ≡ Verdict.Refused (refusal 3 e 0 0)
@@ -144,18 +145,18 @@ module _ (T : Tables) (call : Call) (e : ℕ) (inside : e < expressionCount T)
       (at-lowest (λ f. not (expressionOk T f)) (expressionCount T) e
       (record { below = inside; holds = ap not t; before = λ f l. ap not (lower f l) }))
 
-  refused-3 : expressionOk T e ≡ false → answer T call ≡ Verdict.Refused (refusal 3 e 0 0)
+  refused-3 : expressionOk T e ≡ false → answer T R call ≡ Verdict.Refused (refusal 3 e 0 0)
   unfolding formCheck tablesCheck
   refused-3 t =
       let before = both-accepted (headCheck (T .features) (T .attributes)) (lengthsCheck T) passed in
-      form-refused T call (then-refused _ (then-next (before .0) ∙ then-next (before .1) ∙ then-refused _ (check-3 t)))
+      form-refused T R call (then-refused _ (then-next (before .0) ∙ then-next (before .1) ∙ then-refused _ (check-3 t)))
 
   pub range-refused : (first count : ℕ) → IsKind6 T e first count → (count < 1) ⊎ (10 < count) ⊎ (T .features < first + count)
-      → answer T call ≡ Verdict.Refused (refusal 3 e 0 0)
+      → answer T R call ≡ Verdict.Refused (refusal 3 e 0 0)
   range-refused first count K out = refused-3 (kind-6-fits K ∙ out-of-range (T .features) first count out)
 
   -- and a kind over 6
-  pub kind-refused : 7 ≤ getD (T .expressions) (e * 3) 0 → answer T call ≡ Verdict.Refused (refusal 3 e 0 0)
+  pub kind-refused : 7 ≤ getD (T .expressions) (e * 3) 0 → answer T R call ≡ Verdict.Refused (refusal 3 e 0 0)
   kind-refused h =
       refused-3 (ap (expressionFits (T .features) e) (unknown-kind _ (word (T .expressions) 3 e 1) (word (T .expressions) 3 e 2) h))
 
@@ -172,29 +173,30 @@ module _ (T : Tables) (worked : T .truth ≡ holds (T .expressions)) (first coun
     λ o. ap₂ _&&_ (lt-ltb c (configurations T) (o .0)) (kind-6-truth K worked c ∙ exactly-one first count c .1 (o .1)),
   )
 
-  -- so after a check that accepted, a row has those alone
-  pub model-rows : (rows rows′ : List ℕ) → Checks T rows Verdict.Accepted rows′
-      → (a c : ℕ) → a < 64 → c < 1024 → rowBit (rowIn 16 rows′ a) c ≡ true → OneOn first count c
-  model-rows rows rows′ checks a c h l e =
-      let has = sym (row-shows T a c h l) ∙ ap (λ (r : List ℕ). rowBit (rowIn 16 r a) c) (sym (left-rows T rows rows′ checks)) ∙ e in
-      model-permits c .0 (and-eq-true-iff (permitted T c) (bit (setOf T c (report T)) a) .0 has .0) .1
+  module _ (R : Reading) where
+    -- so after a check that accepted, a row has those alone
+    pub model-rows : (rows rows′ : List ℕ) → Checks T R rows Verdict.Accepted rows′
+        → (a c : ℕ) → a < 64 → c < 1024 → rowBit (rowIn 16 rows′ a) c ≡ true → OneOn first count c
+    model-rows rows rows′ checks a c h l e =
+        let has = sym (row-shows T a c h l) ∙ ap (λ (r : List ℕ). rowBit (rowIn 16 r a) c) (sym (left-rows T R rows rows′ checks)) ∙ e in
+        model-permits c .0 (and-eq-true-iff (permitted T c) (bit (setOf T c (report T)) a) .0 has .0) .1
 
-  -- a page has lines of those alone
-  pub model-lines : (lent : List ℕ) (r : PageAnswer) (bytes : List ℕ) → PageWritten T lent r bytes → {n : ℕ} → r ≡ PageAnswer.Lines n
-      → (k : ℕ) → k < n → (c : ℕ) × OneOn first count c × LineShows c (columnsAt T c) (lineAt bytes k)
-  model-lines lent r bytes written e k h =
-      let page = page-shows T lent r bytes written e in
-      let c = page .all k h in
-      (c .0, model-permits (c .0) .0 (c .1) .1, rw (c .2) at (page .line (c .0) (c .1) .1))
+    -- a page has lines of those alone
+    pub model-lines : (lent : List ℕ) (r : PageAnswer) (bytes : List ℕ) → PageWritten T R lent r bytes → {n : ℕ} → r ≡ PageAnswer.Lines n
+        → (k : ℕ) → k < n → (c : ℕ) × OneOn first count c × LineShows c (columnsAt T R c) (lineAt bytes k)
+    model-lines lent r bytes written e k h =
+        let page = page-shows T R lent r bytes written e in
+        let c = page .all k h in
+        (c .0, model-permits (c .0) .0 (c .1) .1, rw (c .2) at (page .line (c .0) (c .1) .1))
 
-  -- one of those is found
-  pub model-found : (wanted : ℕ) (r : FindAnswer) → Finds T wanted r → {c : ℕ} → r ≡ FindAnswer.At c → OneOn first count c
-  model-found wanted r finds {c} e = model-permits c .0 (find-found T wanted r finds e .1 .permits) .1
+    -- one of those is found
+    pub model-found : (wanted : ℕ) (r : FindAnswer) → Finds T R wanted r → {c : ℕ} → r ≡ FindAnswer.At c → OneOn first count c
+    model-found wanted r finds {c} e = model-permits c .0 (find-found T R wanted r finds e .1 .permits) .1
 
-  -- and at those alone is the report configured
-  pub model-written : (c : ℕ) (entries relations comparisons queries : List ℕ) (r : Configured) (entries′ relations′ comparisons′ queries′ : List ℕ)
-      → Configures T c entries relations comparisons queries r entries′ relations′ comparisons′ queries′
-      → (n1 n2 n3 n4 : ℕ) → r ≡ Configured.Written n1 n2 n3 n4 → OneOn first count c
-  model-written c entries relations comparisons queries r entries′ relations′ comparisons′ queries′ configures n1 n2 n3 n4 e =
-      model-permits c .0
-      (written-permitted T c entries relations comparisons queries r entries′ relations′ comparisons′ queries′ configures n1 n2 n3 n4 e) .1
+    -- and at those alone is the report configured
+    pub model-written : (c : ℕ) (entries relations comparisons queries : List ℕ) (r : Configured) (entries′ relations′ comparisons′ queries′ : List ℕ)
+        → Configures T R c entries relations comparisons queries r entries′ relations′ comparisons′ queries′
+        → (n1 n2 n3 n4 : ℕ) → r ≡ Configured.Written n1 n2 n3 n4 → OneOn first count c
+    model-written c entries relations comparisons queries r entries′ relations′ comparisons′ queries′ configures n1 n2 n3 n4 e =
+        model-permits c .0
+        (written-permitted T R c entries relations comparisons queries r entries′ relations′ comparisons′ queries′ configures n1 n2 n3 n4 e) .1

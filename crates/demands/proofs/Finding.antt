@@ -1,4 +1,4 @@
--- Wish 1, of the call `find`: each theorem takes what its promise says (`Finds` in finding/specs/Finding), for every set of tables T and every wanted
+-- Wish 1, of the call `find`: each theorem takes what its promise says (`Finds` in finding/specs/Finding), for every set of tables T, reading and wanted
 -- set. The terms are those of Demands, and those of specs/FoundConfiguration.
 use Prim.Native.Nat.{ℕ, _^_, _≤_, _<_}
 use mathlib.Core.Path.{_≡_, refl, sym, ap, ap₂, _∙_}
@@ -24,6 +24,7 @@ use Rattle.report.specs.TypingFaults.{Broken, Named}
 use Rattle.report.specs.GivenDemands.{PassesThroughout}
 use Rattle.report.specs.declared.Refusal.{Refusal}
 use Rattle.report.specs.declared.Verdict.{Verdict}
+use Rattle.report.specs.declared.Reading.{Reading}
 use Rattle.report.proofs.VerdictLaws.{accepted-not-refused, then-next}
 use Rattle.report.proofs.FirstFault.{first-none, first-one}
 use Rattle.report.proofs.CallLaws.{given-answer, own-gets}
@@ -93,9 +94,9 @@ refused-part Verdict.Accepted (Found.At d) e = absurd (let z : _≡_ {A = ℕ} 0
 refused-part Verdict.Accepted Found.Nothing e = absurd (let z : _≡_ {A = ℕ} 0 1 = cc in omega arith)
 refused-part (Verdict.Refused r) f e = cc
 
-module _ (T : Tables) (wanted : ℕ) (r : FindAnswer) (finds : Finds T wanted r) where
+module _ (T : Tables) (R : Reading) (wanted : ℕ) (r : FindAnswer) (finds : Finds T R wanted r) where
   abbrev verdict : Verdict
-  verdict = answer T (finding wanted)
+  verdict = answer T R (finding wanted)
 
   told-by : {v : Verdict} → verdict ≡ v → r ≡ foundAnswer v (lowestWanted T wanted)
   told-by e = finds ∙ ap (λ (v : Verdict). foundAnswer v (lowestWanted T wanted)) e
@@ -108,11 +109,11 @@ module _ (T : Tables) (wanted : ℕ) (r : FindAnswer) (finds : Finds T wanted r)
 
   -- ---- demand 1: it is refused exactly by the first of its conditions that hold
 
-  says : (x : Refusal) → (r ≡ FindAnswer.Refused x) ↔ (verdict ≡ Verdict.Refused x)
-  says x = (λ e. refused-part verdict (lowestWanted T wanted) (sym e ∙ finds), λ e. told-by e)
+  pub find-says : (x : Refusal) → (r ≡ FindAnswer.Refused x) ↔ (verdict ≡ Verdict.Refused x)
+  find-says x = (λ e. refused-part verdict (lowestWanted T wanted) (sym e ∙ finds), λ e. told-by e)
 
-  pub find-foremost : (x : Refusal) → (r ≡ FindAnswer.Refused x) ↔ Foremost (conditions T (finding wanted)) x
-  find-foremost = call-foremost T (finding wanted) FindAnswer.Refused says
+  pub find-foremost : (x : Refusal) → (r ≡ FindAnswer.Refused x) ↔ Foremost (conditions T R (finding wanted)) x
+  find-foremost = call-foremost T R (finding wanted) FindAnswer.Refused find-says
 
   -- ---- "return the lowest permitted configuration whose set holds them all, or none when no permitted configuration has them"
 
@@ -124,17 +125,17 @@ module _ (T : Tables) (wanted : ℕ) (r : FindAnswer) (finds : Finds T wanted r)
     none-in : r ≡ FindAnswer.None → NoneWith T set wanted
     none-in e = let p = none-answer e in wanted-nowhere T wanted (same (p .0)) .0 (p .1)
 
-  configured-set : verdict ≡ Verdict.Accepted → (c : ℕ) → permitted T c ≡ true → setOf T c (report T) ≡ columnsAt T c
-  configured-set e c p = sym (called-columns T (finding wanted) e c p)
+  configured-set : verdict ≡ Verdict.Accepted → (c : ℕ) → permitted T c ≡ true → setOf T c (report T) ≡ columnsAt T R c
+  configured-set e c p = sym (called-columns T R (finding wanted) e c p)
 
   -- found: c is permitted, the configured report at c passes the plain rules and its columns hold every wanted attribute, and at no lower permitted
   -- configuration do they
   pub find-found : {c : ℕ} → r ≡ FindAnswer.At c
-      → (passes (kindOf T) (configuredSchema T c) (configuredReport T c) ≡ true) × LowestWith T (columnsAt T) wanted c
-  find-found {c} e = let l = found-in configured-set e in (called-passes T (finding wanted) (at-answer e .0) c (l .permits), l)
+      → (passes (kindOf T) (configuredSchema T c) (configuredReport T c R) ≡ true) × LowestWith T (columnsAt T R) wanted c
+  find-found {c} e = let l = found-in configured-set e in (called-passes T R (finding wanted) (at-answer e .0) c (l .permits), l)
 
   -- none: at no permitted configuration do they
-  pub find-none : r ≡ FindAnswer.None → NoneWith T (columnsAt T) wanted
+  pub find-none : r ≡ FindAnswer.None → NoneWith T (columnsAt T R) wanted
   find-none = none-in configured-set
 
   -- and unless it is refused, it answers so exactly then
@@ -146,16 +147,16 @@ module _ (T : Tables) (wanted : ℕ) (r : FindAnswer) (finds : Finds T wanted r)
         go Verdict.Accepted e = refl
         go (Verdict.Refused x) e = absurd (answered x (told-by e))
 
-    pub found-exactly : (c : ℕ) → (r ≡ FindAnswer.At c) ↔ LowestWith T (columnsAt T) wanted c
+    pub found-exactly : (c : ℕ) → (r ≡ FindAnswer.At c) ↔ LowestWith T (columnsAt T R) wanted c
     found-exactly c = (λ e. find-found e .1, λ l. finds ∙ ap₂ foundAnswer accepted (wanted-at T wanted (configured-set accepted) c .1 l))
 
-    pub none-exactly : (r ≡ FindAnswer.None) ↔ NoneWith T (columnsAt T) wanted
+    pub none-exactly : (r ≡ FindAnswer.None) ↔ NoneWith T (columnsAt T R) wanted
     none-exactly = (find-none, λ n. finds ∙ ap₂ foundAnswer accepted (wanted-nowhere T wanted (configured-set accepted) .1 n))
 
   -- the same of any sets that keep the typing rules
   module _ (S : ℕ → ℕ → ℕ) (keep : (c : ℕ) → permitted T c ≡ true → Rules T c (S c)) where
     ruled-set : verdict ≡ Verdict.Accepted → (c : ℕ) → permitted T c ≡ true → setOf T c (report T) ≡ S c (report T)
-    ruled-set e c p = let F = called-formed T (finding wanted) e in sym (rules-sets F c p (S c) (keep c p) (report T) (reached-report F c p) .0)
+    ruled-set e c p = let F = called-formed T R (finding wanted) e in sym (rules-sets F c p (S c) (keep c p) (report T) (reached-report F c p) .0)
 
     pub find-ruled : {c : ℕ} → r ≡ FindAnswer.At c → LowestWith T (λ d. S d (report T)) wanted c
     find-ruled = found-in ruled-set
@@ -165,10 +166,10 @@ module _ (T : Tables) (wanted : ℕ) (r : FindAnswer) (finds : Finds T wanted r)
 
   -- ---- after a check that accepted, and left these rows
 
-  module _ (rows rows′ : List ℕ) (checks : Checks T rows Verdict.Accepted rows′) where
+  module _ (rows rows′ : List ℕ) (checks : Checks T R rows Verdict.Accepted rows′) where
     -- the configuration is read off them
     shown-set : verdict ≡ Verdict.Accepted → (c : ℕ) → permitted T c ≡ true → setOf T c (report T) ≡ shown rows′ c
-    shown-set e c p = configured-set e c p ∙ found-afterwards T rows rows′ checks c p .1
+    shown-set e c p = configured-set e c p ∙ found-afterwards T R rows rows′ checks c p .1
 
     pub find-shown : {c : ℕ} → r ≡ FindAnswer.At c → LowestWith T (shown rows′) wanted c
     find-shown = found-in shown-set
@@ -179,14 +180,14 @@ module _ (T : Tables) (wanted : ℕ) (r : FindAnswer) (finds : Finds T wanted r)
     -- "22 the set has a bit at or above m, checked after 19": it is refused for that alone
     find-late : verdict ≡ refuseIf (hasFrom wanted (T .attributes)) (refusal 22 0 0 0)
     find-late =
-        given-answer (whole T) (finding wanted) (own-gets (whole T) (finding wanted) (called-sound T _ (sym (checks .0))) .1 first-none)
-        ∙ then-next (called-typed T _ (sym (checks .0))) ∙ first-one _ _
+        given-answer (whole T) R (finding wanted) (own-gets (whole T) (finding wanted) (called-sound T R _ (sym (checks .0))) .1 first-none)
+        ∙ then-next (called-typed T R _ (sym (checks .0))) ∙ first-one _ _
 
     pub find-refused : wanted < 2 ^ 64 → (x : Refusal)
         → (r ≡ FindAnswer.Refused x) ↔ ((x ≡ refusal 22 0 0 0) × ((a : ℕ) × (T .attributes ≤ a) × (bit wanted a ≡ true)))
     find-refused narrow x =
         let h = from-member 64 wanted (T .attributes) narrow in (
-          λ e. go (h .0) (hasFrom wanted (T .attributes)) refl (sym find-late ∙ says x .0 e),
+          λ e. go (h .0) (hasFrom wanted (T .attributes)) refl (sym find-late ∙ find-says x .0 e),
           λ q. told-by (find-late ∙ ap₂ refuseIf (h .1 (q .1)) (sym (q .0))),
         )
       where
@@ -201,31 +202,32 @@ pub finding-own : (wanted : ℕ) → OwnNumbers (finding wanted)
 unfolding _gives_
 finding-own wanted = record { early = λ T. refl; late = λ T. refl }
 
-pub find-early : (T : Tables) (wanted : ℕ)
-    → ((r : Refusal) × (answer T (finding wanted) ≡ Verdict.Refused r) × (isEarly (r .number) ≡ true)) ↔ (Sound T → ⊥)
-find-early T wanted = own-early T (finding-own wanted) first-none
+pub find-early : (T : Tables) (R : Reading) (wanted : ℕ)
+    → ((r : Refusal) × (answer T R (finding wanted) ≡ Verdict.Refused r) × (isEarly (r .number) ≡ true)) ↔ (Sound T → ⊥)
+find-early T R wanted = own-early T R (finding-own wanted) first-none
 
 module _ (T : Tables) (sound : Sound T) (wanted : ℕ) where
   -- on sound tables it gets as far as typing, whatever is wanted
   pub which-find : GetsAsFarAsTyping T (finding wanted)
   which-find = own-gets (whole T) (finding wanted) sound .1 first-none
 
-  module _ (r : FindAnswer) (finds : Finds T wanted r) where
-    find-fault : isFindFault r ≡ isTypingFault (answer T (finding wanted))
-    find-fault = ap isFindFault finds ∙ go (answer T (finding wanted)) (lowestWanted T wanted)
-      where
-        go : (v : Verdict) (f : Found) → isFindFault (foundAnswer v f) ≡ isTypingFault v
-        go Verdict.Accepted (Found.At c) = refl
-        go Verdict.Accepted Found.Nothing = refl
-        go (Verdict.Refused x) f = refl
+  find-fault : (R : Reading) {r : FindAnswer} → Finds T R wanted r → isFindFault r ≡ isTypingFault (answer T R (finding wanted))
+  find-fault R finds = ap isFindFault finds ∙ go (answer T R (finding wanted)) (lowestWanted T wanted)
+    where
+      go : (v : Verdict) (f : Found) → isFindFault (foundAnswer v f) ≡ isTypingFault v
+      go Verdict.Accepted (Found.At c) = refl
+      go Verdict.Accepted Found.Nothing = refl
+      go (Verdict.Refused x) f = refl
 
+  -- in the strict reading
+  module _ (r : FindAnswer) (finds : Finds T Reading.Strict wanted r) where
     pub find-refuses : (isFindFault r ≡ true) ↔ Broken T
-    find-refuses = call-refuses T (finding-own wanted) which-find find-fault
+    find-refuses = call-refuses T (finding-own wanted) which-find (find-fault Reading.Strict finds)
 
     pub find-names : isFindFault r ≡ true → (n : Named T (finding wanted)) × (r ≡ FindAnswer.Refused (n .refuses))
     find-names e =
-        let n = call-names T (finding-own wanted) which-find find-fault e in
-        (n, told-by T wanted r finds (n .answers))
+        let n = call-names T (finding-own wanted) which-find (find-fault Reading.Strict finds) e in
+        (n, told-by T Reading.Strict wanted r finds (n .answers))
 
     pub find-never : PassesThroughout T → isFindFault r ≡ false
-    find-never = call-never T (finding-own wanted) which-find find-fault
+    find-never = call-never T (finding-own wanted) which-find (find-fault Reading.Strict finds)

@@ -27,6 +27,7 @@ use Rattle.report.specs.Calls.{Call, answer, checking, configuring}
 use Rattle.report.specs.Repeats.{NoRepeats, answerBefore, configuredBefore}
 use Rattle.report.specs.declared.Verdict.{Verdict}
 use Rattle.report.specs.declared.Query.{Query}
+use Rattle.report.specs.declared.Reading.{Reading}
 use Rattle.report.proofs.VerdictLaws.{both-accepted, at-accepted, first-accepted}
 use Rattle.report.proofs.FormFacts.{list-inside, query-lower}
 use Rattle.report.proofs.FitLaws.{list-fits, query-fits}
@@ -56,23 +57,23 @@ module _ (T : Tables) (c : ℕ) (S : ℕ → ℕ) (keeps : Rules T c S) (q : ℕ
   pub project-has : (n b : ℕ) → query (T .queries) q ≡ Query.Project n b → (a : ℕ) → (bit (S q) a ≡ true) ↔ Entry T c (projectStart T q) n a
   project-has n b form a = rw ((rw form at (keeps q there)) .1) (joined-members T c (projectStart T q) n a)
 
-module _ (T : Tables) (rows rows′ : List ℕ) (checks : Checks T rows Verdict.Accepted rows′) where
-  accepts : answer T (checking (length rows)) ≡ Verdict.Accepted
+module _ (T : Tables) (rows rows′ : List ℕ) (checks : Checks T Reading.Strict rows Verdict.Accepted rows′) where
+  accepts : answer T Reading.Strict (checking (length rows)) ≡ Verdict.Accepted
   accepts = sym (checks .0)
 
   -- so the rows that an accepting check leaves show it: of a report that is a relation, or a project form
   module _ (c : ℕ) (chosen : permitted T c ≡ true) where
     keeps : Rules T c (setOf T c)
     keeps =
-        let sound = called-sound T _ accepts in
-        accepted-sets T sound (check-typing T sound ∙ called-typed T _ accepts) c chosen
+        let sound = called-sound T Reading.Strict _ accepts in
+        accepted-sets T sound (check-typing T Reading.Strict sound ∙ called-typed T Reading.Strict _ accepts) c chosen
 
     shows : setOf T c (report T) ≡ shown rows′ c
     shows =
-        accepted-shown T (called-sound T _ accepts) c chosen (setOf T c) keeps ∙ ap (λ (l : List ℕ). shown l c) (sym (left-rows T rows rows′ checks))
+        accepted-shown T (called-sound T Reading.Strict _ accepts) c chosen (setOf T c) keeps ∙ ap (λ (l : List ℕ). shown l c) (sym (left-rows T Reading.Strict rows rows′ checks))
 
     here : reached T c (report T) ≡ true
-    here = reached-report (called-formed T _ accepts) c chosen
+    here = reached-report (called-formed T Reading.Strict _ accepts) c chosen
 
     pub relation-shown : (r : ℕ) → query (T .queries) (report T) ≡ Query.Relation r → (a : ℕ)
         → (bit (shown rows′ c) a ≡ true) ↔ Entry T c (relationStart (T .relations) r) (relationLength (T .relations) r) a
@@ -87,7 +88,7 @@ module _ (T : Tables) (rows rows′ : List ℕ) (checks : Checks T rows Verdict.
   pub entry-somewhere : (r i : ℕ) → r < relationCount T → i < relationLength (T .relations) r
       → (c : ℕ) × (permitted T c ≡ true) × (present T c r ≡ true) × (entryHolds T c (relationStart (T .relations) r + i) ≡ true)
   entry-somewhere r i h l =
-      let schema = sound-checks T .0 (called-sound T (checking (length rows)) accepts) .2 in
+      let schema = sound-checks T .0 (called-sound T Reading.Strict (checking (length rows)) accepts) .2 in
       let each = first-accepted (relationCheck T) (relationCount T) 0 schema r (omega arith) (omega arith) in
       let n = relationLength (T .relations) r in
       let start = relationStart (T .relations) r in
@@ -115,40 +116,43 @@ module _ (T : Tables) where
   eight-asks q n b form = rw form (query-lower T q (Query.Project n b), query-fits T q (Query.Project n b))
 
 -- ---- "Configuring keeps each attribute's first entry that holds" (`kept-first`, crate report, proofs/KeptLists): of the words that `configure`
--- leaves, no list holds an attribute twice
+-- leaves, in either reading, no list holds an attribute twice
 
-module _ (T : Tables) (c : ℕ) (newEntries newRelations newComparisons newQueries : List ℕ) (r : Configured)
+module _ (T : Tables) (R : Reading) (c : ℕ) (newEntries newRelations newComparisons newQueries : List ℕ) (r : Configured)
     (newEntries′ newRelations′ newComparisons′ newQueries′ : List ℕ)
-    (configures : Configures T c newEntries newRelations newComparisons newQueries r newEntries′ newRelations′ newComparisons′ newQueries′) where
+    (configures : Configures T R c newEntries newRelations newComparisons newQueries r newEntries′ newRelations′ newComparisons′ newQueries′) where
   pub configure-once : (a b d e : ℕ) → r ≡ Configured.Written a b d e
       → NoRepeats
       (tablesOf 0 (T .attributes) 0 (1 ∷ 0 ∷ 0 ∷ [])
       (take (a * 2) newEntries′) (take (b * 2) newRelations′) (take (d * 5) newComparisons′) (take (e * 4) newQueries′) (T .kinds))
   configure-once a b d e written =
-      let w = written-alone T c _ _ _ _ r _ _ _ _ configures a b d e written in
+      let w = written-alone T R c _ _ _ _ r _ _ _ _ configures a b d e written in
       rw (w .readBack a b d e written) (w .accepted .written .writes .once)
 
-  -- ---- Where no list has an attribute twice, every answer and word is what it was
+-- ---- Where no list has an attribute twice, every answer and word is what it was
 
+module _ (T : Tables) (c : ℕ) (newEntries newRelations newComparisons newQueries : List ℕ) (r : Configured)
+    (newEntries′ newRelations′ newComparisons′ newQueries′ : List ℕ)
+    (configures : Configures T Reading.Strict c newEntries newRelations newComparisons newQueries r newEntries′ newRelations′ newComparisons′ newQueries′) where
   pub configure-before : NoRepeats T
       → Leaves (answerBefore T (configuring c (length newEntries) (length newRelations) (length newComparisons) (length newQueries)))
       (configuredBefore T c) newEntries newRelations newComparisons newQueries r newEntries′ newRelations′ newComparisons′ newQueries′
-  configure-before once = rw (← answer-before once call) (go (answer T call) refl configures)
+  configure-before once = rw (← answer-before once call) (go (answer T Reading.Strict call) refl configures)
     where
       call : Call
       call = configuring c (length newEntries) (length newRelations) (length newComparisons) (length newQueries)
 
-      go : (v : Verdict) → answer T call ≡ v
-          → Leaves v (configured T c) newEntries newRelations newComparisons newQueries r newEntries′ newRelations′ newComparisons′ newQueries′
+      go : (v : Verdict) → answer T Reading.Strict call ≡ v
+          → Leaves v (configured T c Reading.Strict) newEntries newRelations newComparisons newQueries r newEntries′ newRelations′ newComparisons′ newQueries′
           → Leaves v (configuredBefore T c) newEntries newRelations newComparisons newQueries r newEntries′ newRelations′ newComparisons′ newQueries′
-      go Verdict.Accepted e l = rw (← written-before (called-formed T call e) once c) l
+      go Verdict.Accepted e l = rw (← written-before (called-formed T Reading.Strict call e) once c) l
       go (Verdict.Refused x) e l =
           record { answers = l .answers; entries = l .entries; relations = l .relations; comparisons = l .comparisons; queries = l .queries }
 
-pub check-before : (T : Tables) → NoRepeats T → (rows rows′ : List ℕ) (r : Verdict) → Checks T rows r rows′
+pub check-before : (T : Tables) → NoRepeats T → (rows rows′ : List ℕ) (r : Verdict) → Checks T Reading.Strict rows r rows′
     → (r ≡ answerBefore T (checking (length rows))) × (rows′ ≡ after (answerBefore T (checking (length rows))) (columnRows T) rows)
 check-before T once rows rows′ r checks = rw (← answer-before once (checking (length rows))) checks
 
-pub find-before : (T : Tables) → NoRepeats T → (wanted : ℕ) (r : FindAnswer) → Finds T wanted r
+pub find-before : (T : Tables) → NoRepeats T → (wanted : ℕ) (r : FindAnswer) → Finds T Reading.Strict wanted r
     → r ≡ foundAnswer (answerBefore T (finding wanted)) (lowestWanted T wanted)
 find-before T once wanted r finds = rw (← answer-before once (finding wanted)) finds

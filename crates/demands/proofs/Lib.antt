@@ -5,3 +5,4 @@ pub mod WallPage
 pub mod ExactlyOne
 pub mod ComparedKinds
 pub mod CallGuards
+pub mod Filled

@@ -1,4 +1,4 @@
--- Wish 3, of the call `write_page`: each theorem takes what its promise says (`PageWritten` in wall_page/specs/Page), for every set of tables T and all
+-- Wish 3, of the call `write_page`: each theorem takes what its promise says (`PageWritten` in wall_page/specs/Page), for every set of tables T, reading and
 -- bytes lent. The terms are those of Demands, and those of specs/PageLines.
 use Prim.Native.Nat.{ℕ, _+_, _*_, _≤_, _<_}
 use mathlib.Core.Path.{_≡_, refl, sym, ap, ap₂, _∙_}
@@ -32,6 +32,7 @@ use Rattle.report.specs.TypingFaults.{Broken, Named}
 use Rattle.report.specs.GivenDemands.{PassesThroughout}
 use Rattle.report.specs.declared.Refusal.{Refusal}
 use Rattle.report.specs.declared.Verdict.{Verdict}
+use Rattle.report.specs.declared.Reading.{Reading}
 use Rattle.report.proofs.VerdictLaws.{accepted-not-refused, if-accepted, then-next}
 use Rattle.report.proofs.FirstFault.{first-none, first-one}
 use Rattle.report.proofs.CallLaws.{given-answer, own-gets}
@@ -85,29 +86,29 @@ refused-part : {x : Refusal} (v : Verdict) (lines : ℕ) → PageAnswer.Refused 
 refused-part Verdict.Accepted lines e = absurd (let z : _≡_ {A = ℕ} 0 1 = cc in omega arith)
 refused-part (Verdict.Refused x) lines e = cc
 
-module _ (T : Tables) (lent : List ℕ) (r : PageAnswer) (bytes : List ℕ) (writes : PageWritten T lent r bytes) where
+module _ (T : Tables) (R : Reading) (lent : List ℕ) (r : PageAnswer) (bytes : List ℕ) (writes : PageWritten T R lent r bytes) where
   abbrev call : Call
   call = writingPage (length lent)
 
-  told-by : {v : Verdict} → answer T call ≡ v → r ≡ pageAnswer v (lineCount T)
+  told-by : {v : Verdict} → answer T R call ≡ v → r ≡ pageAnswer v (lineCount T)
   told-by e = writes .answers ∙ ap (λ (v : Verdict). pageAnswer v (lineCount T)) e
 
-  refused-answer : {x : Refusal} → r ≡ PageAnswer.Refused x → answer T call ≡ Verdict.Refused x
-  refused-answer e = refused-part (answer T call) (lineCount T) (sym e ∙ writes .answers)
+  refused-answer : {x : Refusal} → r ≡ PageAnswer.Refused x → answer T R call ≡ Verdict.Refused x
+  refused-answer e = refused-part (answer T R call) (lineCount T) (sym e ∙ writes .answers)
 
-  lines-answer : {n : ℕ} → r ≡ PageAnswer.Lines n → (answer T call ≡ Verdict.Accepted) × (n ≡ lineCount T)
-  lines-answer e = lines-part (answer T call) (lineCount T) (sym e ∙ writes .answers)
+  lines-answer : {n : ℕ} → r ≡ PageAnswer.Lines n → (answer T R call ≡ Verdict.Accepted) × (n ≡ lineCount T)
+  lines-answer e = lines-part (answer T R call) (lineCount T) (sym e ∙ writes .answers)
 
   -- ---- demand 1: it is refused exactly by the first of its conditions that hold, and a refused call changes no byte
 
-  says : (x : Refusal) → (r ≡ PageAnswer.Refused x) ↔ (answer T call ≡ Verdict.Refused x)
-  says x = (refused-answer, told-by)
+  pub page-says : (x : Refusal) → (r ≡ PageAnswer.Refused x) ↔ (answer T R call ≡ Verdict.Refused x)
+  page-says x = (refused-answer, told-by)
 
-  pub page-foremost : (x : Refusal) → (r ≡ PageAnswer.Refused x) ↔ Foremost (conditions T call) x
-  page-foremost = call-foremost T call PageAnswer.Refused says
+  pub page-foremost : (x : Refusal) → (r ≡ PageAnswer.Refused x) ↔ Foremost (conditions T R call) x
+  page-foremost = call-foremost T R call PageAnswer.Refused page-says
 
   pub page-unchanged : (x : Refusal) → r ≡ PageAnswer.Refused x → bytes ≡ lent
-  page-unchanged = call-unchanged T call PageAnswer.Refused says (written (page T) lent) (writes .stored)
+  page-unchanged = call-unchanged T R call PageAnswer.Refused page-says (written (page T) lent) (writes .stored)
 
   -- ---- the lines
 
@@ -116,9 +117,9 @@ module _ (T : Tables) (lent : List ℕ) (r : PageAnswer) (bytes : List ℕ) (wri
   unfolding lineCount
   page-lines e = lines-answer e .1
 
-  module _ (accepted : answer T call ≡ Verdict.Accepted) where
+  module _ (accepted : answer T R call ≡ Verdict.Accepted) where
     F : Formed T
-    F = called-formed T call accepted
+    F = called-formed T R call accepted
 
     left : bytes ≡ page T ++ drop (length (page T)) lent
     left = writes .stored ∙ ap (λ (v : Verdict). after v (written (page T) lent) lent) accepted
@@ -127,7 +128,7 @@ module _ (T : Tables) (lent : List ℕ) (r : PageAnswer) (bytes : List ℕ) (wri
     enough =
         ltb-false (length lent) (73 * lineCount T)
         (if-accepted (ltb (length lent) (73 * lineCount T)) (refusal 23 0 0 0)
-        (sym (first-one (ltb (length lent) (73 * lineCount T)) (refusal 23 0 0 0)) ∙ called-own T call accepted))
+        (sym (first-one (ltb (length lent) (73 * lineCount T)) (refusal 23 0 0 0)) ∙ called-own T R call accepted))
 
     below : (c : ℕ) → permitted T c ≡ true → lineOf T c < lineCount T
     unfolding lineCount
@@ -162,30 +163,30 @@ module _ (T : Tables) (lent : List ℕ) (r : PageAnswer) (bytes : List ℕ) (wri
     }
 
   -- of sets that are the report's wherever the call accepts
-  page-in : {set : ℕ → ℕ} → (answer T call ≡ Verdict.Accepted → (c : ℕ) → permitted T c ≡ true → setOf T c (report T) ≡ set c) → {n : ℕ}
+  page-in : {set : ℕ → ℕ} → (answer T R call ≡ Verdict.Accepted → (c : ℕ) → permitted T c ≡ true → setOf T c (report T) ≡ set c) → {n : ℕ}
       → r ≡ PageAnswer.Lines n → PageShows T set lent n bytes
   page-in {set} same e =
       let p = lines-answer e in rw (p .1) (shows (p .0) (same (p .0)))
 
   -- written: the line of each permitted configuration shows the columns of the report configured there, which passes the plain rules
-  pub page-shows : {n : ℕ} → r ≡ PageAnswer.Lines n → PageShows T (columnsAt T) lent n bytes
-  page-shows = page-in (λ a c p. sym (called-columns T call a c p))
+  pub page-shows : {n : ℕ} → r ≡ PageAnswer.Lines n → PageShows T (columnsAt T R) lent n bytes
+  page-shows = page-in (λ a c p. sym (called-columns T R call a c p))
 
-  pub page-passes : {n : ℕ} → r ≡ PageAnswer.Lines n → (c : ℕ) → permitted T c ≡ true → passes (kindOf T) (configuredSchema T c) (configuredReport T c) ≡ true
-  page-passes e c p = called-passes T call (lines-answer e .0) c p
+  pub page-passes : {n : ℕ} → r ≡ PageAnswer.Lines n → (c : ℕ) → permitted T c ≡ true → passes (kindOf T) (configuredSchema T c) (configuredReport T c R) ≡ true
+  page-passes e c p = called-passes T R call (lines-answer e .0) c p
 
   -- the same of any sets that keep the typing rules
   pub page-ruled : (S : ℕ → ℕ → ℕ) → ((c : ℕ) → permitted T c ≡ true → Rules T c (S c)) → {n : ℕ} → r ≡ PageAnswer.Lines n
       → PageShows T (λ c. S c (report T)) lent n bytes
   page-ruled S keep =
       page-in (λ a c p.
-      let F = called-formed T call a in sym (rules-sets F c p (S c) (keep c p) (report T) (reached-report F c p) .0))
+      let F = called-formed T R call a in sym (rules-sets F c p (S c) (keep c p) (report T) (reached-report F c p) .0))
 
   -- ---- after a check that accepted, and left these rows
 
-  module _ (rows rows′ : List ℕ) (checks : Checks T rows Verdict.Accepted rows′) where
-    shown-set : answer T call ≡ Verdict.Accepted → (c : ℕ) → permitted T c ≡ true → setOf T c (report T) ≡ shown rows′ c
-    shown-set a c p = sym (called-columns T call a c p) ∙ found-afterwards T rows rows′ checks c p .1
+  module _ (rows rows′ : List ℕ) (checks : Checks T R rows Verdict.Accepted rows′) where
+    shown-set : answer T R call ≡ Verdict.Accepted → (c : ℕ) → permitted T c ≡ true → setOf T c (report T) ≡ shown rows′ c
+    shown-set a c p = sym (called-columns T R call a c p) ∙ found-afterwards T R rows rows′ checks c p .1
 
     -- "every mark agrees with its row bit": in the line of c, byte 5 + a is `o` exactly where row a has bit c, and `.` exactly where it has not
     pub page-rows : {n : ℕ} → r ≡ PageAnswer.Lines n → (c a : ℕ) → permitted T c ≡ true → a < 64
@@ -197,10 +198,10 @@ module _ (T : Tables) (lent : List ℕ) (r : PageAnswer) (bytes : List ℕ) (wri
         (rw same at (l .present a h), rw same at (l .absent a h))
 
     -- "23 the lent page is shorter than 73 × the number of lines, checked after 19": it is refused for that alone, and else written
-    page-late : answer T call ≡ refuseIf (ltb (length lent) (73 * lineCount T)) (refusal 23 0 0 0)
+    page-late : answer T R call ≡ refuseIf (ltb (length lent) (73 * lineCount T)) (refusal 23 0 0 0)
     page-late =
-        given-answer (whole T) call (own-gets (whole T) call (called-sound T _ (sym (checks .0))) .1 first-none)
-        ∙ then-next (called-typed T _ (sym (checks .0))) ∙ first-one _ _
+        given-answer (whole T) R call (own-gets (whole T) call (called-sound T R _ (sym (checks .0))) .1 first-none)
+        ∙ then-next (called-typed T R _ (sym (checks .0))) ∙ first-one _ _
 
     pub page-refused : (x : Refusal) → (r ≡ PageAnswer.Refused x) ↔ ((x ≡ refusal 23 0 0 0) × (length lent < 73 * lineCount T))
     page-refused x = (
@@ -225,29 +226,31 @@ pub page-own : (room : ℕ) → OwnNumbers (writingPage room)
 unfolding _gives_
 page-own room = record { early = λ T. refl; late = λ T. refl }
 
-pub page-early : (T : Tables) (room : ℕ)
-    → ((r : Refusal) × (answer T (writingPage room) ≡ Verdict.Refused r) × (isEarly (r .number) ≡ true)) ↔ (Sound T → ⊥)
-page-early T room = own-early T (page-own room) first-none
+pub page-early : (T : Tables) (R : Reading) (room : ℕ)
+    → ((r : Refusal) × (answer T R (writingPage room) ≡ Verdict.Refused r) × (isEarly (r .number) ≡ true)) ↔ (Sound T → ⊥)
+page-early T R room = own-early T R (page-own room) first-none
 
 module _ (T : Tables) (sound : Sound T) (lent : List ℕ) where
   -- on sound tables it gets as far as typing, whatever is lent
   pub which-page : GetsAsFarAsTyping T (writingPage (length lent))
   which-page = own-gets (whole T) (writingPage (length lent)) sound .1 first-none
 
-  module _ (r : PageAnswer) (bytes : List ℕ) (writes : PageWritten T lent r bytes) where
-    page-fault : isPageFault r ≡ isTypingFault (answer T (writingPage (length lent)))
-    page-fault = ap isPageFault (writes .answers) ∙ go (answer T (writingPage (length lent)))
-      where
-        go : (v : Verdict) → isPageFault (pageAnswer v (lineCount T)) ≡ isTypingFault v
-        go Verdict.Accepted = refl
-        go (Verdict.Refused x) = refl
+  page-fault : {R : Reading} {r : PageAnswer} {bytes : List ℕ} → PageWritten T R lent r bytes
+      → isPageFault r ≡ isTypingFault (answer T R (writingPage (length lent)))
+  page-fault {R} writes = ap isPageFault (writes .answers) ∙ go (answer T R (writingPage (length lent)))
+    where
+      go : (v : Verdict) → isPageFault (pageAnswer v (lineCount T)) ≡ isTypingFault v
+      go Verdict.Accepted = refl
+      go (Verdict.Refused x) = refl
 
+  -- in the strict reading
+  module _ (r : PageAnswer) (bytes : List ℕ) (writes : PageWritten T Reading.Strict lent r bytes) where
     pub page-refuses : (isPageFault r ≡ true) ↔ Broken T
-    page-refuses = call-refuses T (page-own (length lent)) which-page page-fault
+    page-refuses = call-refuses T (page-own (length lent)) which-page (page-fault writes)
 
     pub page-names : isPageFault r ≡ true → (n : Named T (writingPage (length lent))) × (r ≡ PageAnswer.Refused (n .refuses))
     page-names e =
-        let n = call-names T (page-own (length lent)) which-page page-fault e in (n, told-by T lent r bytes writes (n .answers))
+        let n = call-names T (page-own (length lent)) which-page (page-fault writes) e in (n, told-by T Reading.Strict lent r bytes writes (n .answers))
 
     pub page-never : PassesThroughout T → isPageFault r ≡ false
-    page-never = call-never T (page-own (length lent)) which-page page-fault
+    page-never = call-never T (page-own (length lent)) which-page (page-fault writes)

@@ -7,10 +7,11 @@ use Rattle.report.specs.Tables.{Tables}
 use Rattle.report.specs.Expressions.{permitted}
 use Rattle.report.specs.PlainAlgebra.{columns}
 use Rattle.report.specs.ConfiguredReport.{configuredReport, configuredSchema}
+use Rattle.report.specs.declared.Reading.{Reading}
 
--- the columns of the report configured at c
-abbrev pub columnsAt : Tables → ℕ → ℕ
-columnsAt T c = columns (configuredSchema T c) (configuredReport T c)
+-- the columns of the report configured in a reading at c
+abbrev pub columnsAt : Tables → Reading → ℕ → ℕ
+columnsAt T R c = columns (configuredSchema T c) (configuredReport T c R)
 
 -- the set of c holds every wanted attribute
 abbrev pub HoldsAll : (ℕ → ℕ) → ℕ → ℕ → Type 0

@@ -10,6 +10,7 @@ use Rattle.report.specs.Expressions.{permitted}
 use Rattle.report.specs.ColumnRows.{columnRows}
 use Rattle.report.specs.Checks.{typingCheck}
 use Rattle.report.specs.declared.Verdict.{Verdict}
+use Rattle.report.specs.declared.Reading.{Reading}
 use Rattle.expression_rows.specs.ExpressionRows.{Prepared, ReachFilled}
 use Rattle.expression_rows.specs.declared.Scope.{Scope}
 
@@ -44,7 +45,7 @@ pub record TypingReadable (scope : Scope) (expressionRows relationEntries projec
   pub reads : TypingReads tables scope expressionRows relationEntries projectEntries relations comparisons queries kinds reach
   pub clear : columns ≡ replicate 1024 0
 
--- the answer, and the column rows that are left whatever it is
-pub record Checked (T : Tables) (answer : Verdict) (columns : List ℕ) : Type 0 where
-  pub answers : answer ≡ typingCheck T
+-- the answer in a reading, and the column rows that are left whatever it is
+pub record Checked (T : Tables) (R : Reading) (answer : Verdict) (columns : List ℕ) : Type 0 where
+  pub answers : answer ≡ typingCheck T R
   pub shows : columns ≡ columnRows T

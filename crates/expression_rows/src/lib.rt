@@ -6,6 +6,7 @@ use decoders::relation_expression;
 use decoders::relation_length;
 use feature_rows::exactly_one;
 use report::Expression;
+use report::Reading;
 use report::Refusal;
 use report::Verdict;
 use sets::Row;
@@ -59,11 +60,13 @@ pub fn fill_expression_rows(n: usize, expressions: &[u16], expression_rows: &mut
     }
 }
 
-// What typing is asked of: all configurations, the permitted ones, and a bound of the items that can be at fault, which are attributes and relations.
+// What typing is asked of: all configurations, the permitted ones, a bound of the items that can be at fault, which are attributes and relations, and the
+// reading.
 pub struct Scope {
     pub full: Row,
     pub permitted: Row,
     pub items: usize,
+    pub reading: Reading,
 }
 
 // Check 12, where these configurations are permitted.

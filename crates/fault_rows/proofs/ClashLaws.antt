@@ -14,15 +14,18 @@ use Rattle.sets.proofs.SearchLaws.{same-truth, some-at, at-some}
 use Rattle.sets.proofs.RowLaws.{rowOf-same, rowOf-row, empty-rowOf, rows-are}
 use Rattle.report.specs.Tables.{Tables, query, comparisonCount, queryCount}
 use Rattle.report.specs.Expressions.{configurations}
-use Rattle.report.specs.Typing.{reached, clashes, clashesIn, faults, fails}
+use Rattle.report.specs.Typing.{reached, clashes, clashesIn, faults}
+use Rattle.report.specs.Readings.{failsBy}
 use Rattle.report.specs.Configuring.{written}
 use Rattle.report.specs.Formed.{Formed, QueryLower}
 use Rattle.report.specs.declared.Query.{Query}
+use Rattle.report.specs.declared.Reading.{Reading}
 use Rattle.report.proofs.FormedFacts.{query-at}
+use Rattle.report.proofs.ReadingLaws.{faults-later}
 use Rattle.report.proofs.TypingLaws.{permitted-within, permitted-1024, fails-permitted}
 use Rattle.comparisons.specs.declared.Gathered.{Gathered}
 use Rattle.expression_rows.specs.ExpressionRows.{reachRow}
-use Rattle.expression_rows.proofs.RowsFilling.{RowsFilling, filling-more, filling-rest, filling-all}
+use Rattle.expression_rows.proofs.RowsFilling.{RowsFilling, filling-none, filling-more, filling-rest, filling-all}
 use Rattle.attribute_rows.specs.AttributeRows.{gatheredRow}
 use Rattle.fault_rows.specs.FaultRows.{failsRow, failsAt, failingRow, ClashReads, ClashReadable}
 use Rattle.fault_rows.specs.FaultRules.{clashStep, ClashRead, firstFound}
@@ -56,49 +59,59 @@ module _ {T : Tables} (F : Formed T) {rows : List ℕ} (compared : RowsAre 16 (c
   clash-rule (Query.Union b d) l = no-clash
   clash-rule (Query.Intersection b d) l = no-clash
 
-  -- the row of form q, made so, with the row of what reaches it
+  -- the row of form q, made so, with the row of what reaches it: the same in both readings
   clash-is : q < queryCount T → {x : Query} → x ≡ query (T .queries) q → {among row : List ℕ} → among ≡ reachRow T q
-      → row ≡ clashStep rows among x → row ≡ failsRow T 1 q
+      → row ≡ clashStep rows among x → (R : Reading) → row ≡ failsRow T R 1 q
   unfolding faults
-  clash-is h e reach step = step ∙ ap₂ (clashStep rows) reach e ∙ clash-rule (query (T .queries) q) (query-at F q h)
+  clash-is h e reach step R =
+      step ∙ ap₂ (clashStep rows) reach e ∙ clash-rule (query (T .queries) q) (query-at F q h)
+      ∙ rowOf-same 16 (λ c. reached T c q && not (eqb (faults T c 1 q) 0)) (λ c. failsBy T R c 1 q)
+      (λ c l. ap (λ (x : ℕ). reached T c q && not (eqb x 0)) (sym (faults-later T R c 0 q)))
 
 -- ---- the first phase that fails at any configuration
 
-module _ {T : Tables} (F : Formed T) (q : ℕ) where
+module _ {T : Tables} (F : Formed T) (R : Reading) (q : ℕ) where
   -- a form fails at permitted configurations only, and rows have room for them all
-  some-fails : (phase : ℕ) → someBelow (λ c. fails T c phase q) 1024 ≡ someBelow (λ c. fails T c phase q) (configurations T)
+  some-fails : (phase : ℕ) → someBelow (λ c. failsBy T R c phase q) 1024 ≡ someBelow (λ c. failsBy T R c phase q) (configurations T)
   some-fails phase =
-      same-truth (someBelow (λ c. fails T c phase q) 1024) (someBelow (λ c. fails T c phase q) (configurations T))
+      same-truth (someBelow (λ c. failsBy T R c phase q) 1024) (someBelow (λ c. failsBy T R c phase q) (configurations T))
       (λ e.
-      let s = some-at (λ c. fails T c phase q) 1024 e in
-      at-some (λ c. fails T c phase q) (configurations T) (s .0) (permitted-within T (s .0) (fails-permitted T (s .0) phase q (s .2))) (s .2))
+      let s = some-at (λ c. failsBy T R c phase q) 1024 e in
+      at-some (λ c. failsBy T R c phase q) (configurations T) (s .0) (permitted-within T (s .0) (fails-permitted T R (s .0) phase q (s .2))) (s .2))
       (λ e.
-      let s = some-at (λ c. fails T c phase q) (configurations T) e in
-      at-some (λ c. fails T c phase q) 1024 (s .0) (permitted-1024 F (s .0) (fails-permitted T (s .0) phase q (s .2))) (s .2))
+      let s = some-at (λ c. failsBy T R c phase q) (configurations T) e in
+      at-some (λ c. failsBy T R c phase q) 1024 (s .0) (permitted-1024 F (s .0) (fails-permitted T R (s .0) phase q (s .2))) (s .2))
 
-  first-fails : firstFound (failsRow T 0 q) (failsRow T 1 q) ≡ failingRow T q
+  first-fails : firstFound (failsRow T R 0 q) (failsRow T R 1 q) ≡ failingRow T R q
   first-fails =
-      ap (λ (t : Bool). cond t (failsRow T 1 q) (failsRow T 0 q)) (empty-rowOf 16 (λ c. fails T c 0 q) ∙ ap not (some-fails 0))
-      ∙ go (someBelow (λ c. fails T c 0 q) (configurations T))
+      ap (λ (t : Bool). cond t (failsRow T R 1 q) (failsRow T R 0 q)) (empty-rowOf 16 (λ c. failsBy T R c 0 q) ∙ ap not (some-fails 0))
+      ∙ go (someBelow (λ c. failsBy T R c 0 q) (configurations T))
     where
-      go : (t : Bool) → cond (not t) (failsRow T 1 q) (failsRow T 0 q) ≡ rowOf 16 (λ c. cond t (fails T c 0 q) (fails T c 1 q))
+      go : (t : Bool) → cond (not t) (failsRow T R 1 q) (failsRow T R 0 q) ≡ rowOf 16 (λ c. cond t (failsBy T R c 0 q) (failsBy T R c 1 q))
       go true = refl
       go false = refl
 
-failing-wide : (T : Tables) (x q : ℕ) → length (failingRow T q) ≡ 16
-failing-wide T x q = rowOf-row 16 (failsAt T q) .size
+failing-wide : (R : Reading) (T : Tables) (x q : ℕ) → length (failingRow T R q) ≡ 16
+failing-wide R T x q = rowOf-row 16 (failsAt T R q) .size
 
 -- ---- the loop
 
--- of the forms below q the rows are of the first phase that fails, over `lent`, which has those of the first phase
+-- of the forms below q the rows are of the first phase that fails, over `lent`, which has those of the first phase: whatever the reading
 abbrev pub ClashesAdding : List ℕ → List ℕ → List ℕ → List ℕ → List ℕ → ℕ → Type 0
 ClashesAdding queries reach clashRows lent faultRows q =
-    RowsFilling (λ T. ClashReads T queries reach clashRows lent) (λ T x k. failingRow T k) 0 (length queries / 4) lent faultRows q
+    (R : Reading)
+    → RowsFilling (λ T. ClashReads T R queries reach clashRows lent) (λ T x k. failingRow T R k) 0 (length queries / 4) lent faultRows q
+
+pub adding-none : {queries reach clashRows lent : List ℕ} → ClashesAdding queries reach clashRows lent lent 0
+adding-none R = filling-none
 
 module _ {queries reach clashRows lent faultRows : List ℕ} {q : ℕ} (S : ClashesAdding queries reach clashRows lent faultRows q) where
+  pub adding-length : length faultRows ≡ length lent
+  adding-length = S Reading.Strict .size
+
   module _ (h : q < length queries / 4) where
-    in-table : {T : Tables} → ClashReads T queries reach clashRows lent → q < queryCount T
-    in-table R = rw (R .queriesAre) at h
+    in-table : {T : Tables} {R : Reading} → ClashReads T R queries reach clashRows lent → q < queryCount T
+    in-table C = rw (C .queriesAre) at h
 
     -- form q has its rows
     module _ (A : ClashReadable queries reach clashRows lent) where
@@ -106,34 +119,35 @@ module _ {queries reach clashRows lent faultRows : List ℕ} {q : ℕ} (S : Clas
       adding-reach = let m = A .reads .reaching .room in let i = in-table (A .reads) in omega arith
 
       pub adding-faults : q * 16 + 16 ≤ length faultRows
-      adding-faults = let m = A .reads .failing .room in let s = S .size in let i = in-table (A .reads) in omega arith
+      adding-faults = let m = A .reads .failing .room in let s = adding-length in let i = in-table (A .reads) in omega arith
 
     -- the code finds it to be x
     module _ {x : Query} (e : x ≡ query queries q) where
-      form : {T : Tables} → ClashReads T queries reach clashRows lent → x ≡ query (T .queries) q
-      form R = e ∙ ap (λ (t : List ℕ). query t q) (R .queriesAre)
+      form : {T : Tables} {R : Reading} → ClashReads T R queries reach clashRows lent → x ≡ query (T .queries) q
+      form C = e ∙ ap (λ (t : List ℕ). query t q) (C .queriesAre)
 
       pub adding-clash : ClashReadable queries reach clashRows lent → ClashRead clashRows x
       adding-clash A =
-          let R = A .reads in
-          record { tables = A .tables; form = q; lower = rw (form R) (query-at (R .formed) q (in-table R)); compared = R .clashing .room }
+          let C = A .reads in
+          record { tables = A .tables; form = q; lower = rw (form C) (query-at (C .formed) q (in-table C)); compared = C .clashing .room }
 
       pub adding-more : {among first second row after : List ℕ} → among ≡ rowIn 16 reach q → second ≡ clashStep clashRows among x
           → first ≡ rowIn 16 faultRows q → row ≡ firstFound first second → length after ≡ length faultRows → after ≡ withRow 16 faultRows q row
           → ClashesAdding queries reach clashRows lent after (q + 1)
-      adding-more load clash before found =
-          filling-more failing-wide S h
-          (λ T R B.
+      adding-more load clash before found same stored R =
+          filling-more (failing-wide R) (S R) h
+          (λ T C B.
           found
-          ∙ ap₂ firstFound (before ∙ filling-rest failing-wide S T R q (le-refl q) ∙ R .failing .each q (in-table R))
-          (clash-is (R .formed) (R .clashing) q (in-table R) (form R) (load ∙ R .reaching .each q (in-table R)) clash)
-          ∙ first-fails (R .formed) q)
+          ∙ ap₂ firstFound (before ∙ filling-rest (failing-wide R) (S R) T C q (le-refl q) ∙ C .failing .each q (in-table C))
+          (clash-is (C .formed) (C .clashing) q (in-table C) (form C) (load ∙ C .reaching .each q (in-table C)) clash R)
+          ∙ first-fails (C .formed) R q)
+          same stored
 
-  pub adding-all : length queries / 4 ≤ q → (T : Tables) → ClashReads T queries reach clashRows lent
-      → faultRows ≡ written (concat (queryCount T) (failingRow T)) lent
-  adding-all h T R = filling-all failing-wide S h T R (ap (λ (t : List ℕ). length t / 4) (R .queriesAre))
+  pub adding-all : length queries / 4 ≤ q → (T : Tables) (R : Reading) → ClashReads T R queries reach clashRows lent
+      → faultRows ≡ written (concat (queryCount T) (failingRow T R)) lent
+  adding-all h T R C = filling-all (failing-wide R) (S R) h T C (ap (λ (t : List ℕ). length t / 4) (C .queriesAre))
 
 -- for the caller: the rows that were filled
-pub failing-rows : (T : Tables) (lent : List ℕ) {faultRows : List ℕ} → faultRows ≡ written (concat (queryCount T) (failingRow T)) lent
-    → RowsAre 16 (queryCount T) (failingRow T) faultRows
-failing-rows T lent = rows-are 16 (queryCount T) (failingRow T) (λ q l. failing-wide T 0 q) _
+pub failing-rows : (T : Tables) (R : Reading) (lent : List ℕ) {faultRows : List ℕ} → faultRows ≡ written (concat (queryCount T) (failingRow T R)) lent
+    → RowsAre 16 (queryCount T) (failingRow T R) faultRows
+failing-rows T R lent = rows-are 16 (queryCount T) (failingRow T R) (λ q l. failing-wide R T 0 q) _

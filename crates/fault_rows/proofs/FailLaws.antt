@@ -6,21 +6,23 @@ use mathlib.Core.List.{List, _++_}
 use native.Mathlib.Omega.{arith}
 use lib.Dec.{ltb}
 use lib.ListN.{length, drop, replicate, length-replicate, getD, getD-replicate}
-use lib.Seq.{drop-at}
 use Rattle.sets.specs.Search.{someBelow}
-use Rattle.sets.specs.Lists.{concat}
+use Rattle.sets.specs.Lists.{table, concat, NumbersAre}
 use Rattle.sets.specs.Bits.{bit}
 use Rattle.sets.specs.Rows.{wordOf, rowOf, rowIn, rowIntersect, withRow, within, RowsAre}
-use Rattle.sets.proofs.ListLaws.{table-same, concat-length}
+use Rattle.sets.proofs.ListLaws.{table-length, table-same, concat-length, numbers-are}
 use Rattle.sets.proofs.BitLaws.{bitsOf-none}
 use Rattle.sets.proofs.RowLaws.{rowOf-same, intersect-rowOf, rows-are, rows-all}
 use Rattle.report.specs.Tables.{Tables, relationCount, comparisonCount, queryCount, report}
 use Rattle.report.specs.Expressions.{permitted}
-use Rattle.report.specs.Typing.{setOf, reached, faults}
+use Rattle.report.specs.Typing.{setOf, reached}
+use Rattle.report.specs.Readings.{spared, faultsBy}
 use Rattle.report.specs.ColumnRows.{hasColumn, columnRow}
 use Rattle.report.specs.Configuring.{written}
 use Rattle.report.specs.Formed.{Formed}
+use Rattle.report.specs.declared.Reading.{Reading}
 use Rattle.report.proofs.FormedFacts.{counts, report-in}
+use Rattle.report.proofs.OverLaws.{written-over, written-same}
 use Rattle.comparisons.specs.declared.Gathered.{Gathered}
 use Rattle.expression_rows.specs.declared.Scope.{Scope}
 use Rattle.expression_rows.specs.TypingReads.{Items, TypingReads}
@@ -29,9 +31,10 @@ use Rattle.report.proofs.TypingLaws.{column-wide}
 use Rattle.attribute_rows.specs.AttributeRows.{relationRow, gatheredRow, RelationRowReads, RelationRowReadable, GatheredReads, GatheredReadable}
 use Rattle.attribute_rows.proofs.AttributeLaws.{relations-are, gathered-are}
 use Rattle.fault_rows.specs.FaultRows.{faultyRow, failsRow, FailReadable, FailsFilled}
-use Rattle.fault_rows.specs.FaultRules.{FormRowsReads, FormRowsReadable, FormsFilled, storedColumn, ColumnRead}
+use Rattle.fault_rows.specs.FaultRules.{sparedBelow, FormRowsReads, FormRowsReadable, FormsFilled, storedColumn, ColumnRead}
 use Rattle.fault_rows.proofs.TypeLaws.{faulty-wide}
-use Rattle.fault_rows.proofs.FaultLaws.{faulty-fails}
+use Rattle.fault_rows.proofs.FoundLaws.{spared-none}
+use Rattle.fault_rows.proofs.FaultLaws.{spared-all, faulty-fails}
 
 -- ---- what the rows of one attribute are worked out from, and room for them
 
@@ -111,68 +114,78 @@ column-row T a =
 -- ---- the loop
 
 -- with no item looked at no form has a fault
-none-faulty : (T : Tables) (words : ℕ) → queryCount T * 16 ≤ words → RowsAre 16 (queryCount T) (faultyRow T 0) (replicate words 0)
-none-faulty T words h = record {
+none-faulty : (T : Tables) (R : Reading) (words : ℕ) → queryCount T * 16 ≤ words → RowsAre 16 (queryCount T) (faultyRow T R 0) (replicate words 0)
+none-faulty T R words h = record {
   room = let l = length-replicate {A = ℕ} words 0 in omega arith;
   each = λ q l.
       table-same 16 (λ i. getD (replicate words 0) (q * 16 + i) 0) (wordOf (λ c. false))
       (λ i m. getD-replicate {A = ℕ} words (q * 16 + i) 0 0 (omega arith) ∙ sym (bitsOf-none 64 (λ j. false) (λ j k. refl)))
-      ∙ rowOf-same 16 (λ c. false) (λ c. reached T c q && someBelow (bit (faults T c 0 q)) 0) (λ c m. sym (and-false (reached T c q)));
+      ∙ rowOf-same 16 (λ c. false) (λ c. reached T c q && someBelow (bit (faultsBy T R c 0 q)) 0) (λ c m. sym (and-false (reached T c q)));
 }
 
--- rows written over others of the same length
-written-over : (new old lent : List ℕ) → length new ≡ length old → written new (written old lent) ≡ written new lent
-written-over new old lent e =
-    ap (λ (s : List ℕ). new ++ s)
-    (ap (λ (k : ℕ). drop k (written old lent)) e ∙ drop-at old (drop (length old) lent) (length old) refl ∙ ap (λ (k : ℕ). drop k lent) (sym e))
+-- and none is spared anything
+none-spared : (T : Tables) (R : Reading) (words : ℕ) → queryCount T ≤ words → NumbersAre (queryCount T) (sparedBelow T R 0) (replicate words 0)
+none-spared T R words h = record {
+  room = let l = length-replicate {A = ℕ} words 0 in omega arith;
+  each = λ q l. getD-replicate {A = ℕ} words q 0 0 (omega arith) ∙ sym (spared-none T R q);
+}
 
-module _ (T : Tables) (items : ℕ) where
-  faulty-length : length (concat (queryCount T) (faultyRow T items)) ≡ queryCount T * 16
-  faulty-length = concat-length (faultyRow T items) 16 (queryCount T) (λ q l. faulty-wide T items q)
+module _ (T : Tables) (R : Reading) (items : ℕ) where
+  faulty-length : length (concat (queryCount T) (faultyRow T R items)) ≡ queryCount T * 16
+  faulty-length = concat-length (faultyRow T R items) 16 (queryCount T) (λ q l. faulty-wide R T items q)
 
-  faulty-rows : (lent : List ℕ) {faultRows : List ℕ} → faultRows ≡ written (concat (queryCount T) (faultyRow T items)) lent
-      → RowsAre 16 (queryCount T) (faultyRow T items) faultRows
-  faulty-rows lent = rows-are 16 (queryCount T) (faultyRow T items) (λ q l. faulty-wide T items q) _
+  faulty-rows : (lent : List ℕ) {faultRows : List ℕ} → faultRows ≡ written (concat (queryCount T) (faultyRow T R items)) lent
+      → RowsAre 16 (queryCount T) (faultyRow T R items) faultRows
+  faulty-rows lent = rows-are 16 (queryCount T) (faultyRow T R items) (λ q l. faulty-wide R T items q) _
 
 -- the items below a have been looked at
 pub record Failing (scope : Scope)
-    (expressionRows relationEntries projectEntries relations comparisons queries kinds reach lent before faultRows columns : List ℕ)
+    (expressionRows relationEntries projectEntries relations comparisons queries kinds reach lent lentSets before faultRows sparedSets columns : List ℕ)
     (a : ℕ) : Type 0 where
   pub size : length faultRows ≡ length lent
   pub faulty : (T : Tables) → TypingReads T scope expressionRows relationEntries projectEntries relations comparisons queries kinds reach
-      → faultRows ≡ written (concat (queryCount T) (faultyRow T a)) lent
+      → faultRows ≡ written (concat (queryCount T) (faultyRow T (scope .reading) a)) lent
+  pub setSize : length sparedSets ≡ length lentSets
+  pub sparing : (T : Tables) → TypingReads T scope expressionRows relationEntries projectEntries relations comparisons queries kinds reach
+      → sparedSets ≡ written (table (queryCount T) (sparedBelow T (scope .reading) a)) lentSets
   pub shown : RowsFilling (λ T. TypingReads T scope expressionRows relationEntries projectEntries relations comparisons queries kinds reach)
       (λ T x k. columnRow T k) 0 (scope .items) before columns a
 
 module _ {scope : Scope} {expressionRows relationEntries projectEntries relations comparisons queries kinds reach : List ℕ}
-    {lent before : List ℕ}
-    (A : FailReadable scope expressionRows relationEntries projectEntries relations comparisons queries kinds reach lent before) where
-  pub failing-none : Failing scope expressionRows relationEntries projectEntries relations comparisons queries kinds reach lent before lent
-      before 0
+    {lent lentSets before : List ℕ}
+    (A : FailReadable scope expressionRows relationEntries projectEntries relations comparisons queries kinds reach lent lentSets before) where
+  -- tables that are read so have as many forms
+  same-count : {T : Tables} → TypingReads T scope expressionRows relationEntries projectEntries relations comparisons queries kinds reach
+      → queryCount T ≡ queryCount (A .tables)
+  same-count R = ap (λ (t : List ℕ). length t / 4) (sym (R .report .prepared .queriesAre) ∙ A .reads .report .prepared .queriesAre)
+
+  pub failing-none : Failing scope expressionRows relationEntries projectEntries relations comparisons queries kinds reach lent lentSets before lent
+      lentSets before 0
   failing-none = record {
     size = refl;
     faulty = λ T R.
-        rows-all 16 (queryCount T) (faultyRow T 0)
-        (rw (A .clear)
-        (none-faulty T (A .words)
-        (let m = A .room in
-        let e = ap (λ (t : List ℕ). length t / 4) (sym (R .report .prepared .queriesAre) ∙ A .reads .report .prepared .queriesAre) in
-        omega arith)))
-        ∙ ap (λ (k : ℕ). concat (queryCount T) (faultyRow T 0) ++ drop k lent) (sym (faulty-length T 0));
+        rows-all 16 (queryCount T) (faultyRow T (scope .reading) 0)
+        (rw (A .clear) (none-faulty T (scope .reading) (A .words) (let m = A .room in let e = same-count R in omega arith)))
+        ∙ ap (λ (k : ℕ). concat (queryCount T) (faultyRow T (scope .reading) 0) ++ drop k lent) (sym (faulty-length T (scope .reading) 0));
+    setSize = refl;
+    sparing = λ T R.
+        written-same (queryCount T) (sparedBelow T (scope .reading) 0)
+        (rw (A .clearSets) (none-spared T (scope .reading) (A .setWords) (let m = A .setRoom in let e = same-count R in omega arith)));
     shown = filling-none;
   }
 
-  module _ {faultRows columns : List ℕ} {a : ℕ}
-      (S : Failing scope expressionRows relationEntries projectEntries relations comparisons queries kinds reach lent before faultRows
-      columns a) where
+  module _ {faultRows sparedSets columns : List ℕ} {a : ℕ}
+      (S : Failing scope expressionRows relationEntries projectEntries relations comparisons queries kinds reach lent lentSets before faultRows
+      sparedSets columns a) where
     -- the rows of attribute a: of the comparisons and the relations
     module _ {oldNamedRows namedRows oldRelated relationRows oldFormRows : List ℕ} (arrays : Arrays oldNamedRows oldRelated oldFormRows)
         (names : (T : Tables) → GatheredReads T expressionRows comparisons kinds (scope .full .words)
         → namedRows ≡ written (concat (comparisonCount T) (gatheredRow T Gathered.Names a)) oldNamedRows)
         (relates : (T : Tables) → RelationRowReads T expressionRows relationEntries relations
-        → relationRows ≡ written (concat (relationCount T) (relationRow T a)) oldRelated) where
+        → relationRows ≡ written (concat (relationCount T) (relationRow T a)) oldRelated)
+        (h : a < scope .items) where
       failing-reads : {T : Tables} → TypingReads T scope expressionRows relationEntries projectEntries relations comparisons queries kinds reach
-          → FormRowsReads T expressionRows projectEntries relations queries reach namedRows relationRows a faultRows
+          → FormRowsReads T (scope .reading) expressionRows projectEntries relations queries reach namedRows relationRows a faultRows sparedSets
       failing-reads {T} R = record {
         formed = R .report .prepared .formed;
         filled = R .report .prepared .filled;
@@ -182,17 +195,24 @@ module _ {scope : Scope} {expressionRows relationEntries projectEntries relation
         reaching = R .report .reaching;
         compared = gathered-are T a oldNamedRows Gathered.Names (names T (reads-named R));
         related = relations-are T a oldRelated (relates T (reads-relations R));
-        faulty = faulty-rows T a lent (S .faulty T R);
+        faulty = faulty-rows T (scope .reading) a lent (S .faulty T R);
+        sparing = numbers-are (queryCount T) (sparedBelow T (scope .reading) a) _ (S .sparing T R);
       }
 
-      pub failing-forms : FormRowsReadable expressionRows projectEntries relations queries reach namedRows relationRows a oldFormRows faultRows
-      failing-forms = record { tables = A .tables; reads = failing-reads (A .reads); room = arrays-sets (A .reads) arrays }
+      pub failing-forms : FormRowsReadable (scope .reading) expressionRows projectEntries relations queries reach namedRows relationRows a oldFormRows
+          faultRows sparedSets
+      failing-forms = record {
+        tables = A .tables;
+        reads = failing-reads (A .reads);
+        room = arrays-sets (A .reads) arrays;
+        item = let m = A .reads .scoped .bounded .most in omega arith;
+      }
 
       -- and of the forms
-      module _ {formRows after : List ℕ}
-          (forms : (T : Tables) → FormRowsReads T expressionRows projectEntries relations queries reach namedRows relationRows a faultRows
-          → FormsFilled T a formRows faultRows after)
-          (h : a < scope .items) where
+      module _ {formRows after afterSets : List ℕ}
+          (forms : (T : Tables)
+          → FormRowsReads T (scope .reading) expressionRows projectEntries relations queries reach namedRows relationRows a faultRows sparedSets
+          → FormsFilled T (scope .reading) a formRows faultRows after sparedSets afterSets) where
         pub failing-column : ColumnRead queries formRows a columns
         failing-column =
             let P = A .reads .report .prepared in
@@ -212,30 +232,47 @@ module _ {scope : Scope} {expressionRows relationEntries projectEntries relation
             (R .scoped .permitting)
             ∙ column-row T a
 
-        pub failing-more : {shown : List ℕ} → length after ≡ length faultRows → length shown ≡ length columns
+        pub failing-more : {shown : List ℕ} → length after ≡ length faultRows → length afterSets ≡ length sparedSets → length shown ≡ length columns
             → shown ≡ withRow 16 columns a (storedColumn (scope .permitted .words) queries formRows)
-            → Failing scope expressionRows relationEntries projectEntries relations comparisons queries kinds reach lent before after
-            shown (a + 1)
-        failing-more same wide stored = record {
+            → Failing scope expressionRows relationEntries projectEntries relations comparisons queries kinds reach lent lentSets before after
+            afterSets shown (a + 1)
+        failing-more same alike wide stored = record {
           size = same ∙ S .size;
           faulty = λ T R.
               forms T (failing-reads R) .joined
-              ∙ ap (written (concat (queryCount T) (faultyRow T (a + 1)))) (S .faulty T R)
-              ∙ written-over (concat (queryCount T) (faultyRow T (a + 1))) (concat (queryCount T) (faultyRow T a)) lent
-              (faulty-length T (a + 1) ∙ sym (faulty-length T a));
+              ∙ ap (written (concat (queryCount T) (faultyRow T (scope .reading) (a + 1)))) (S .faulty T R)
+              ∙ written-over (concat (queryCount T) (faultyRow T (scope .reading) (a + 1)))
+              (concat (queryCount T) (faultyRow T (scope .reading) a)) lent
+              (faulty-length T (scope .reading) (a + 1) ∙ sym (faulty-length T (scope .reading) a));
+          setSize = alike ∙ S .setSize;
+          sparing = λ T R.
+              forms T (failing-reads R) .sparing
+              ∙ ap (written (table (queryCount T) (sparedBelow T (scope .reading) (a + 1)))) (S .sparing T R)
+              ∙ written-over (table (queryCount T) (sparedBelow T (scope .reading) (a + 1)))
+              (table (queryCount T) (sparedBelow T (scope .reading) a)) lentSets
+              (table-length (queryCount T) (sparedBelow T (scope .reading) (a + 1))
+              ∙ sym (table-length (queryCount T) (sparedBelow T (scope .reading) a)));
           shown = filling-more (λ T x. column-wide T) (S .shown) h (λ T R B. failing-row R) wide stored;
         }
 
     pub failing-all : scope .items ≤ a → (T : Tables)
         → TypingReads T scope expressionRows relationEntries projectEntries relations comparisons queries kinds reach
-        → FailsFilled T (scope .items) lent faultRows before columns
+        → FailsFilled T (scope .reading) (scope .items) lent faultRows lentSets sparedSets before columns
     failing-all h T R =
         let e : a ≡ scope .items = (let m = S .shown .most in omega arith) in
-        record { rows = rw e at (S .faulty T R); shown = filling-all (λ T x. column-wide T) (S .shown) h T R refl }
+        record {
+          rows = rw e at (S .faulty T R);
+          sparing =
+              (rw e at (S .sparing T R))
+              ∙ ap (λ (l : List ℕ). written l lentSets)
+              (table-same (queryCount T) (sparedBelow T (scope .reading) (scope .items)) (spared T (scope .reading))
+              (λ q l. spared-all (R .report .prepared .formed) (R .scoped .bounded) q l (scope .reading)));
+          shown = filling-all (λ T x. column-wide T) (S .shown) h T R refl;
+        }
 
 -- for the caller: the rows that were filled are of the configurations at which each form fails
-pub fails-rows : {T : Tables} → Formed T → {items : ℕ} → Items T items → {lent faultRows before columns : List ℕ}
-    → FailsFilled T items lent faultRows before columns → RowsAre 16 (queryCount T) (failsRow T 0) faultRows
-fails-rows {T} F {items} I {lent} L =
-    let f = faulty-rows T items lent (L .rows) in
-    record { room = f .room; each = λ q h. f .each q h ∙ faulty-fails F I q h }
+pub fails-rows : {T : Tables} → Formed T → {items : ℕ} → Items T items → {R : Reading} {lent faultRows lentSets sparedSets before columns : List ℕ}
+    → FailsFilled T R items lent faultRows lentSets sparedSets before columns → RowsAre 16 (queryCount T) (failsRow T R 0) faultRows
+fails-rows {T} F {items} I {R} {lent} L =
+    let f = faulty-rows T R items lent (L .rows) in
+    record { room = f .room; each = λ q h. f .each q h ∙ faulty-fails F I R q h }

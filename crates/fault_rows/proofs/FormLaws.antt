@@ -14,9 +14,12 @@ use Rattle.sets.proofs.RowLaws.{rowOf-same, intersect-rowOf, minus-rowOf, join-
 use Rattle.report.specs.Tables.{Tables, query, queryCount, report, relationCount, relationExpression, comparisonCount, projectLength, projectStart}
 use Rattle.report.specs.Expressions.{permitted}
 use Rattle.report.specs.Typing.{at, leads, present, names, projectSet, setOf, reached, faultsOf, faults}
+use Rattle.report.specs.Readings.{spared, faultsBy}
 use Rattle.report.specs.Formed.{Formed, QueryLower}
 use Rattle.report.specs.declared.Query.{Query}
+use Rattle.report.specs.declared.Reading.{Reading}
 use Rattle.report.proofs.FormedFacts.{query-at, relation-expression}
+use Rattle.report.proofs.ReadingLaws.{faults-spared}
 use Rattle.comparisons.specs.declared.Gathered.{Gathered}
 use Rattle.expression_rows.specs.ExpressionRows.{TruthFilled, reachRow}
 use Rattle.attribute_rows.specs.AttributeRows.{hasRow, listRow, gatheredRow, setRow}
@@ -108,6 +111,28 @@ cut-absent T q e t =
     go true false d h = refl
     go false m d h = refl
 
+-- ---- an item that is spared is not at fault, and any other as in the strict reading
+
+held-row : (T : Tables) (R : Reading) (a q : ℕ) {t : Bool} → t ≡ bit (spared T R q) a
+    → cond t (rowOf 16 (λ c. false)) (rowOf 16 (λ c. reached T c q && bit (faults T c 0 q) a)) ≡ faultRow T R a q
+held-row T R a q {t} e = go t (sym e)
+  where
+    held : (t : Bool) → bit (spared T R q) a ≡ t → (c : ℕ) → bit (faultsBy T R c 0 q) a ≡ (bit (faults T c 0 q) a && not t)
+    held t e c =
+        ap (λ (x : ℕ). bit x a) (faults-spared T R c q) ∙ bit-difference (faults T c 0 q) (spared T R q) a
+        ∙ ap (λ (u : Bool). bit (faults T c 0 q) a && not u) e
+
+    go : (t : Bool) → bit (spared T R q) a ≡ t
+        → cond t (rowOf 16 (λ c. false)) (rowOf 16 (λ c. reached T c q && bit (faults T c 0 q) a)) ≡ faultRow T R a q
+    go true e =
+        rowOf-same 16 (λ c. false) (λ c. reached T c q && bit (faultsBy T R c 0 q) a)
+        (λ c h. sym (ap (λ (u : Bool). reached T c q && u) (held true e c ∙ and-false (bit (faults T c 0 q) a)) ∙ and-false (reached T c q)))
+    go false e =
+        rowOf-same 16 (λ c. reached T c q && bit (faults T c 0 q) a) (λ c. reached T c q && bit (faultsBy T R c 0 q) a)
+        (λ c h. sym (ap (λ (u : Bool). reached T c q && u) (held false e c ∙ and-true (bit (faults T c 0 q) a))))
+
+-- ---- one form
+
 -- the rows that the faults of form q are made of
 module _ {T : Tables} (F : Formed T) (a : ℕ) {expressionRows namedRows formRows : List ℕ} (C : TruthFilled T expressionRows)
     (compared : RowsAre 16 (comparisonCount T) (gatheredRow T Gathered.Names a) namedRows) {q : ℕ} (B : RowsAre 16 q (setRow T a) formRows) where
@@ -162,17 +187,23 @@ module _ {T : Tables} (F : Formed T) (a : ℕ) {expressionRows namedRows formRow
   module _ (h : q < queryCount T) {x : Query} (e : x ≡ query (T .queries) q) where
     pub fault-read : {relations : List ℕ} → relations ≡ T .relations → FaultRead expressionRows relations namedRows formRows x
     fault-read is = record {
-      tables = T;
-      form = q;
-      lower = rw e (query-at F q h);
-      related = λ r l. rw is (record { inside = l; rowed = let m = relation-expression F r l in let s = C .room in omega arith });
+      read = record {
+        tables = T;
+        form = q;
+        lower = rw e (query-at F q h);
+        related = λ r l. rw is (record { inside = l; rowed = let m = relation-expression F r l in let s = C .room in omega arith });
+        below = B .room;
+      };
       compared = compared .room;
-      below = B .room;
     }
 
-    -- made so, with the row of the form's own list and the row of what reaches it
+    -- made so, with the row of the form's own list and the row of what reaches it, unless the reading spares the form item a
     pub fault-is : {relations listed among row : List ℕ} → relations ≡ T .relations → listed ≡ listRow T a (projectStart T q) (projectLength x)
-        → among ≡ reachRow T q
-        → row ≡ rowIntersect 16 (faultStep expressionRows relations namedRows formRows listed among a x) among → row ≡ faultRow T a q
+        → among ≡ reachRow T q → (R : Reading) {t : Bool} → t ≡ bit (spared T R q) a
+        → row ≡ cond t (rowOf 16 (λ c. false)) (rowIntersect 16 (faultStep expressionRows relations namedRows formRows listed among a x) among)
+        → row ≡ faultRow T R a q
     unfolding faults
-    fault-is is list reach step = (rw (is, list, reach) at step) ∙ ap cutFaults e ∙ fault-rule (query (T .queries) q) (query-at F q h)
+    fault-is is list reach R {t} spares step =
+        (rw (is, list, reach) at step)
+        ∙ ap (cond t (rowOf 16 (λ c. false))) (ap cutFaults e ∙ fault-rule (query (T .queries) q) (query-at F q h))
+        ∙ held-row T R a q spares

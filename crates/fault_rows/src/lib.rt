@@ -1,5 +1,5 @@
-// Fault rows: for each query form the configurations at which it fails, in two phases; and the column rows. The first phase and the column rows
-// go attribute by attribute, each from the rows of that attribute; the second phase adds the clashes of kinds.
+// Fault rows: for each query form the configurations at which it fails, in two phases, and what the reading spares it; and the column rows. The first
+// phase and the column rows go attribute by attribute, each from the rows of that attribute; the second phase adds the clashes of kinds.
 use attribute_rows::fill_gathered_rows;
 use attribute_rows::fill_relation_rows;
 use attribute_rows::list_row;
@@ -11,17 +11,23 @@ use decoders::relation_expression;
 use expression_rows::Scope;
 use report::Limits;
 use report::Query;
+use report::Reading;
+use sets::AttributeSet;
 use sets::Row;
 ghost use mathlib.Core.Path.{_≡_};
-ghost use Prim.Native.Nat.{_+_, _*_, _≤_};
-ghost use lib.ListN.{length};
+ghost use Prim.Native.Nat.{_+_, _*_, _^_, _<_, _≤_};
+ghost use lib.Bits.{bitOr};
+ghost use lib.ListN.{length, getD, set};
 ghost use Rattle.sets.specs.Lists.{concat};
 ghost use Rattle.sets.specs.Rows.{rowIn, rowJoin, rowIntersect, rowMinus, withRow};
 ghost use Rattle.report.specs.Tables.{Tables, queryCount};
 ghost use Rattle.report.specs.Configuring.{written};
+ghost use Rattle.report.specs.declared.Reading.{Reading};
 ghost use Rattle.expression_rows.specs.TypingReads.{TypingReads};
 ghost use Rattle.fault_rows.specs.FaultRows.{failingRow, FailReadable, FailsFilled, ClashReads, ClashReadable};
-ghost use Rattle.fault_rows.specs.FaultRules.{unequalRow, absentRow, AbsentRead, faultStep, FaultRead, FormRowsReads, FormRowsReadable, FormsFilled};
+ghost use Rattle.fault_rows.specs.FaultRules.{unequalRow, absentRow, presentIn, AbsentRead, faultStep, FaultRead};
+ghost use Rattle.fault_rows.specs.FaultRules.{foundStep, sparedStep, FormRead, ItemRead, ItemJudged};
+ghost use Rattle.fault_rows.specs.FaultRules.{FormRowsReads, FormRowsReadable, FormsFilled};
 ghost use Rattle.fault_rows.specs.FaultRules.{clashStep, ClashRead, firstFound, storedColumn, ColumnRead};
 
 // The configurations at which row b or row d has it, and not both.
@@ -92,6 +98,77 @@ fn form_faults(
     }
 }
 
+// Relation r is item a, and present at a configuration of `reached`.
+fn is_present_in(
+    reached: Row,
+    r: usize,
+    a: usize,
+    expression_rows: &[u64],
+    relations: &[u16],
+) -> bool
+    requires { ⌜ AbsentRead (now «expression_rows») (now relations) r ⌝ }
+    ensures { λ t. ⌜ t ≡ presentIn (now («expression_rows» .entry)) (reached .words) (now (relations .entry)) a r ⌝ }
+{
+    if a == r {
+        let x = relation_expression(relations, r);
+        return reached.meets(expression_rows, x);
+    }
+    false
+}
+
+// A query form asks for item a, and finds it at a configuration of `reached`, which has those that reach the form. `listed` and `form_rows` are as in
+// form_faults.
+fn is_found(
+    x: Query,
+    listed: Row,
+    reached: Row,
+    a: usize,
+    expression_rows: &[u64],
+    relations: &[u16],
+    form_rows: &[u64],
+) -> bool
+    requires { ⌜ FormRead (now «expression_rows») (now relations) (now «form_rows») x ⌝ }
+    ensures { λ t.
+        ⌜ t ≡ foundStep (now («expression_rows» .entry)) (now (relations .entry)) (now («form_rows» .entry)) (listed .words) (reached .words) a x ⌝ }
+{
+    match x {
+        Query::Malformed => false,
+        Query::Empty => false,
+        Query::Relation(r) => is_present_in(reached, r, a, expression_rows, relations),
+        Query::Select(_, _) => false,
+        Query::Project(_, b) => !listed
+            .intersect(reached)
+            .intersect(Row::load(form_rows, b))
+            .is_empty(),
+        Query::Choice(_, _, _) => false,
+        Query::Product(_, _) => false,
+        Query::Union(_, _) => false,
+        Query::Intersection(_, _) => false,
+    }
+}
+
+// The reading does not hold item a against the form where it is missing.
+fn is_spared(
+    reading: Reading,
+    x: Query,
+    listed: Row,
+    reached: Row,
+    a: usize,
+    expression_rows: &[u64],
+    relations: &[u16],
+    form_rows: &[u64],
+) -> bool
+    requires { ⌜ FormRead (now «expression_rows») (now relations) (now «form_rows») x ⌝ }
+    ensures { λ t.
+        ⌜ t ≡ sparedStep reading (now («expression_rows» .entry)) (now (relations .entry)) (now («form_rows» .entry)) (listed .words)
+        (reached .words) a x ⌝ }
+{
+    match reading {
+        Reading::Strict => false,
+        Reading::Filled => is_found(x, listed, reached, a, expression_rows, relations, form_rows),
+    }
+}
+
 // The configurations of `reached`, which has those that reach the form, at which item a is at fault in it.
 fn fault_row(
     x: Query,
@@ -131,9 +208,67 @@ fn join_fault(here: Row, q: usize, fault_rows: &mut [u64])
     all.store(&mut *fault_rows, q);
 }
 
-// Types all query forms in attribute a, bottom up: joins into row q of `fault_rows`, for each form q, the configurations that reach q and at which item a
-// is at fault in it, and fills `form_rows` with the forms' rows.
+// Set q of `spared_sets` with item a.
+fn spare_item(a: usize, q: usize, spared_sets: &mut [u64])
+    requires { ⌜ (a < 64) × (q < length (now «spared_sets»)) ⌝ }
+    ensures { λ _. ⌜ now («spared_sets» .exit) ≡ set (now («spared_sets» .entry)) q (bitOr (getD (now («spared_sets» .entry)) q 0) (2 ^ a)) ⌝ }
+{
+    let all = AttributeSet::of_bits(spared_sets[q]).with(a);
+    spared_sets[q] = all.bits;
+}
+
+// Item a in form q: one that is spared goes to set q of `spared_sets`, and of any other row q of `fault_rows` is joined with the configurations at which it
+// is at fault.
+fn judge_item(
+    reading: Reading,
+    x: Query,
+    listed: Row,
+    reached: Row,
+    a: usize,
+    q: usize,
+    expression_rows: &[u64],
+    relations: &[u16],
+    named_rows: &[u64],
+    form_rows: &[u64],
+    fault_rows: &mut [u64],
+    spared_sets: &mut [u64],
+)
+    requires { ⌜ ItemRead (now «expression_rows») (now relations) (now «named_rows») (now «form_rows») (now «fault_rows») (now «spared_sets») x a q ⌝ }
+    ensures { λ _.
+        ⌜ ItemJudged (sparedStep reading (now («expression_rows» .entry)) (now (relations .entry)) (now («form_rows» .entry)) (listed .words)
+        (reached .words) a x) (rowIntersect 16 (faultStep (now («expression_rows» .entry)) (now (relations .entry)) (now («named_rows» .entry))
+        (now («form_rows» .entry)) (listed .words) (reached .words) a x) (reached .words)) a q (now («fault_rows» .entry))
+        (now («fault_rows» .exit)) (now («spared_sets» .entry)) (now («spared_sets» .exit)) ⌝ }
+{
+    if is_spared(
+        reading,
+        x,
+        listed,
+        reached,
+        a,
+        expression_rows,
+        relations,
+        form_rows,
+    ) {
+        spare_item(a, q, &mut *spared_sets);
+        return;
+    }
+    let here = fault_row(
+        x,
+        listed,
+        reached,
+        a,
+        expression_rows,
+        relations,
+        named_rows,
+        form_rows,
+    );
+    join_fault(here, q, &mut *fault_rows);
+}
+
+// Types all query forms in attribute a, bottom up: judges item a in each, and fills `form_rows` with the forms' rows.
 fn type_forms(
+    reading: Reading,
     a: usize,
     expression_rows: &[u64],
     project_entries: &[u16],
@@ -144,14 +279,17 @@ fn type_forms(
     relation_rows: &[u64],
     form_rows: &mut [u64],
     fault_rows: &mut [u64],
+    spared_sets: &mut [u64],
 )
-    requires { ⌜ FormRowsReadable (now «expression_rows») (now «project_entries») (now relations) (now queries) (now reach) (now «named_rows»)
-        (now «relation_rows») a (now «form_rows») (now «fault_rows») ⌝ }
+    requires { ⌜ FormRowsReadable reading (now «expression_rows») (now «project_entries») (now relations) (now queries) (now reach)
+        (now «named_rows») (now «relation_rows») a (now «form_rows») (now «fault_rows») (now «spared_sets») ⌝ }
     ensures { λ _.
         ⌜ ((T : Tables)
-        → FormRowsReads T (now («expression_rows» .entry)) (now («project_entries» .entry)) (now (relations .entry)) (now (queries .entry))
-        (now (reach .entry)) (now («named_rows» .entry)) (now («relation_rows» .entry)) a (now («fault_rows» .entry))
-        → FormsFilled T a (now («form_rows» .exit)) (now («fault_rows» .entry)) (now («fault_rows» .exit))) ⌝ }
+        → FormRowsReads T reading (now («expression_rows» .entry)) (now («project_entries» .entry)) (now (relations .entry))
+        (now (queries .entry)) (now (reach .entry)) (now («named_rows» .entry)) (now («relation_rows» .entry)) a (now («fault_rows» .entry))
+        (now («spared_sets» .entry))
+        → FormsFilled T reading a (now («form_rows» .exit)) (now («fault_rows» .entry)) (now («fault_rows» .exit))
+        (now («spared_sets» .entry)) (now («spared_sets» .exit))) ⌝ }
 {
     let count = queries.len() / 4;
     let mut start = 0;
@@ -161,17 +299,20 @@ fn type_forms(
         let n = project_length(x);
         let listed = list_row(start, n, a, expression_rows, project_entries);
         let reached = Row::load(reach, q);
-        let here = fault_row(
+        judge_item(
+            reading,
             x,
             listed,
             reached,
             a,
+            q,
             expression_rows,
             relations,
             named_rows,
             &*form_rows,
+            &mut *fault_rows,
+            &mut *spared_sets,
         );
-        join_fault(here, q, &mut *fault_rows);
         let row = set_row(x, listed, expression_rows, relation_rows, &*form_rows);
         row.store(&mut *form_rows, q);
         start += n;
@@ -192,8 +333,8 @@ fn store_column(permitted: Row, a: usize, queries: &[u16], form_rows: &[u64], co
     column.store(&mut *columns, a);
 }
 
-// The first phase: fills `fault_rows` with the rows of the configurations at which each form fails in it, and `columns` with the column rows: attribute
-// by attribute, of the items of the scope.
+// The first phase in the reading of the scope: fills `fault_rows` with the rows of the configurations at which each form fails in it, `spared_sets` with
+// what each form is spared, and `columns` with the column rows: attribute by attribute, of the items of the scope.
 pub fn fill_faults(
     scope: Scope,
     expression_rows: &[u64],
@@ -205,22 +346,24 @@ pub fn fill_faults(
     kinds: &[u16],
     reach: &[u64],
     fault_rows: &mut [u64],
+    spared_sets: &mut [u64],
     columns: &mut [u64],
 )
     requires { ⌜ FailReadable scope (now «expression_rows») (now «relation_entries») (now «project_entries») (now relations) (now comparisons)
-        (now queries) (now kinds) (now reach) (now «fault_rows») (now columns) ⌝ }
+        (now queries) (now kinds) (now reach) (now «fault_rows») (now «spared_sets») (now columns) ⌝ }
     ensures { λ _.
         ⌜ ((T : Tables)
         → TypingReads T scope (now («expression_rows» .entry)) (now («relation_entries» .entry)) (now («project_entries» .entry))
         (now (relations .entry)) (now (comparisons .entry)) (now (queries .entry)) (now (kinds .entry)) (now (reach .entry))
-        → FailsFilled T (scope .items) (now («fault_rows» .entry)) (now («fault_rows» .exit)) (now (columns .entry)) (now (columns .exit))) ⌝ }
+        → FailsFilled T (scope .reading) (scope .items) (now («fault_rows» .entry)) (now («fault_rows» .exit)) (now («spared_sets» .entry))
+        (now («spared_sets» .exit)) (now (columns .entry)) (now (columns .exit))) ⌝ }
 {
-    let items = scope.items;
+    let reading = scope.reading;
     let mut named_rows = [0; Limits::MOST_COMPARISONS * Row::WORDS];
     let mut relation_rows = [0; Limits::MOST_RELATIONS * Row::WORDS];
     let mut form_rows = [0; Limits::MOST_QUERIES * Row::WORDS];
     let mut a = 0;
-    while a < items {
+    while a < scope.items {
         fill_gathered_rows(
             Gathered::Names,
             a,
@@ -238,6 +381,7 @@ pub fn fill_faults(
             &mut relation_rows,
         );
         type_forms(
+            reading,
             a,
             expression_rows,
             project_entries,
@@ -248,6 +392,7 @@ pub fn fill_faults(
             &relation_rows,
             &mut form_rows,
             &mut *fault_rows,
+            &mut *spared_sets,
         );
         store_column(scope.permitted, a, queries, &form_rows, &mut *columns);
         a += 1;
@@ -287,8 +432,8 @@ fn first_found(first: Row, second: Row) -> Row
 pub fn add_clashes(queries: &[u16], reach: &[u64], clash_rows: &[u64], fault_rows: &mut [u64])
     requires { ⌜ ClashReadable (now queries) (now reach) (now «clash_rows») (now «fault_rows») ⌝ }
     ensures { λ _.
-        ⌜ ((T : Tables) → ClashReads T (now (queries .entry)) (now (reach .entry)) (now («clash_rows» .entry)) (now («fault_rows» .entry))
-        → now («fault_rows» .exit) ≡ written (concat (queryCount T) (failingRow T)) (now («fault_rows» .entry))) ⌝ }
+        ⌜ ((T : Tables) (R : Reading) → ClashReads T R (now (queries .entry)) (now (reach .entry)) (now («clash_rows» .entry)) (now («fault_rows» .entry))
+        → now («fault_rows» .exit) ≡ written (concat (queryCount T) (failingRow T R)) (now («fault_rows» .entry))) ⌝ }
 {
     let count = queries.len() / 4;
     let mut q = 0;

@@ -75,6 +75,17 @@ pub record SetsReadable (expressionRows entries queries relationSets : List ℕ)
   pub reads : SetsReads tables expressionRows entries queries relationSets c
   pub room : length queries / 4 ≤ length lent
 
+-- what they are worked out from, those of the relations with them
+pub record FormSetsReads (T : Tables) (c : ℕ) (expressionRows relationEntries projectEntries relations queries : List ℕ) : Type 0 where
+  pub related : RelationReads T expressionRows relationEntries relations c
+  pub entriesAre : projectEntries ≡ entriesOfProjects T
+  pub queriesAre : queries ≡ T .queries
+
+pub record FormSetsReadable (c : ℕ) (expressionRows relationEntries projectEntries relations queries lent : List ℕ) : Type 0 where
+  pub tables : Tables
+  pub reads : FormSetsReads tables c expressionRows relationEntries projectEntries relations queries
+  pub room : queryCount tables ≤ length lent
+
 -- x is query form q, `sets` has the sets of lower forms and `relationSets` those of the relations
 pub record QueryAt (T : Tables) (q : ℕ) (expressionRows entries relationSets : List ℕ) (c : ℕ) (sets : List ℕ) (start : ℕ) (x : Query) : Type 0 where
   pub at : FormAt T q expressionRows entries c start x

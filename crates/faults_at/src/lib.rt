@@ -10,6 +10,7 @@ use decoders::decode_comparison;
 use decoders::decode_query;
 use decoders::project_length;
 use decoders::relation_length;
+use report::Limits;
 use report::Operands;
 use report::Query;
 use sets::AttributeSet;
@@ -26,7 +27,7 @@ ghost use Rattle.comparisons.specs.Gathering.{ownOf};
 ghost use Rattle.at_configuration.specs.AtConfiguration.{PresentReads, PresentReadable, RelationReads};
 ghost use Rattle.faults_at.specs.SetsAt.{presentSet, RelationSetsReadable, RelationSetReadable};
 ghost use Rattle.faults_at.specs.SetsAt.{ComparisonAt, SomeComparison, GatheredReads, GatheredReadable};
-ghost use Rattle.faults_at.specs.SetsAt.{SetsReads, SetsReadable, QueryAt, SomeQuery, FormFaultsReads, FormFaultsReadable};
+ghost use Rattle.faults_at.specs.SetsAt.{SetsReads, SetsReadable, FormSetsReads, FormSetsReadable, QueryAt, SomeQuery, FormFaultsReads, FormFaultsReadable};
 ghost use Rattle.faults_at.specs.SetsAt.{FormClashesReads, FormClashesReadable};
 
 // The set of relation r, whose list starts at `start`: none where it is absent.
@@ -51,7 +52,7 @@ fn relation_set(
 }
 
 // Fills `relation_sets` with the sets of all relations.
-pub fn fill_relation_sets(
+fn fill_relation_sets(
     c: usize,
     expression_rows: &[u64],
     relation_entries: &[u16],
@@ -192,7 +193,7 @@ fn set_at(
 }
 
 // Fills `form_sets` with the sets of all query forms.
-pub fn fill_sets(
+fn fill_sets(
     c: usize,
     expression_rows: &[u64],
     project_entries: &[u16],
@@ -224,6 +225,42 @@ pub fn fill_sets(
         start += project_length(x);
         q += 1;
     }
+}
+
+// Fills `form_sets` with the sets of all query forms at configuration c. Those of the relations, from which they are worked out, are its own.
+pub fn fill_form_sets(
+    c: usize,
+    expression_rows: &[u64],
+    relation_entries: &[u16],
+    project_entries: &[u16],
+    relations: &[u16],
+    queries: &[u16],
+    form_sets: &mut [u64],
+)
+    requires { ⌜ FormSetsReadable c (now «expression_rows») (now «relation_entries») (now «project_entries») (now relations) (now queries)
+        (now «form_sets») ⌝ }
+    ensures { λ _.
+        ⌜ ((T : Tables)
+        → FormSetsReads T c (now («expression_rows» .entry)) (now («relation_entries» .entry)) (now («project_entries» .entry)) (now (relations .entry))
+        (now (queries .entry))
+        → now («form_sets» .exit) ≡ written (table (queryCount T) (setOf T c)) (now («form_sets» .entry))) ⌝ }
+{
+    let mut relation_sets = [0; Limits::MOST_RELATIONS];
+    fill_relation_sets(
+        c,
+        expression_rows,
+        relation_entries,
+        relations,
+        &mut relation_sets,
+    );
+    fill_sets(
+        c,
+        expression_rows,
+        project_entries,
+        queries,
+        &relation_sets,
+        form_sets,
+    );
 }
 
 // Relation r if it is absent at c, as a set of items.

@@ -18,6 +18,7 @@ use Rattle.report.specs.Formed.{Formed}
 use Rattle.report.specs.Calls.{answer}
 use Rattle.report.specs.declared.Refusal.{Refusal}
 use Rattle.report.specs.declared.Verdict.{Verdict}
+use Rattle.report.specs.declared.Reading.{Reading}
 use Rattle.report.proofs.FirstFault.{first-none, first-one}
 use Rattle.report.proofs.TypingLaws.{shown-columns}
 use Rattle.expression_rows.proofs.PermittedLaws.{permitted-out}
@@ -48,23 +49,23 @@ shown-wanted {T} F wanted =
 
 -- ---- the answer
 
-module _ (T : Tables) {wanted set : ℕ} (same : set ≡ wanted) {checked : Verdict} (before : checked ≡ reportCheck T) {bad : Bool}
+module _ (T : Tables) (R : Reading) {wanted set : ℕ} (same : set ≡ wanted) {checked : Verdict} (before : checked ≡ reportCheck T R) {bad : Bool}
     (tells : bad ≡ hasFrom set (T .attributes)) {late v : Verdict} (own : late ≡ refuseIf bad (refusal 22 0 0 0)) (joined : v ≡ orElse checked late) where
   is-late : late ≡ firstOf (wantedCondition wanted T)
   is-late =
       own ∙ ap (λ (b : Bool). refuseIf b (refusal 22 0 0 0)) (tells ∙ ap (λ (x : ℕ). hasFrom x (T .attributes)) same)
       ∙ sym (first-one (hasFrom wanted (T .attributes)) (refusal 22 0 0 0))
 
-  verdict : v ≡ answer T (finding wanted)
-  verdict = joined ∙ ap₂ orElse before is-late ∙ sym (call-parts T (finding wanted) first-none)
+  verdict : v ≡ answer T R (finding wanted)
+  verdict = joined ∙ ap₂ orElse before is-late ∙ sym (call-parts T R (finding wanted) first-none)
 
   -- a check refuses
-  pub refused-answers : {r : Refusal} → v ≡ Verdict.Refused r → Finds T wanted (FindAnswer.Refused r)
+  pub refused-answers : {r : Refusal} → v ≡ Verdict.Refused r → Finds T R wanted (FindAnswer.Refused r)
   refused-answers f = ap (λ (x : Verdict). foundAnswer x (lowestWanted T wanted)) (sym f ∙ verdict)
 
   -- none does, and the search answers
   pub found-answers : v ≡ Verdict.Accepted → {permits columns : List ℕ} → Columns T permits columns → {found : Found}
-      → found ≡ lowestShown permits columns set → Finds T wanted (foundAnswer Verdict.Accepted found)
+      → found ≡ lowestShown permits columns set → Finds T R wanted (foundAnswer Verdict.Accepted found)
   found-answers f C search =
       ap₂ foundAnswer (sym f ∙ verdict)
       (search ∙ ap₂ (λ (row rows : List ℕ). lowestShown row rows set) (C .permitting) (C .shows)

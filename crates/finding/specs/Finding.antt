@@ -13,6 +13,7 @@ use Rattle.report.specs.Verdicts.{refusal, Condition, _gives_}
 use Rattle.report.specs.Checks.{isTypingFault}
 use Rattle.report.specs.Calls.{Call, answer}
 use Rattle.report.specs.declared.Verdict.{Verdict}
+use Rattle.report.specs.declared.Reading.{Reading}
 use Rattle.finding.specs.declared.FindAnswer.{FindAnswer}
 
 -- 22: the wanted set has a bit at or above m
@@ -38,8 +39,8 @@ foundAnswer Verdict.Accepted Found.Nothing = FindAnswer.None
 foundAnswer (Verdict.Refused r) found = FindAnswer.Refused r
 
 -- the promise of `find`
-abbrev pub Finds : Tables → ℕ → FindAnswer → Type 0
-Finds T wanted r = r ≡ foundAnswer (answer T (finding wanted)) (lowestWanted T wanted)
+abbrev pub Finds : Tables → Reading → ℕ → FindAnswer → Type 0
+Finds T R wanted r = r ≡ foundAnswer (answer T R (finding wanted)) (lowestWanted T wanted)
 
 -- an answer of finding that is a typing fault
 abbrev pub isFindFault : FindAnswer → Bool

@@ -2,6 +2,7 @@
 use judging::COLUMN_WORDS;
 use judging::check_into_columns;
 use report::Head;
+use report::Reading;
 use report::Refusal;
 use report::Verdict;
 use sets::AttributeSet;
@@ -39,9 +40,10 @@ fn lowest_with(row: Row, columns: &[u64], wanted: AttributeSet) -> Found
     }
 }
 
-// The lowest permitted configuration at which the report of these tables has all wanted attributes: attribute a is wanted where bit a is 1.
+// The lowest permitted configuration at which the report of these tables, in the reading, has all wanted attributes: attribute a is wanted where bit a is 1.
 pub fn find(
     head: Head,
+    reading: Reading,
     wanted: u64,
     expressions: &[u16],
     entries: &[u16],
@@ -53,12 +55,13 @@ pub fn find(
     ensures { λ r.
         ⌜ Finds
         (tablesUnder head (now (expressions .entry)) (now (entries .entry)) (now (relations .entry)) (now (comparisons .entry))
-        (now (queries .entry)) (now (kinds .entry))) wanted r ⌝ }
+        (now (queries .entry)) (now (kinds .entry))) reading wanted r ⌝ }
 {
     let wanted = AttributeSet::of_bits(wanted);
     let mut columns = [0; COLUMN_WORDS];
     let judged = check_into_columns(
         head,
+        reading,
         expressions,
         entries,
         relations,

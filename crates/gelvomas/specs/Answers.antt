@@ -7,6 +7,7 @@ use Rattle.report.specs.Tables.{Tables}
 use Rattle.report.specs.Configuring.{configured}
 use Rattle.report.specs.Calls.{answer, checking, configuring}
 use Rattle.report.specs.declared.Verdict.{Verdict}
+use Rattle.report.specs.declared.Reading.{Reading}
 use Rattle.c_answers.specs.RefusalWords.{refusalWords}
 use Rattle.checking.specs.Promises.{Checks}
 use Rattle.configuring.specs.Promises.{configuredAnswer, Configures}
@@ -18,9 +19,9 @@ use Rattle.wall_page.specs.declared.PageAnswer.{PageAnswer}
 
 -- ---- checking
 
--- what checking T answers, with these rows lent
-abbrev pub checkAnswer : Tables → List ℕ → Verdict
-checkAnswer T rows = answer T (checking (length rows))
+-- what checking T in a reading answers, with these rows lent
+abbrev pub checkAnswer : Tables → Reading → List ℕ → Verdict
+checkAnswer T R rows = answer T R (checking (length rows))
 
 -- the number that is returned
 abbrev pub answerNumber : Verdict → ℕ
@@ -33,17 +34,17 @@ answerWords Verdict.Accepted lent = lent
 answerWords (Verdict.Refused r) lent = refusalWords r
 
 -- the promise of `gelvomas_check`, with these rows and four words lent: the number that is returned, and the words and the rows afterwards
-pub record CheckTold (T : Tables) (lent words : List ℕ) (number : ℕ) (words′ rows : List ℕ) : Type 0 where
-  pub returned : number ≡ answerNumber (checkAnswer T lent)
-  pub told : words′ ≡ answerWords (checkAnswer T lent) words
-  pub checks : Checks T lent (checkAnswer T lent) rows
+pub record CheckTold (T : Tables) (R : Reading) (lent words : List ℕ) (number : ℕ) (words′ rows : List ℕ) : Type 0 where
+  pub returned : number ≡ answerNumber (checkAnswer T R lent)
+  pub told : words′ ≡ answerWords (checkAnswer T R lent) words
+  pub checks : Checks T R lent (checkAnswer T R lent) rows
 
 -- ---- configuring
 
--- what configuring T at c answers, with these tables 1 to 4 lent for writing
-abbrev pub configureAnswer : Tables → ℕ → List ℕ → List ℕ → List ℕ → List ℕ → Configured
-configureAnswer T c newEntries newRelations newComparisons newQueries =
-    configuredAnswer (answer T (configuring c (length newEntries) (length newRelations) (length newComparisons) (length newQueries))) (configured T c)
+-- what configuring T in a reading at c answers, with these tables 1 to 4 lent for writing
+abbrev pub configureAnswer : Tables → Reading → ℕ → List ℕ → List ℕ → List ℕ → List ℕ → Configured
+configureAnswer T R c newEntries newRelations newComparisons newQueries =
+    configuredAnswer (answer T R (configuring c (length newEntries) (length newRelations) (length newComparisons) (length newQueries))) (configured T c R)
 
 -- the number that is returned
 abbrev pub configuredNumber : Configured → ℕ
@@ -57,19 +58,19 @@ configuredWords (Configured.Refused r) = refusalWords r
 
 -- the promise of `gelvomas_configure`, at c, with these tables 1 to 4 lent for writing: the number that is returned, and the four words and the
 -- lent tables afterwards
-pub record ConfigureTold (T : Tables) (c : ℕ) (newEntries newRelations newComparisons newQueries : List ℕ) (number : ℕ)
+pub record ConfigureTold (T : Tables) (R : Reading) (c : ℕ) (newEntries newRelations newComparisons newQueries : List ℕ) (number : ℕ)
     (words newEntries′ newRelations′ newComparisons′ newQueries′ : List ℕ) : Type 0 where
-  pub returned : number ≡ configuredNumber (configureAnswer T c newEntries newRelations newComparisons newQueries)
-  pub told : words ≡ configuredWords (configureAnswer T c newEntries newRelations newComparisons newQueries)
+  pub returned : number ≡ configuredNumber (configureAnswer T R c newEntries newRelations newComparisons newQueries)
+  pub told : words ≡ configuredWords (configureAnswer T R c newEntries newRelations newComparisons newQueries)
   pub configures :
-      Configures T c newEntries newRelations newComparisons newQueries
-      (configureAnswer T c newEntries newRelations newComparisons newQueries) newEntries′ newRelations′ newComparisons′ newQueries′
+      Configures T R c newEntries newRelations newComparisons newQueries
+      (configureAnswer T R c newEntries newRelations newComparisons newQueries) newEntries′ newRelations′ newComparisons′ newQueries′
 
 -- ---- finding
 
--- what finding answers on T, where these attributes are wanted
-abbrev pub findAnswer : Tables → ℕ → FindAnswer
-findAnswer T wanted = foundAnswer (answer T (finding wanted)) (lowestWanted T wanted)
+-- what finding answers on T in a reading, where these attributes are wanted
+abbrev pub findAnswer : Tables → Reading → ℕ → FindAnswer
+findAnswer T R wanted = foundAnswer (answer T R (finding wanted)) (lowestWanted T wanted)
 
 -- the number that is returned: 0 found, 1 refused, 2 none
 abbrev pub foundNumber : FindAnswer → ℕ
@@ -84,9 +85,9 @@ foundWords FindAnswer.None = 0 ∷ 0 ∷ 0 ∷ 0 ∷ []
 foundWords (FindAnswer.Refused r) = refusalWords r
 
 -- the promise of `gelvomas_find`, where these attributes are wanted: the number that is returned, and the four words afterwards
-pub record FindTold (T : Tables) (wanted number : ℕ) (words : List ℕ) : Type 0 where
-  pub returned : number ≡ foundNumber (findAnswer T wanted)
-  pub told : words ≡ foundWords (findAnswer T wanted)
+pub record FindTold (T : Tables) (R : Reading) (wanted number : ℕ) (words : List ℕ) : Type 0 where
+  pub returned : number ≡ foundNumber (findAnswer T R wanted)
+  pub told : words ≡ foundWords (findAnswer T R wanted)
 
 -- ---- the page
 
@@ -101,7 +102,7 @@ pageWords (PageAnswer.Lines lines) = lines ∷ 0 ∷ 0 ∷ 0 ∷ []
 pageWords (PageAnswer.Refused r) = refusalWords r
 
 -- the promise of `gelvomas_page`, with these bytes lent: the number that is returned, and the four words and the bytes afterwards
-pub record PageTold (T : Tables) (lent : List ℕ) (number : ℕ) (words bytes : List ℕ) : Type 0 where
-  pub returned : number ≡ pageNumber (pageGives T lent)
-  pub told : words ≡ pageWords (pageGives T lent)
-  pub stored : bytes ≡ pageAfter T lent
+pub record PageTold (T : Tables) (R : Reading) (lent : List ℕ) (number : ℕ) (words bytes : List ℕ) : Type 0 where
+  pub returned : number ≡ pageNumber (pageGives T R lent)
+  pub told : words ≡ pageWords (pageGives T R lent)
+  pub stored : bytes ≡ pageAfter T R lent

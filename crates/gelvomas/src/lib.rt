@@ -1,5 +1,6 @@
 // Checking, configuring, finding and the page as C functions.
 use c_answers::AnswerWords;
+use c_answers::reading_told;
 use c_answers::tell_refusal;
 use checking::check;
 use configuring::Configured;
@@ -11,6 +12,7 @@ use report::Verdict;
 use wall_page::PageAnswer;
 use wall_page::write_page;
 ghost use Rattle.report.specs.Expressions.{tablesOf};
+ghost use Rattle.c_answers.specs.ReadingTold.{readingTold};
 ghost use Rattle.gelvomas.specs.Answers.{CheckTold, ConfigureTold, FindTold, PageTold};
 
 // Answers 0 where the report is accepted: `rows` holds its column rows, and `refusal` is as it was.
@@ -26,13 +28,14 @@ pub extern "C" fn gelvomas_check(
     comparisons: &[u16],
     queries: &[u16],
     kinds: &[u16],
+    filled: bool,
     rows: &mut [u64],
     refusal: &mut AnswerWords,
 ) -> u64
     ensures { λ r.
         ⌜ CheckTold (tablesOf features attributes model (now (expressions .entry)) (now (entries .entry)) (now (relations .entry))
         (now (comparisons .entry)) (now (queries .entry)) (now (kinds .entry)))
-        (now (rows .entry)) (now (refusal .entry)) r (now (refusal .exit)) (now (rows .exit)) ⌝ }
+        (readingTold filled) (now (rows .entry)) (now (refusal .entry)) r (now (refusal .exit)) (now (rows .exit)) ⌝ }
 {
     let head = Head {
         features: features as usize,
@@ -41,6 +44,7 @@ pub extern "C" fn gelvomas_check(
     };
     let v = check(
         head,
+        reading_told(filled),
         expressions,
         entries,
         relations,
@@ -69,6 +73,7 @@ pub extern "C" fn gelvomas_configure(
     comparisons: &[u16],
     queries: &[u16],
     kinds: &[u16],
+    filled: bool,
     c: u64,
     new_entries: &mut [u16],
     new_relations: &mut [u16],
@@ -79,7 +84,7 @@ pub extern "C" fn gelvomas_configure(
     ensures { λ r.
         ⌜ ConfigureTold (tablesOf features attributes model (now (expressions .entry)) (now (entries .entry)) (now (relations .entry))
         (now (comparisons .entry)) (now (queries .entry)) (now (kinds .entry)))
-        c (now («new_entries» .entry)) (now («new_relations» .entry)) (now («new_comparisons» .entry)) (now («new_queries» .entry))
+        (readingTold filled) c (now («new_entries» .entry)) (now («new_relations» .entry)) (now («new_comparisons» .entry)) (now («new_queries» .entry))
         r (now (answer .exit)) (now («new_entries» .exit)) (now («new_relations» .exit)) (now («new_comparisons» .exit)) (now («new_queries» .exit)) ⌝ }
 {
     let head = Head {
@@ -89,6 +94,7 @@ pub extern "C" fn gelvomas_configure(
     };
     let made = configure(
         head,
+        reading_told(filled),
         c,
         expressions,
         entries,
@@ -128,13 +134,14 @@ pub extern "C" fn gelvomas_find(
     comparisons: &[u16],
     queries: &[u16],
     kinds: &[u16],
+    filled: bool,
     wanted: u64,
     answer: &mut AnswerWords,
 ) -> u64
     ensures { λ r.
         ⌜ FindTold (tablesOf features attributes model (now (expressions .entry)) (now (entries .entry)) (now (relations .entry))
         (now (comparisons .entry)) (now (queries .entry)) (now (kinds .entry)))
-        wanted r (now (answer .exit)) ⌝ }
+        (readingTold filled) wanted r (now (answer .exit)) ⌝ }
 {
     let head = Head {
         features: features as usize,
@@ -143,6 +150,7 @@ pub extern "C" fn gelvomas_find(
     };
     let found = find(
         head,
+        reading_told(filled),
         wanted,
         expressions,
         entries,
@@ -177,13 +185,14 @@ pub extern "C" fn gelvomas_page(
     comparisons: &[u16],
     queries: &[u16],
     kinds: &[u16],
+    filled: bool,
     page: &mut [u8],
     answer: &mut AnswerWords,
 ) -> u64
     ensures { λ r.
         ⌜ PageTold (tablesOf features attributes model (now (expressions .entry)) (now (entries .entry)) (now (relations .entry))
         (now (comparisons .entry)) (now (queries .entry)) (now (kinds .entry)))
-        (now (page .entry)) r (now (answer .exit)) (now (page .exit)) ⌝ }
+        (readingTold filled) (now (page .entry)) r (now (answer .exit)) (now (page .exit)) ⌝ }
 {
     let head = Head {
         features: features as usize,
@@ -192,6 +201,7 @@ pub extern "C" fn gelvomas_page(
     };
     let written = write_page(
         head,
+        reading_told(filled),
         expressions,
         entries,
         relations,

@@ -12,6 +12,7 @@ use Rattle.report.specs.Calls.{answer, checking}
 use Rattle.report.specs.HarbourFile.{File, fileOf}
 use Rattle.report.specs.Print.{atLine, printAnswer, printFile, print}
 use Rattle.report.specs.declared.Verdict.{Verdict}
+use Rattle.report.specs.declared.Reading.{Reading}
 use Rattle.printing.specs.Page.{pageLine, page}
 use Rattle.harbour_print.specs.declared.Layout.{Layout}
 use Rattle.harbour_print.specs.Layouts.{answerAs, fileAs, textAs, ShownAt, shownSets, textsOf, AnswersAgree, Agree}
@@ -22,7 +23,7 @@ answer-columns T (Verdict.Refused r) = refl
 
 file-columns : (f : File) → fileAs Layout.Columns f ≡ printFile f
 file-columns (File.unread n) = refl
-file-columns (File.holds T) = answer-columns T (answer T (checking 1024))
+file-columns (File.holds T) = answer-columns T (answer T Reading.Strict (checking 1024))
 
 -- in the first layout, what `columns` printed before there was another
 pub text-columns : (text : List ℕ) → textAs Layout.Columns text ≡ print text
@@ -67,7 +68,7 @@ answers-agree T (Verdict.Refused r) = (refl, refl)
 
 files-agree : (f : File) → Agree f (fileAs Layout.Columns f) (fileAs Layout.Page f)
 files-agree (File.unread n) = (refl, refl)
-files-agree (File.holds T) = answers-agree T (answer T (checking 1024))
+files-agree (File.holds T) = answers-agree T (answer T Reading.Strict (checking 1024))
 
 -- what the two programs print for any text, by what it holds: the same line, or lines that agree
 pub programs-agree : (text : List ℕ) → Agree (fileOf text) (textAs Layout.Columns text) (textAs Layout.Page text)

@@ -14,6 +14,7 @@ use Rattle.report.specs.HarbourFile.{File, fileOf}
 use Rattle.report.specs.declared.Head.{Head}
 use Rattle.report.specs.declared.Refusal.{Refusal}
 use Rattle.report.specs.declared.Verdict.{Verdict}
+use Rattle.report.specs.declared.Reading.{Reading}
 use Rattle.report.proofs.VerdictLaws.{or-else-accepted}
 use Rattle.report.proofs.FirstFault.{first-none, first-one}
 use Rattle.report.proofs.TypingLaws.{rows-length}
@@ -93,11 +94,11 @@ module _ {T : Tables} {n : ℕ} {permits columns : List ℕ} (R : ColumnReads T 
 -- ---- the print of the answer
 
 -- the answer of a check with rows at their full length, which the print shows
-checked : (T : Tables) → answer T (checking 1024) ≡ reportCheck T
+checked : (T : Tables) → answer T Reading.Strict (checking 1024) ≡ reportCheck T Reading.Strict
 checked T =
-    call-parts T (checking 1024) (first-one _ _) ∙ ap (orElse (reportCheck T)) first-none ∙ or-else-accepted (reportCheck T)
+    call-parts T Reading.Strict (checking 1024) (first-one _ _) ∙ ap (orElse (reportCheck T Reading.Strict)) first-none ∙ or-else-accepted (reportCheck T Reading.Strict)
 
-module _ (layout : Layout) (T : Tables) {v : Verdict} (own : v ≡ reportCheck T) where
+module _ (layout : Layout) (T : Tables) {v : Verdict} (own : v ≡ reportCheck T Reading.Strict) where
   answers : fileAs layout (File.holds T) ≡ answerAs layout T v
   answers = ap (answerAs layout T) (checked T ∙ sym own)
 

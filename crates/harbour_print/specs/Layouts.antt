@@ -11,6 +11,7 @@ use Rattle.report.specs.HarbourFile.{File, fileOf}
 use Rattle.report.specs.Text.{bytes, line}
 use Rattle.report.specs.Print.{atLine, printAnswer, printFile}
 use Rattle.report.specs.declared.Verdict.{Verdict}
+use Rattle.report.specs.declared.Reading.{Reading}
 use Rattle.printing.specs.Page.{pageLine, page}
 use Rattle.harbour_print.specs.declared.Layout.{Layout}
 
@@ -26,7 +27,7 @@ answerAs layout T (Verdict.Refused r) = printAnswer T (Verdict.Refused r)
 
 abbrev pub fileAs : Layout → File → List ℕ
 fileAs layout (File.unread n) = printFile (File.unread n)
-fileAs layout (File.holds T) = answerAs layout T (answer T (checking 1024))
+fileAs layout (File.holds T) = answerAs layout T (answer T Reading.Strict (checking 1024))
 
 -- what is printed for a text (proofs/LayoutLaws: in the first layout, its print)
 unfoldable pub textAs : Layout → List ℕ → List ℕ
@@ -58,4 +59,4 @@ AnswersAgree T (Verdict.Refused r) columns page =
 -- and of a file: unread, its line
 abbrev pub Agree : File → List ℕ → List ℕ → Type 0
 Agree (File.unread n) columns page = (columns ≡ line (bytes "unread") (n ∷ [])) × (page ≡ columns)
-Agree (File.holds T) columns page = AnswersAgree T (answer T (checking 1024)) columns page
+Agree (File.holds T) columns page = AnswersAgree T (answer T Reading.Strict (checking 1024)) columns page

@@ -5,6 +5,7 @@ use judging::check_into_columns;
 use printing::put_accepted;
 use printing::put_page;
 use report::Head;
+use report::Reading;
 use report::Verdict;
 use sets::Row;
 use writing::put_refused;
@@ -50,6 +51,7 @@ pub fn print_tables(
     let mut columns = [0; COLUMN_WORDS];
     let judged = check_into_columns(
         head,
+        Reading::Strict,
         expressions,
         entries,
         relations,

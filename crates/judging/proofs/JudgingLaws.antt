@@ -21,6 +21,7 @@ use Rattle.report.specs.Formed.{Formed}
 use Rattle.report.specs.declared.Refusal.{Refusal}
 use Rattle.report.specs.declared.Head.{Head}
 use Rattle.report.specs.declared.Verdict.{Verdict}
+use Rattle.report.specs.declared.Reading.{Reading}
 use Rattle.report.proofs.Formed.{formed}
 use Rattle.report.proofs.FormedFacts.{counts}
 use Rattle.report.proofs.VerdictLaws.{or-else-assoc, both-accepted, then-next, then-refused}
@@ -40,22 +41,22 @@ use Rattle.judging.specs.Judging.{TablesFillable, TablesFilled, TablesRe
 -- ---- the answer of any call
 
 -- its parts, in the order in which they run
-pub answer-parts : (T : Tables) (call : Call)
-    → answer T call ≡ orElse (formCheck T) (orElse (firstOf (call .beforeModel T)) (orElse (meaningCheck T) (firstOf (call .afterTyping T))))
-answer-parts T call = answer-run T call ∙ simp or-else-assoc
+pub answer-parts : (T : Tables) (R : Reading) (call : Call)
+    → answer T R call ≡ orElse (formCheck T) (orElse (firstOf (call .beforeModel T)) (orElse (meaningCheck T R) (firstOf (call .afterTyping T))))
+answer-parts T R call = answer-run T R call ∙ simp or-else-assoc
 
 -- a call whose own conditions before 12 do not hold answers what 1 to 10, 24, 12 to 19 and 25 answer, and then what its own after typing do
-module _ (T : Tables) (call : Call) (none : firstOf (call .beforeModel T) ≡ Verdict.Accepted) where
-  pub call-parts : answer T call ≡ orElse (reportCheck T) (firstOf (call .afterTyping T))
+module _ (T : Tables) (R : Reading) (call : Call) (none : firstOf (call .beforeModel T) ≡ Verdict.Accepted) where
+  pub call-parts : answer T R call ≡ orElse (reportCheck T R) (firstOf (call .afterTyping T))
   call-parts =
-      answer-parts T call ∙ ap (λ (v : Verdict). orElse (formCheck T) (orElse v (orElse (meaningCheck T) (firstOf (call .afterTyping T))))) none
+      answer-parts T R call ∙ ap (λ (v : Verdict). orElse (formCheck T) (orElse v (orElse (meaningCheck T R) (firstOf (call .afterTyping T))))) none
       ∙ simp or-else-assoc
 
-  module _ {v : Verdict} (checked : v ≡ reportCheck T) where
-    pub call-refused : {r : Refusal} → v ≡ Verdict.Refused r → Verdict.Refused r ≡ answer T call
+  module _ {v : Verdict} (checked : v ≡ reportCheck T R) where
+    pub call-refused : {r : Refusal} → v ≡ Verdict.Refused r → Verdict.Refused r ≡ answer T R call
     call-refused f = sym f ∙ stops _ checked f ∙ sym call-parts
 
-    pub call-late : v ≡ Verdict.Accepted → firstOf (call .afterTyping T) ≡ answer T call
+    pub call-late : v ≡ Verdict.Accepted → firstOf (call .afterTyping T) ≡ answer T R call
     call-late f = goes-on checked f refl ∙ sym call-parts
 
 -- ---- 12 to 14
@@ -125,18 +126,18 @@ reach-room A R = let l = A .forms in let e = ap length (sym (A .reads .prepared 
 
 -- ---- 12 to 19 and 25
 
-module _ {T : Tables} {v : Verdict} (early : v ≡ modelAndSchemaCheck T) (lentReach lentColumns : List ℕ) where
+module _ {T : Tables} (R : Reading) {v : Verdict} (early : v ≡ modelAndSchemaCheck T) (lentReach lentColumns : List ℕ) where
   -- 12 to 14 refuse
-  pub early-refuses : {r : Refusal} → v ≡ Verdict.Refused r → Judged T v lentReach lentColumns lentReach lentColumns
+  pub early-refuses : {r : Refusal} → v ≡ Verdict.Refused r → Judged T R v lentReach lentColumns lentReach lentColumns
   early-refuses f = record {
-    answers = stops (typingCheck T) early f;
+    answers = stops (typingCheck T R) early f;
     reaching = ap (λ (x : Verdict). after x (reachRows T (length lentReach)) lentReach) (sym f ∙ early);
     shows = ap (λ (x : Verdict). after x (columnRows T) lentColumns) (sym f ∙ early);
   }
 
   -- 15 to 19 and 25 answer
-  pub typing-answers : v ≡ Verdict.Accepted → {w : Verdict} {reach columns : List ℕ} → reach ≡ reachRows T (length lentReach) → Checked T w columns
-      → Judged T w lentReach lentColumns reach columns
+  pub typing-answers : v ≡ Verdict.Accepted → {w : Verdict} {reach columns : List ℕ} → reach ≡ reachRows T (length lentReach) → Checked T R w columns
+      → Judged T R w lentReach lentColumns reach columns
   typing-answers f reaching C = record {
     answers = goes-on early f (C .answers);
     reaching = reaching ∙ ap (λ (x : Verdict). after x (reachRows T (length lentReach)) lentReach) (sym f ∙ early);
@@ -159,8 +160,8 @@ own-reach most A =
       unshown = A .unshown;
     }
 
-pub columns-judged : {T : Tables} {v : Verdict} {lentReach lentColumns reach columns : List ℕ} → Judged T v lentReach lentColumns reach columns
-    → ColumnsJudged T v lentColumns columns
+pub columns-judged : {T : Tables} {R : Reading} {v : Verdict} {lentReach lentColumns reach columns : List ℕ} → Judged T R v lentReach lentColumns reach columns
+    → ColumnsJudged T R v lentColumns columns
 columns-judged J = record { answers = J .answers; shows = J .shows }
 
 -- tables with any number of query forms
@@ -196,8 +197,8 @@ own-expressions most A = record {
   unshown = A .unshown;
 }
 
-module _ (most : ℕ) {T : Tables} {lentColumns : List ℕ} (A : TablesReadable most T lentColumns) {v : Verdict} {expressionRows columns : List ℕ}
-    (J : TablesFilled T v (replicate (most * 16) 0) lentColumns expressionRows columns) where
+module _ (most : ℕ) {T : Tables} {R : Reading} {lentColumns : List ℕ} (A : TablesReadable most T lentColumns) {v : Verdict} {expressionRows columns : List ℕ}
+    (J : TablesFilled T R v (replicate (most * 16) 0) lentColumns expressionRows columns) where
   truth-filled : TruthFilled T expressionRows
   truth-filled = filled (T .features) (T .truth) (expressionCount T) (replicate (most * 16) 0) (own-expressions most A .room) (J .fills)
 
@@ -205,16 +206,16 @@ module _ (most : ℕ) {T : Tables} {lentColumns : List ℕ} (A : TablesReadable 
   pub own-model : T .model * 16 + 16 ≤ length expressionRows
   own-model = model-room (A .formed) truth-filled refl
 
-  pub own-judged : {permits : List ℕ} → permits ≡ rowIn 16 expressionRows (T .model) → TablesJudged T v permits lentColumns columns
+  pub own-judged : {permits : List ℕ} → permits ≡ rowIn 16 expressionRows (T .model) → TablesJudged T R v permits lentColumns columns
   own-judged load = record { judged = J .judged; permitting = load ∙ model-row (A .formed) truth-filled refl }
 
 -- the form checks, and then these
-module _ {T : Tables} {v : Verdict} (forms : v ≡ formCheck T) {lentColumns : List ℕ} where
+module _ {T : Tables} (R : Reading) {v : Verdict} (forms : v ≡ formCheck T) {lentColumns : List ℕ} where
   -- a form check refuses
   pub columns-refuse : {r : Refusal} → v ≡ Verdict.Refused r → {permits : List ℕ} → permits ≡ rowOf 16 (λ c. false)
-      → ColumnsChecked T v permits lentColumns lentColumns
+      → ColumnsChecked T R v permits lentColumns lentColumns
   columns-refuse {r} f none = record {
-    answers = stops (meaningCheck T) forms f;
+    answers = stops (meaningCheck T R) forms f;
     permitting = none ∙ ap (λ (x : Verdict). after x (rowOf 16 (permitted T)) (rowOf 16 (λ c. false))) refused;
     shows = ap (λ (x : Verdict). after x (columnRows T) lentColumns) (sym (then-refused (modelAndSchemaCheck T) (sym refused)));
   }
@@ -223,8 +224,8 @@ module _ {T : Tables} {v : Verdict} (forms : v ≡ formCheck T) {lentColumns : L
       refused = sym f ∙ forms
 
   -- the rest is judged
-  pub columns-answer : v ≡ Verdict.Accepted → {w : Verdict} {permits columns : List ℕ} → TablesJudged T w permits lentColumns columns
-      → ColumnsChecked T w permits lentColumns columns
+  pub columns-answer : v ≡ Verdict.Accepted → {w : Verdict} {permits columns : List ℕ} → TablesJudged T R w permits lentColumns columns
+      → ColumnsChecked T R w permits lentColumns columns
   columns-answer f J = record {
     answers = goes-on forms f (J .judged .answers);
     permitting = J .permitting ∙ ap (λ (x : Verdict). after x (rowOf 16 (permitted T)) (rowOf 16 (λ c. false))) passed;
@@ -252,12 +253,12 @@ module _ {T : Tables} {expressionRows reach columns : List ℕ} (F : Formed T) (
     unshown = L .unshown;
   }
 
-module _ {T : Tables} {v : Verdict} (forms : v ≡ formCheck T) {lentExpressionRows lentReach lentColumns : List ℕ} where
+module _ {T : Tables} (R : Reading) {v : Verdict} (forms : v ≡ formCheck T) {lentExpressionRows lentReach lentColumns : List ℕ} where
   -- a form check refuses
   pub forms-refuse : {r : Refusal} → v ≡ Verdict.Refused r
-      → RowsChecked T v lentExpressionRows lentReach lentColumns lentExpressionRows lentReach lentColumns
+      → RowsChecked T R v lentExpressionRows lentReach lentColumns lentExpressionRows lentReach lentColumns
   forms-refuse {r} f = record {
-    answers = stops (meaningCheck T) forms f;
+    answers = stops (meaningCheck T R) forms f;
     fills = ap (λ (x : Verdict). after x (written (rowsOf T) lentExpressionRows) lentExpressionRows) refused;
     reaching = ap (λ (x : Verdict). after x (reachRows T (length lentReach)) lentReach) early;
     shows = ap (λ (x : Verdict). after x (columnRows T) lentColumns) early;
@@ -271,8 +272,8 @@ module _ {T : Tables} {v : Verdict} (forms : v ≡ formCheck T) {lentExpressionR
 
   -- the rest is judged
   pub judging-answers : v ≡ Verdict.Accepted → {w : Verdict} {expressionRows reach columns : List ℕ}
-      → expressionRows ≡ written (rowsOf T) lentExpressionRows → Judged T w lentReach lentColumns reach columns
-      → RowsChecked T w lentExpressionRows lentReach lentColumns expressionRows reach columns
+      → expressionRows ≡ written (rowsOf T) lentExpressionRows → Judged T R w lentReach lentColumns reach columns
+      → RowsChecked T R w lentExpressionRows lentReach lentColumns expressionRows reach columns
   judging-answers f fills J = record {
     answers = goes-on forms f (J .answers);
     fills = fills ∙ ap (λ (x : Verdict). after x (written (rowsOf T) lentExpressionRows) lentExpressionRows) passed;
@@ -289,12 +290,12 @@ module _ {T : Tables} {v : Verdict} (forms : v ≡ formCheck T) {lentExpressionR
 -- ---- for the callers
 
 -- tables that pass have passed the form checks, and 12 to 14
-module _ (T : Tables) {v : Verdict} (checked : v ≡ reportCheck T) (accepted : v ≡ Verdict.Accepted) where
-  passed : (formCheck T ≡ Verdict.Accepted) × (meaningCheck T ≡ Verdict.Accepted)
-  passed = both-accepted (formCheck T) (meaningCheck T) (sym checked ∙ accepted)
+module _ (T : Tables) (R : Reading) {v : Verdict} (checked : v ≡ reportCheck T R) (accepted : v ≡ Verdict.Accepted) where
+  passed : (formCheck T ≡ Verdict.Accepted) × (meaningCheck T R ≡ Verdict.Accepted)
+  passed = both-accepted (formCheck T) (meaningCheck T R) (sym checked ∙ accepted)
 
   early-passed : earlyCheck T ≡ Verdict.Accepted
-  early-passed = then-next (passed .0) ∙ both-accepted (modelAndSchemaCheck T) (typingCheck T) (passed .1) .0
+  early-passed = then-next (passed .0) ∙ both-accepted (modelAndSchemaCheck T) (typingCheck T R) (passed .1) .0
 
 -- what a caller has of tables that pass: their rows
 pub record Rows (T : Tables) (expressionRows reach columns : List ℕ) : Type 0 where
@@ -303,10 +304,10 @@ pub record Rows (T : Tables) (expressionRows reach columns : List ℕ) : Type 0 
   pub reaching : ReachFilled T reach
   pub shows : columns ≡ columnRows T
 
-checked-rows : {T : Tables} {v : Verdict} {lentExpressionRows lentReach lentColumns expressionRows reach columns : List ℕ}
-    → RowsLent lentExpressionRows lentReach lentColumns → RowsChecked T v lentExpressionRows lentReach lentColumns expressionRows reach columns
+checked-rows : {T : Tables} {R : Reading} {v : Verdict} {lentExpressionRows lentReach lentColumns expressionRows reach columns : List ℕ}
+    → RowsLent lentExpressionRows lentReach lentColumns → RowsChecked T R v lentExpressionRows lentReach lentColumns expressionRows reach columns
     → v ≡ Verdict.Accepted → Rows T expressionRows reach columns
-checked-rows {T} {v} {lentExpressionRows} {lentReach} {lentColumns} L J e = record {
+checked-rows {T} {R} {v} {lentExpressionRows} {lentReach} {lentColumns} L J e = record {
   formed = F;
   filled = filled (T .features) (T .truth) (expressionCount T) lentExpressionRows (let s = counts F .most0 in let l = L .expressions in omega arith)
       (J .fills ∙ ap (λ (x : Verdict). after x (written (rowsOf T) lentExpressionRows) lentExpressionRows) forms);
@@ -316,17 +317,17 @@ checked-rows {T} {v} {lentExpressionRows} {lentReach} {lentColumns} L J e = reco
 }
   where
     forms : formCheck T ≡ Verdict.Accepted
-    forms = passed T (J .answers) e .0
+    forms = passed T R (J .answers) e .0
 
     F : Formed T
     F = formed T forms
 
     early : earlyCheck T ≡ Verdict.Accepted
-    early = early-passed T (J .answers) e
+    early = early-passed T R (J .answers) e
 
 -- with rows of the call's own, which are all 0 and have room for every table
-pub own-rows : {T : Tables} {v : Verdict} {expressionRows reach columns : List ℕ}
-    → RowsChecked T v (replicate 4096 0) (replicate 4096 0) (replicate 1024 0) expressionRows reach columns → v ≡ Verdict.Accepted → Rows T expressionRows reach columns
+pub own-rows : {T : Tables} {R : Reading} {v : Verdict} {expressionRows reach columns : List ℕ}
+    → RowsChecked T R v (replicate 4096 0) (replicate 4096 0) (replicate 1024 0) expressionRows reach columns → v ≡ Verdict.Accepted → Rows T expressionRows reach columns
 own-rows = checked-rows (record { expressions = le-refl 4096; forms = le-refl 4096; unreached = refl; unshown = refl })
 
 -- what a caller has of tables that pass, where judging has rows of its own: the permitted configurations and the column rows
@@ -335,16 +336,16 @@ pub record Columns (T : Tables) (permits columns : List ℕ) : Type 0 where
   pub permitting : permits ≡ rowOf 16 (permitted T)
   pub shows : columns ≡ columnRows T
 
-pub own-columns : {T : Tables} {v : Verdict} {permits columns : List ℕ} → ColumnsChecked T v permits (replicate 1024 0) columns → v ≡ Verdict.Accepted
+pub own-columns : {T : Tables} {R : Reading} {v : Verdict} {permits columns : List ℕ} → ColumnsChecked T R v permits (replicate 1024 0) columns → v ≡ Verdict.Accepted
     → Columns T permits columns
-own-columns {T} J e = record {
+own-columns {T} {R} J e = record {
   formed = formed T forms;
   permitting = J .permitting ∙ ap (λ (x : Verdict). after x (rowOf 16 (permitted T)) (rowOf 16 (λ c. false))) forms;
-  shows = J .shows ∙ ap (λ (x : Verdict). after x (columnRows T) (replicate 1024 0)) (early-passed T (J .answers) e);
+  shows = J .shows ∙ ap (λ (x : Verdict). after x (columnRows T) (replicate 1024 0)) (early-passed T R (J .answers) e);
 }
   where
     forms : formCheck T ≡ Verdict.Accepted
-    forms = passed T (J .answers) e .0
+    forms = passed T R (J .answers) e .0
 
 module _ {T : Tables} (F : Formed T) where
   -- 1 << n is the number of configurations

@@ -15,21 +15,21 @@ use Rattle.report.specs.Checks.{modelAndSchemaCheck, typingCheck}
 use Rattle.report.specs.Formed.{Formed}
 use Rattle.report.specs.declared.Head.{Head}
 use Rattle.report.specs.declared.Verdict.{Verdict}
+use Rattle.report.specs.declared.Reading.{Reading}
 use Rattle.expression_rows.specs.ExpressionRows.{rowsOf, Prepared}
 use Rattle.reach.specs.Reach.{reachRows}
 
-module _ (T : Tables) where
-  -- 12 to 19 and 25
-  abbrev pub meaningCheck : Verdict
-  meaningCheck = orElse (modelAndSchemaCheck T) (typingCheck T)
+-- 12 to 19 and 25
+abbrev pub meaningCheck : Tables → Reading → Verdict
+meaningCheck T R = orElse (modelAndSchemaCheck T) (typingCheck T R)
 
-  -- 1 to 10, 24, 12 to 19 and 25: what configuring runs before its own checks
-  abbrev pub reportCheck : Verdict
-  reportCheck = orElse (formCheck T) meaningCheck
+-- 1 to 10, 24, 12 to 19 and 25: what configuring runs before its own checks
+abbrev pub reportCheck : Tables → Reading → Verdict
+reportCheck T R = orElse (formCheck T) (meaningCheck T R)
 
-  -- 1 to 10, 24 and 12 to 14: what it runs before typing
-  abbrev pub earlyCheck : Verdict
-  earlyCheck = orElse (formCheck T) (modelAndSchemaCheck T)
+-- 1 to 10, 24 and 12 to 14: what it runs before typing
+abbrev pub earlyCheck : Tables → Verdict
+earlyCheck T = orElse (formCheck T) (modelAndSchemaCheck T)
 
 -- ---- 12 to 19 and 25, given expression rows
 
@@ -53,8 +53,8 @@ pub record JudgeReadable (head : Head) (expressionRows relationEntries projectEn
 
 -- the answer, and what the rows lent hold afterwards: the reach rows and the column rows, whatever typing answers, and what they held where 12 to
 -- 14 refuse
-pub record Judged (T : Tables) (answer : Verdict) (lentReach lentColumns reach columns : List ℕ) : Type 0 where
-  pub answers : answer ≡ meaningCheck T
+pub record Judged (T : Tables) (R : Reading) (answer : Verdict) (lentReach lentColumns reach columns : List ℕ) : Type 0 where
+  pub answers : answer ≡ meaningCheck T R
   pub reaching : reach ≡ after (modelAndSchemaCheck T) (reachRows T (length lentReach)) lentReach
   pub shows : columns ≡ after (modelAndSchemaCheck T) (columnRows T) lentColumns
 
@@ -67,8 +67,8 @@ pub record ColumnsReadable (most : ℕ) (head : Head) (expressionRows relationEn
   pub unshown : columns ≡ replicate 1024 0
 
 -- the answer, and what the column rows lent hold afterwards
-pub record ColumnsJudged (T : Tables) (answer : Verdict) (lentColumns columns : List ℕ) : Type 0 where
-  pub answers : answer ≡ meaningCheck T
+pub record ColumnsJudged (T : Tables) (R : Reading) (answer : Verdict) (lentColumns columns : List ℕ) : Type 0 where
+  pub answers : answer ≡ meaningCheck T R
   pub shows : columns ≡ after (modelAndSchemaCheck T) (columnRows T) lentColumns
 
 -- ---- whole tables
@@ -80,9 +80,9 @@ pub record TablesFillable (T : Tables) (expressionRows columns : List ℕ) : Typ
   pub unshown : columns ≡ replicate 1024 0
 
 -- the answer, and what the rows lent hold afterwards: the expression rows, whatever the answer, and the column rows
-pub record TablesFilled (T : Tables) (answer : Verdict) (lentExpressionRows lentColumns expressionRows columns : List ℕ) : Type 0 where
+pub record TablesFilled (T : Tables) (R : Reading) (answer : Verdict) (lentExpressionRows lentColumns expressionRows columns : List ℕ) : Type 0 where
   pub fills : expressionRows ≡ written (rowsOf T) lentExpressionRows
-  pub judged : ColumnsJudged T answer lentColumns columns
+  pub judged : ColumnsJudged T R answer lentColumns columns
 
 -- with expression rows of its own: tables that have passed the form checks and have at most so many expressions, and room for the column rows, all 0
 pub record TablesReadable (most : ℕ) (T : Tables) (columns : List ℕ) : Type 0 where
@@ -91,13 +91,13 @@ pub record TablesReadable (most : ℕ) (T : Tables) (columns : List ℕ) : Type 
   pub unshown : columns ≡ replicate 1024 0
 
 -- the answer, the permitted configurations, and what the column rows lent hold afterwards
-pub record TablesJudged (T : Tables) (answer : Verdict) (permits lentColumns columns : List ℕ) : Type 0 where
-  pub judged : ColumnsJudged T answer lentColumns columns
+pub record TablesJudged (T : Tables) (R : Reading) (answer : Verdict) (permits lentColumns columns : List ℕ) : Type 0 where
+  pub judged : ColumnsJudged T R answer lentColumns columns
   pub permitting : permits ≡ rowOf 16 (permitted T)
 
 -- the same of any tables: with no permitted configuration where the form checks refuse, and with the rows as they were where these or 12 to 14 do
-pub record ColumnsChecked (T : Tables) (answer : Verdict) (permits lentColumns columns : List ℕ) : Type 0 where
-  pub answers : answer ≡ reportCheck T
+pub record ColumnsChecked (T : Tables) (R : Reading) (answer : Verdict) (permits lentColumns columns : List ℕ) : Type 0 where
+  pub answers : answer ≡ reportCheck T R
   pub permitting : permits ≡ after (formCheck T) (rowOf 16 (permitted T)) (rowOf 16 (λ c. false))
   pub shows : columns ≡ after (earlyCheck T) (columnRows T) lentColumns
 
@@ -109,8 +109,8 @@ pub record RowsLent (expressionRows reach columns : List ℕ) : Type 0 where
   pub unshown : columns ≡ replicate 1024 0
 
 -- the same with all rows: where the form checks refuse, or 12 to 14, the rows that are not filled are as they were
-pub record RowsChecked (T : Tables) (answer : Verdict) (lentExpressionRows lentReach lentColumns expressionRows reach columns : List ℕ) : Type 0 where
-  pub answers : answer ≡ reportCheck T
+pub record RowsChecked (T : Tables) (R : Reading) (answer : Verdict) (lentExpressionRows lentReach lentColumns expressionRows reach columns : List ℕ) : Type 0 where
+  pub answers : answer ≡ reportCheck T R
   pub fills : expressionRows ≡ after (formCheck T) (written (rowsOf T) lentExpressionRows) lentExpressionRows
   pub reaching : reach ≡ after (earlyCheck T) (reachRows T (length lentReach)) lentReach
   pub shows : columns ≡ after (earlyCheck T) (columnRows T) lentColumns

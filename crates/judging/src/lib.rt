@@ -11,6 +11,7 @@ use forms::relations_end;
 use reach::fill_reach;
 use report::Head;
 use report::Limits;
+use report::Reading;
 use report::Verdict;
 use sets::AttributeSet;
 use sets::Row;
@@ -70,6 +71,7 @@ fn check_model_and_schema(
 // rows and `columns` with the column rows, unless 12 to 14 refuse; before, both are all 0.
 pub fn judge_into_rows(
     head: Head,
+    reading: Reading,
     expression_rows: &[u64],
     relation_entries: &[u16],
     project_entries: &[u16],
@@ -86,7 +88,7 @@ pub fn judge_into_rows(
         ⌜ ((T : Tables)
         → JudgeReads T head (now («expression_rows» .entry)) (now («relation_entries» .entry)) (now («project_entries» .entry))
         (now (relations .entry)) (now (comparisons .entry)) (now (queries .entry)) (now (kinds .entry))
-        → Judged T v (now (reach .entry)) (now (columns .entry)) (now (reach .exit)) (now (columns .exit))) ⌝ }
+        → Judged T reading v (now (reach .entry)) (now (columns .entry)) (now (reach .exit)) (now (columns .exit))) ⌝ }
 {
     let permitted = Row::load(expression_rows, head.model);
     let schema = check_model_and_schema(permitted, expression_rows, relation_entries, relations);
@@ -98,6 +100,7 @@ pub fn judge_into_rows(
         full: Row::full(head.features),
         permitted: permitted,
         items: larger(head.attributes, relations.len() / 2),
+        reading: reading,
     };
     check_typing(
         scope,
@@ -116,6 +119,7 @@ pub fn judge_into_rows(
 // The same with reach rows of its own, of tables with few query forms.
 fn judge_few_queries(
     head: Head,
+    reading: Reading,
     expression_rows: &[u64],
     relation_entries: &[u16],
     project_entries: &[u16],
@@ -131,11 +135,12 @@ fn judge_few_queries(
         ⌜ ((T : Tables)
         → JudgeReads T head (now («expression_rows» .entry)) (now («relation_entries» .entry)) (now («project_entries» .entry))
         (now (relations .entry)) (now (comparisons .entry)) (now (queries .entry)) (now (kinds .entry))
-        → ColumnsJudged T v (now (columns .entry)) (now (columns .exit))) ⌝ }
+        → ColumnsJudged T reading v (now (columns .entry)) (now (columns .exit))) ⌝ }
 {
     let mut reach = [0; SMALL_WORDS];
     judge_into_rows(
         head,
+        reading,
         expression_rows,
         relation_entries,
         project_entries,
@@ -151,6 +156,7 @@ fn judge_few_queries(
 // The same of tables with any number of query forms.
 fn judge_many_queries(
     head: Head,
+    reading: Reading,
     expression_rows: &[u64],
     relation_entries: &[u16],
     project_entries: &[u16],
@@ -166,11 +172,12 @@ fn judge_many_queries(
         ⌜ ((T : Tables)
         → JudgeReads T head (now («expression_rows» .entry)) (now («relation_entries» .entry)) (now («project_entries» .entry))
         (now (relations .entry)) (now (comparisons .entry)) (now (queries .entry)) (now (kinds .entry))
-        → ColumnsJudged T v (now (columns .entry)) (now (columns .exit))) ⌝ }
+        → ColumnsJudged T reading v (now (columns .entry)) (now (columns .exit))) ⌝ }
 {
     let mut reach = [0; REACH_WORDS];
     judge_into_rows(
         head,
+        reading,
         expression_rows,
         relation_entries,
         project_entries,
@@ -187,6 +194,7 @@ fn judge_many_queries(
 // with the column rows, unless 12 to 14 refuse.
 pub fn judge_into_columns(
     head: Head,
+    reading: Reading,
     expression_rows: &[u64],
     relation_entries: &[u16],
     project_entries: &[u16],
@@ -202,11 +210,12 @@ pub fn judge_into_columns(
         ⌜ ((T : Tables)
         → JudgeReads T head (now («expression_rows» .entry)) (now («relation_entries» .entry)) (now («project_entries» .entry))
         (now (relations .entry)) (now (comparisons .entry)) (now (queries .entry)) (now (kinds .entry))
-        → ColumnsJudged T v (now (columns .entry)) (now (columns .exit))) ⌝ }
+        → ColumnsJudged T reading v (now (columns .entry)) (now (columns .exit))) ⌝ }
 {
     if queries.len() / 4 <= Limits::SMALL {
         return judge_few_queries(
             head,
+            reading,
             expression_rows,
             relation_entries,
             project_entries,
@@ -219,6 +228,7 @@ pub fn judge_into_columns(
     }
     judge_many_queries(
         head,
+        reading,
         expression_rows,
         relation_entries,
         project_entries,
@@ -241,6 +251,7 @@ pub struct Judgement {
 // Fills `expression_rows` with the expression rows of whole tables, splits table 1 where the lists of the relations end, and judges.
 fn fill_and_judge(
     head: Head,
+    reading: Reading,
     expressions: &[u16],
     entries: &[u16],
     relations: &[u16],
@@ -255,12 +266,13 @@ fn fill_and_judge(
         ⌜ TablesFilled
         (tablesUnder head (now (expressions .entry)) (now (entries .entry)) (now (relations .entry)) (now (comparisons .entry))
         (now (queries .entry)) (now (kinds .entry)))
-        v (now («expression_rows» .entry)) (now (columns .entry)) (now («expression_rows» .exit)) (now (columns .exit)) ⌝ }
+        reading v (now («expression_rows» .entry)) (now (columns .entry)) (now («expression_rows» .exit)) (now (columns .exit)) ⌝ }
 {
     fill_expression_rows(head.features, expressions, &mut *expression_rows);
     let split = relations_end(relations) * 2;
     judge_into_columns(
         head,
+        reading,
         &*expression_rows,
         &entries[..split],
         &entries[split..],
@@ -275,6 +287,7 @@ fn fill_and_judge(
 // The same with expression rows of its own, of tables with few expressions.
 fn judge_few_expressions(
     head: Head,
+    reading: Reading,
     expressions: &[u16],
     entries: &[u16],
     relations: &[u16],
@@ -288,11 +301,12 @@ fn judge_few_expressions(
         ⌜ TablesJudged
         (tablesUnder head (now (expressions .entry)) (now (entries .entry)) (now (relations .entry)) (now (comparisons .entry))
         (now (queries .entry)) (now (kinds .entry)))
-        (j .verdict) (j .permitted .words) (now (columns .entry)) (now (columns .exit)) ⌝ }
+        reading (j .verdict) (j .permitted .words) (now (columns .entry)) (now (columns .exit)) ⌝ }
 {
     let mut expression_rows = [0; SMALL_WORDS];
     let verdict = fill_and_judge(
         head,
+        reading,
         expressions,
         entries,
         relations,
@@ -311,6 +325,7 @@ fn judge_few_expressions(
 // The same of tables with any number of expressions.
 fn judge_many_expressions(
     head: Head,
+    reading: Reading,
     expressions: &[u16],
     entries: &[u16],
     relations: &[u16],
@@ -324,11 +339,12 @@ fn judge_many_expressions(
         ⌜ TablesJudged
         (tablesUnder head (now (expressions .entry)) (now (entries .entry)) (now (relations .entry)) (now (comparisons .entry))
         (now (queries .entry)) (now (kinds .entry)))
-        (j .verdict) (j .permitted .words) (now (columns .entry)) (now (columns .exit)) ⌝ }
+        reading (j .verdict) (j .permitted .words) (now (columns .entry)) (now (columns .exit)) ⌝ }
 {
     let mut expression_rows = [0; EXPRESSION_WORDS];
     let verdict = fill_and_judge(
         head,
+        reading,
         expressions,
         entries,
         relations,
@@ -347,6 +363,7 @@ fn judge_many_expressions(
 // Checks 12 to 19 and 25 of whole tables that have passed the form checks. Fills `columns`, which is all 0, with the column rows, unless 12 to 14 refuse.
 pub fn judge_tables_into_columns(
     head: Head,
+    reading: Reading,
     expressions: &[u16],
     entries: &[u16],
     relations: &[u16],
@@ -360,11 +377,12 @@ pub fn judge_tables_into_columns(
         ⌜ TablesJudged
         (tablesUnder head (now (expressions .entry)) (now (entries .entry)) (now (relations .entry)) (now (comparisons .entry))
         (now (queries .entry)) (now (kinds .entry)))
-        (j .verdict) (j .permitted .words) (now (columns .entry)) (now (columns .exit)) ⌝ }
+        reading (j .verdict) (j .permitted .words) (now (columns .entry)) (now (columns .exit)) ⌝ }
 {
     if expressions.len() / 3 <= Limits::SMALL {
         return judge_few_expressions(
             head,
+            reading,
             expressions,
             entries,
             relations,
@@ -376,6 +394,7 @@ pub fn judge_tables_into_columns(
     }
     judge_many_expressions(
         head,
+        reading,
         expressions,
         entries,
         relations,
@@ -390,6 +409,7 @@ pub fn judge_tables_into_columns(
 // permitted where 1 to 10 or 24 refuse.
 pub fn check_into_columns(
     head: Head,
+    reading: Reading,
     expressions: &[u16],
     entries: &[u16],
     relations: &[u16],
@@ -403,7 +423,7 @@ pub fn check_into_columns(
         ⌜ ColumnsChecked
         (tablesUnder head (now (expressions .entry)) (now (entries .entry)) (now (relations .entry)) (now (comparisons .entry))
         (now (queries .entry)) (now (kinds .entry)))
-        (j .verdict) (j .permitted .words) (now (columns .entry)) (now (columns .exit)) ⌝ }
+        reading (j .verdict) (j .permitted .words) (now (columns .entry)) (now (columns .exit)) ⌝ }
 {
     let form = check_forms(
         head,
@@ -422,6 +442,7 @@ pub fn check_into_columns(
     }
     judge_tables_into_columns(
         head,
+        reading,
         expressions,
         entries,
         relations,
@@ -435,6 +456,7 @@ pub fn check_into_columns(
 // The same with all rows in words that the caller lends: fills `expression_rows` with the expression rows too.
 pub fn check_into_rows(
     head: Head,
+    reading: Reading,
     expressions: &[u16],
     entries: &[u16],
     relations: &[u16],
@@ -450,7 +472,7 @@ pub fn check_into_rows(
         ⌜ RowsChecked
         (tablesUnder head (now (expressions .entry)) (now (entries .entry)) (now (relations .entry)) (now (comparisons .entry))
         (now (queries .entry)) (now (kinds .entry)))
-        v (now («expression_rows» .entry)) (now (reach .entry)) (now (columns .entry)) (now («expression_rows» .exit)) (now (reach .exit))
+        reading v (now («expression_rows» .entry)) (now (reach .entry)) (now (columns .entry)) (now («expression_rows» .exit)) (now (reach .exit))
         (now (columns .exit)) ⌝ }
 {
     let form = check_forms(
@@ -469,6 +491,7 @@ pub fn check_into_rows(
     let end = relations_end(relations) * 2;
     judge_into_rows(
         head,
+        reading,
         &*expression_rows,
         &entries[..end],
         &entries[end..],

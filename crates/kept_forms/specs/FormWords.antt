@@ -1,16 +1,20 @@
 -- What the private functions do: the number of one form, and its words with the new numbers. proofs/ ties these to the definitions.
-use Prim.Native.Nat.{ℕ, _+_, _<_, _≤_}
+use Prim.Native.Nat.{ℕ, _<_, _≤_}
 use mathlib.Core.Path.{_≡_}
+use mathlib.Core.Bool.{cond}
 use mathlib.Core.List.{List, [], _∷_}
 use lib.ListN.{length, getD}
+use Rattle.sets.specs.Bits.{memberCount}
 use Rattle.sets.specs.Writing.{Room}
-use Rattle.report.specs.Tables.{Tables, expressionCount, comparisonCount, relationsEnd}
-use Rattle.report.specs.Configuring.{comparisonWordsOf, queryWordsOf, newRelation, keptLength}
-use Rattle.report.specs.Formed.{ComparisonLower}
+use Rattle.report.specs.Tables.{Tables, expressionCount, relationCount, comparisonCount}
+use Rattle.report.specs.Typing.{present}
+use Rattle.report.specs.Configuring.{comparisonWordsOf, queryWordsOf, newRelation, readAs}
+use Rattle.report.specs.Formed.{ComparisonLower, QueryLower}
 use Rattle.report.specs.declared.Comparison.{Comparison}
 use Rattle.report.specs.declared.Query.{Query}
 use Rattle.report.specs.declared.Operands.{Operands}
-use Rattle.at_configuration.specs.AtConfiguration.{AtReads, FormAt}
+use Rattle.report.specs.declared.Reading.{Reading}
+use Rattle.at_configuration.specs.AtConfiguration.{AtReads, PresentReads}
 
 -- ---- the number of one form
 
@@ -68,11 +72,15 @@ pub record ComparisonWritable (numbers : List ℕ) (x : Comparison) (out : List 
 
 -- ---- the words of one query form
 
--- of tables T at c, where a project's list starts at `start` of the project forms' entries, and `comparisonNumbers` and `queryNumbers` have the
--- new numbers
-abbrev pub queryWords : Tables → (c start : ℕ) → (comparisonNumbers queryNumbers : List ℕ) → Query → List ℕ
-queryWords T c start comparisonNumbers queryNumbers =
-    queryWordsOf (newRelation T c) (λ k. getD comparisonNumbers k 0) (λ k. getD queryNumbers k 0) (keptLength T c (relationsEnd T + start))
+-- of relation a at c: where it is absent, those of the empty form
+abbrev pub relationWords : Tables → ℕ → ℕ → List ℕ
+relationWords T c a = cond (present T c a) (1 ∷ newRelation T c a ∷ 0 ∷ 0 ∷ []) (0 ∷ 0 ∷ 0 ∷ 0 ∷ [])
+
+-- of form q of tables T at c: `formSets` has the sets of the forms, `comparisonNumbers` and `queryNumbers` the new numbers
+abbrev pub queryWords : Tables → (c q : ℕ) → (formSets comparisonNumbers queryNumbers : List ℕ) → Query → List ℕ
+queryWords T c q formSets comparisonNumbers queryNumbers x =
+    queryWordsOf (newRelation T c) (λ k. getD comparisonNumbers k 0) (λ k. getD queryNumbers k 0) (λ n. memberCount (getD formSets q 0))
+    (readAs T c Reading.Filled x)
 
 -- b has a number, and there is room for it after a
 pub record OverWritable (queryNumbers : List ℕ) (kind a b : ℕ) (out : List ℕ) (at : ℕ) : Type 0 where
@@ -85,18 +93,21 @@ pub record QueryPairWritable (queryNumbers : List ℕ) (kind a b : ℕ) (out : L
   pub second : b < length queryNumbers
   pub room : Room (kind ∷ getD queryNumbers a 0 ∷ getD queryNumbers b 0 ∷ 0 ∷ []) out at
 
--- besides the form and the project forms' entries, table 2
-pub record FormReads (T : Tables) (q : ℕ) (expressionRows entries relations : List ℕ) (c start : ℕ) (x : Query) : Type 0 where
-  pub at : FormAt T q expressionRows entries c start x
-  pub relationsAre : relations ≡ T .relations
+-- relation a is one of the tables', and there is room for its words
+pub record RelationWritable (expressionRows relations : List ℕ) (c a : ℕ) (out : List ℕ) (at : ℕ) : Type 0 where
+  pub tables : Tables
+  pub reads : PresentReads tables expressionRows relations c
+  pub inside : a < relationCount tables
+  pub room : Room (relationWords tables c a) out at
 
--- the comparisons, and the forms below it, have numbers, and there is room for its words
-pub record QueryWritable (expressionRows entries relations : List ℕ) (c start : ℕ) (comparisonNumbers queryNumbers : List ℕ) (x : Query)
+-- x may stand as query form q, it has a set, the comparisons and the forms below it have numbers, and there is room for its words
+pub record QueryWritable (expressionRows relations : List ℕ) (c q : ℕ) (formSets comparisonNumbers queryNumbers : List ℕ) (x : Query)
     (out : List ℕ) (at : ℕ)
     : Type 0 where
   pub tables : Tables
-  pub form : ℕ
-  pub reads : FormReads tables form expressionRows entries relations c start x
+  pub reads : PresentReads tables expressionRows relations c
+  pub lower : QueryLower tables q x
+  pub typed : q < length formSets
   pub compared : comparisonCount tables ≤ length comparisonNumbers
-  pub below : form ≤ length queryNumbers
-  pub room : Room (queryWords tables c start comparisonNumbers queryNumbers x) out at
+  pub below : q ≤ length queryNumbers
+  pub room : Room (queryWords tables c q formSets comparisonNumbers queryNumbers x) out at

@@ -5,20 +5,22 @@ use mathlib.Core.List.{List}
 use lib.ListN.{length}
 use Rattle.sets.specs.Lists.{kept, NumbersAre}
 use Rattle.sets.specs.Writing.{Room}
-use Rattle.report.specs.Tables.{Tables, comparison, query, comparisonCount, queryCount, entriesOfProjects}
+use Rattle.report.specs.Tables.{Tables, comparison, query, comparisonCount, queryCount}
+use Rattle.report.specs.Typing.{setOf}
 use Rattle.report.specs.Configuring.{comparisonKept, queryKept, newComparison, newQuery, comparisonFormOf, queryFormOf}
 use Rattle.report.specs.Formed.{Formed}
+use Rattle.report.specs.declared.Reading.{Reading}
 use Rattle.expression_rows.specs.ExpressionRows.{ReachFilled}
 use Rattle.at_configuration.specs.AtConfiguration.{AtReads}
 
--- ---- what is written, of tables T at configuration c: parts of `configured`
+-- ---- what is written, of tables T at configuration c: parts of `configured`, in the filled reading (kept_lists, specs/Keeping, says why)
 
 module _ (T : Tables) (c : ℕ) where
   unfoldable pub comparisonForms : List ℕ
   comparisonForms = kept (comparisonKept T c) (λ f. comparisonFormOf T c (comparison (T .comparisons) f)) (comparisonCount T)
 
   unfoldable pub queryForms : List ℕ
-  queryForms = kept (queryKept T c) (λ q. queryFormOf T c q (query (T .queries) q)) (queryCount T)
+  queryForms = kept (queryKept T c) (λ q. queryFormOf T c Reading.Filled q (query (T .queries) q)) (queryCount T)
 
 -- ---- what each function reads of tables T; `..Numberable`, `..Writable`: there are such tables, and room for what is written
 
@@ -45,17 +47,17 @@ pub record QueryNumberable (expressionRows reach queries : List ℕ) (c : ℕ) (
   pub reads : QueryReads tables expressionRows reach queries c
   pub room : length queries / 4 ≤ length numbers
 
--- besides, the project forms' entries, table 2 and the new numbers
-pub record QueryFormReads (T : Tables) (expressionRows reach entries relations queries : List ℕ) (c : ℕ)
+-- besides, table 2, each form's set at c and the new numbers
+pub record QueryFormReads (T : Tables) (expressionRows reach formSets relations queries : List ℕ) (c : ℕ)
     (comparisonNumbers queryNumbers : List ℕ) : Type 0 where
   pub reads : QueryReads T expressionRows reach queries c
-  pub entriesAre : entries ≡ entriesOfProjects T
+  pub typed : NumbersAre (queryCount T) (setOf T c) formSets
   pub relationsAre : relations ≡ T .relations
   pub comparisonsNumbered : NumbersAre (comparisonCount T) (newComparison T c) comparisonNumbers
   pub queriesNumbered : NumbersAre (queryCount T) (newQuery T c) queryNumbers
 
-pub record QueryFormWritable (expressionRows reach entries relations queries : List ℕ) (c : ℕ)
+pub record QueryFormWritable (expressionRows reach formSets relations queries : List ℕ) (c : ℕ)
     (comparisonNumbers queryNumbers out : List ℕ) : Type 0 where
   pub tables : Tables
-  pub reads : QueryFormReads tables expressionRows reach entries relations queries c comparisonNumbers queryNumbers
+  pub reads : QueryFormReads tables expressionRows reach formSets relations queries c comparisonNumbers queryNumbers
   pub room : Room (queryForms tables c) out 0

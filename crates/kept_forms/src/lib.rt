@@ -1,33 +1,34 @@
 // What configuring keeps of comparisons and queries at one configuration, with their new numbers, written into lent tables.
 use at_configuration::holds_at;
+use at_configuration::is_present;
 use at_configuration::taken_at;
 use decoders::comparison_operands;
 use decoders::decode_comparison;
 use decoders::decode_query;
-use decoders::project_length;
 use decoders::query_operands;
-use kept_lists::kept_length;
 use kept_lists::new_relation;
 use report::Comparison;
 use report::Operands;
 use report::Query;
+use sets::AttributeSet;
 ghost use mathlib.Core.Path.{_≡_};
 ghost use mathlib.Core.Bool.{_&&_, cond, not};
 ghost use mathlib.Core.List.{[], _∷_};
-ghost use Prim.Native.Nat.{ℕ, _+_};
-ghost use lib.ListN.{getD};
+ghost use Prim.Native.Nat.{ℕ, _<_};
+ghost use lib.ListN.{length, getD};
+ghost use Rattle.sets.specs.Bits.{memberCount};
 ghost use Rattle.sets.specs.Lists.{table};
 ghost use Rattle.sets.specs.Writing.{Room, WrittenAt};
 ghost use Rattle.report.specs.Tables.{Tables, comparisonCount, queryCount};
 ghost use Rattle.report.specs.Operands.{isChoice};
-ghost use Rattle.report.specs.Configuring.{targetOf, newRelation, keptLength, newComparison, newQuery, written};
-ghost use Rattle.at_configuration.specs.AtConfiguration.{ListReads, ListReadable, PresentReads, PresentReadable};
+ghost use Rattle.report.specs.Configuring.{targetOf, newRelation, newComparison, newQuery, written};
+ghost use Rattle.at_configuration.specs.AtConfiguration.{PresentReads, PresentReadable};
 ghost use Rattle.at_configuration.specs.AtConfiguration.{ComparisonReads, ComparisonNumberable};
 ghost use Rattle.kept_forms.specs.Numbering.{comparisonForms, QueryReads, QueryNumberable};
 ghost use Rattle.kept_forms.specs.Numbering.{ComparisonFormReads, ComparisonFormWritable};
 ghost use Rattle.kept_forms.specs.Numbering.{queryForms, QueryFormReads, QueryFormWritable};
 ghost use Rattle.kept_forms.specs.FormWords.{AtomWritable, BothWritable, ComparisonWritable};
-ghost use Rattle.kept_forms.specs.FormWords.{OverWritable, QueryPairWritable, queryWords, FormReads, QueryWritable};
+ghost use Rattle.kept_forms.specs.FormWords.{OverWritable, QueryPairWritable, relationWords, RelationWritable, queryWords, QueryWritable};
 ghost use Rattle.kept_forms.specs.FormWords.{TargetReads, TargetReadable, comparisonWords};
 
 // The new number of what a form that refers to these forms leads to at c, where `kept` forms below it are kept and `numbers` has those of lower ones.
@@ -187,20 +188,12 @@ fn relation_word(c: usize, a: usize, expression_rows: &[u64], relations: &[u16])
     new_relation(c, a, expression_rows, relations) as u16
 }
 
-// How many of the `count` entries from `start` on are kept at c, as a word.
-fn length_word(
-    c: usize,
-    start: usize,
-    count: usize,
-    expression_rows: &[u64],
-    entries: &[u16],
-) -> u16
-    requires { ⌜ ListReadable (now «expression_rows») (now entries) c start count ⌝ }
-    ensures { λ r.
-        ⌜ ((T : Tables) (offset : ℕ) → ListReads T offset (now («expression_rows» .entry)) (now (entries .entry)) c start count
-        → r ≡ keptLength T c (offset + start) count) ⌝ }
+// How many entries of the project form q are kept, as a word: as many as its set has attributes.
+fn length_word(q: usize, form_sets: &[u64]) -> u16
+    requires { ⌜ q < length (now «form_sets») ⌝ }
+    ensures { λ r. ⌜ r ≡ memberCount (getD (now («form_sets» .entry)) q 0) ⌝ }
 {
-    kept_length(c, start, count, expression_rows, entries) as u16
+    AttributeSet::of_bits(form_sets[q]).count() as u16
 }
 
 // Writes a query form of the kind, with two words.
@@ -236,41 +229,53 @@ fn put_pair(
     put_over(out, at, kind, query_numbers[a], query_numbers, b)
 }
 
-// Writes a query form that is no choice, with the new numbers of what it refers to; a project's list starts at `start`.
+// Writes a form of relation a, with its new number. Where the relation is absent at c it is an empty one.
+fn put_relation(
+    out: &mut [u16],
+    at: usize,
+    c: usize,
+    a: usize,
+    expression_rows: &[u64],
+    relations: &[u16],
+) -> usize
+    requires { ⌜ RelationWritable (now «expression_rows») (now relations) c a (now out) at ⌝ }
+    ensures { λ r.
+        ⌜ ((T : Tables) → PresentReads T (now («expression_rows» .entry)) (now (relations .entry)) c
+        → WrittenAt (relationWords T c a) (now (out .entry)) at (now (out .exit)) r) ⌝ }
+{
+    if is_present(c, a, expression_rows, relations) {
+        let number = relation_word(c, a, expression_rows, relations);
+        return put_query(out, at, 1, number, 0);
+    }
+    put_query(out, at, 0, 0, 0)
+}
+
+// Writes query form q, which is no choice, with the new numbers of what it refers to; `form_sets` has the sets of the forms.
 fn write_query(
     x: Query,
     c: usize,
-    start: usize,
+    q: usize,
     expression_rows: &[u64],
-    project_entries: &[u16],
     relations: &[u16],
+    form_sets: &[u64],
     comparison_numbers: &[u16],
     query_numbers: &[u16],
     out: &mut [u16],
     at: usize,
 ) -> usize
-    requires { ⌜ QueryWritable (now «expression_rows») (now «project_entries») (now relations) c start (now «comparison_numbers») (now «query_numbers») x
+    requires { ⌜ QueryWritable (now «expression_rows») (now relations) c q (now «form_sets») (now «comparison_numbers») (now «query_numbers») x
         (now out) at ⌝ }
     ensures { λ r.
-        ⌜ ((T : Tables) (q : ℕ) → FormReads T q (now («expression_rows» .entry)) (now («project_entries» .entry)) (now (relations .entry)) c start x
-        → WrittenAt (queryWords T c start (now («comparison_numbers» .entry)) (now («query_numbers» .entry)) x) (now (out .entry)) at
-        (now (out .exit)) r) ⌝ }
+        ⌜ ((T : Tables) → PresentReads T (now («expression_rows» .entry)) (now (relations .entry)) c
+        → WrittenAt (queryWords T c q (now («form_sets» .entry)) (now («comparison_numbers» .entry)) (now («query_numbers» .entry)) x)
+        (now (out .entry)) at (now (out .exit)) r) ⌝ }
 {
     match x {
         Query::Malformed => at,
         Query::Empty => put_query(out, at, 0, 0, 0),
-        Query::Relation(a) => put_query(
-            out,
-            at,
-            1,
-            relation_word(c, a, expression_rows, relations),
-            0,
-        ),
+        Query::Relation(a) => put_relation(out, at, c, a, expression_rows, relations),
         Query::Select(a, b) => put_over(out, at, 2, comparison_numbers[a], query_numbers, b),
-        Query::Project(n, b) => {
-            let kept = length_word(c, start, n, expression_rows, project_entries);
-            put_over(out, at, 3, kept, query_numbers, b)
-        }
+        Query::Project(_, b) => put_over(out, at, 3, length_word(q, form_sets), query_numbers, b),
         Query::Choice(_, _, _) => at,
         Query::Product(a, b) => put_pair(out, at, 5, query_numbers, a, b),
         Query::Union(a, b) => put_pair(out, at, 6, query_numbers, a, b),
@@ -278,29 +283,28 @@ fn write_query(
     }
 }
 
-// Writes the query forms that are no choice and that c reaches.
+// Writes the query forms that are no choice and that c reaches; `form_sets` has the sets of the forms.
 pub fn write_queries(
     c: usize,
     expression_rows: &[u64],
-    project_entries: &[u16],
     relations: &[u16],
     queries: &[u16],
     reach: &[u64],
+    form_sets: &[u64],
     comparison_numbers: &[u16],
     query_numbers: &[u16],
     out: &mut [u16],
 ) -> usize
-    requires { ⌜ QueryFormWritable (now «expression_rows») (now reach) (now «project_entries») (now relations) (now queries) c (now «comparison_numbers»)
+    requires { ⌜ QueryFormWritable (now «expression_rows») (now reach) (now «form_sets») (now relations) (now queries) c (now «comparison_numbers»)
         (now «query_numbers») (now out) ⌝ }
     ensures { λ r.
         ⌜ ((T : Tables)
-        → QueryFormReads T (now («expression_rows» .entry)) (now (reach .entry)) (now («project_entries» .entry)) (now (relations .entry))
+        → QueryFormReads T (now («expression_rows» .entry)) (now (reach .entry)) (now («form_sets» .entry)) (now (relations .entry))
         (now (queries .entry)) c
         (now («comparison_numbers» .entry)) (now («query_numbers» .entry))
         → WrittenAt (queryForms T c) (now (out .entry)) 0 (now (out .exit)) r) ⌝ }
 {
     let count = queries.len() / 4;
-    let mut start = 0;
     let mut p = 0;
     let mut q = 0;
     while q < count {
@@ -309,17 +313,16 @@ pub fn write_queries(
             p = write_query(
                 x,
                 c,
-                start,
+                q,
                 expression_rows,
-                project_entries,
                 relations,
+                form_sets,
                 comparison_numbers,
                 query_numbers,
                 &mut *out,
                 p,
             );
         }
-        start += project_length(x);
         q += 1;
     }
     p

@@ -47,39 +47,42 @@ module _ {Reads : Tables → Type 0} {f : Tables → ℕ → List ℕ} {n : ℕ}
 
 -- ---- the loop over a list
 
--- of the `count` entries from `start` on the first i are seen, and those that are kept are written, wherever in table 1 the entries lie; `kept` is
--- their joined set
-pub record EntriesWriting (expressionRows entries : List ℕ) (c start count : ℕ) (first : List ℕ) (at : ℕ) (out : List ℕ) (kept i p : ℕ) : Type 0 where
+-- of the `count` entries from `start` on the first i are seen, and those that are kept and stay are written, wherever in table 1 the entries lie;
+-- `kept` is their joined set
+pub record EntriesWriting (expressionRows entries : List ℕ) (c start count stays : ℕ) (first : List ℕ) (at : ℕ) (out : List ℕ) (kept i p : ℕ) : Type 0 where
   pub joined : EntriesJoined expressionRows entries c start count kept i
   pub written : (offset : ℕ)
-      → Keeping (λ T. ListReads T offset expressionRows entries c start count) (λ T. entryAt T c (offset + start)) count first at out i p
+      → Keeping (λ T. ListReads T offset expressionRows entries c start count) (λ T. entryAt T c (bit stays) (offset + start)) count first at out i p
 
-pub listing-none : {expressionRows entries : List ℕ} {c start count : ℕ} {first : List ℕ} {at kept : ℕ} → kept ≡ 0
-    → EntriesWriting expressionRows entries c start count first at first kept 0 at
+pub listing-none : {expressionRows entries : List ℕ} {c start count stays : ℕ} {first : List ℕ} {at kept : ℕ} → kept ≡ 0
+    → EntriesWriting expressionRows entries c start count stays first at first kept 0 at
 listing-none e = record { joined = joined-none e; written = λ offset. keeping-none }
 
--- entry i, of attribute a: h is whether it holds, and t whether a is kept already. What it writes is what was found of it
-module _ {expressionRows entries : List ℕ} {c start count : ℕ} {first : List ℕ} {at : ℕ} {out : List ℕ} {kept i p : ℕ}
-    (S : EntriesWriting expressionRows entries c start count first at out kept i p) (l : i < count) {a : ℕ}
-    (e : IsWord (entryAttribute entries (start + i)) a) {h t : Bool}
+-- entry i, of attribute a: h is whether it holds, t whether a is kept already, and s whether a stays. What it writes is what was found of it
+module _ {expressionRows entries : List ℕ} {c start count stays : ℕ} {first : List ℕ} {at : ℕ} {out : List ℕ} {kept i p : ℕ}
+    (S : EntriesWriting expressionRows entries c start count stays first at out kept i p) (l : i < count) {a : ℕ}
+    (e : IsWord (entryAttribute entries (start + i)) a) {h t s : Bool}
     (q : (T : Tables) (offset : ℕ) → ListReads T offset expressionRows entries c start (i + 1) → h ≡ entryHolds T c (offset + start + i))
-    (m : t ≡ bit kept a) where
-  text : {T : Tables} {offset : ℕ} → ListReads T offset expressionRows entries c start count → entryAt T c (offset + start) i ≡ pairIf (h && not t) a 0
+    (m : t ≡ bit kept a) (n : s ≡ bit stays a) where
+  text : {T : Tables} {offset : ℕ} → ListReads T offset expressionRows entries c start count
+      → entryAt T c (bit stays) (offset + start) i ≡ pairIf (s && (h && not t)) a 0
   text {T} {offset} R =
-      ap (λ (k : Bool). pairIf k (entryAttribute (T .entries) (offset + start + i)) 0) (kept-new T c (offset + start) i)
-      ∙ sym (ap₂ (λ (k : Bool) (y : ℕ). pairIf k y 0)
+      let y = entryAttribute (T .entries) (offset + start + i) in
+      ap (λ (k : Bool). pairIf (bit stays y && k) y 0) (kept-new T c (offset + start) i)
+      ∙ sym (ap (λ (k : Bool). pairIf (k && (h && not t)) a 0) n
+      ∙ ap₂ (λ (k : Bool) (y : ℕ). pairIf (bit stays y && k) y 0)
       (ap₂ (λ (x y : Bool). x && not y) (q T offset (each-entry R l)) (m ∙ ap₂ bit (S .joined .joined T offset R) (attribute-is R l (e .same))))
       (attribute-is R l (e .same)))
 
-  pub listing-room : KeptListWritable expressionRows entries c start count first at → WordPairWritable (h && not t) a 0 out p
+  pub listing-room : KeptListWritable expressionRows entries c start count stays first at → WordPairWritable (s && (h && not t)) a 0 out p
   listing-room A = record {
     first = e .small;
     second = omega arith;
     room = same-room (text (A .reads)) (keeping-room (S .written (A .offset)) (A .reads) (A .room) l);
   }
 
-  pub listing-more : {o : List ℕ} {r more : ℕ} → WrittenAt (pairIf (h && not t) a 0) out p o r → more ≡ cond h (bitOr kept (2 ^ a)) kept
-      → EntriesWriting expressionRows entries c start count first at o more (i + 1) r
+  pub listing-more : {o : List ℕ} {r more : ℕ} → WrittenAt (pairIf (s && (h && not t)) a 0) out p o r → more ≡ cond h (bitOr kept (2 ^ a)) kept
+      → EntriesWriting expressionRows entries c start count stays first at o more (i + 1) r
   listing-more w j = record {
     joined = joined-more (S .joined) l (e .same) q j;
     written = λ offset. keeping-more (S .written offset) l (λ T R. same-written (text R) w);

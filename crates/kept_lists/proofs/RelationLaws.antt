@@ -1,11 +1,12 @@
 -- Laws of the loops over the relations: the lists of those that are present, and their forms.
-use Prim.Native.Nat.{ℕ, _+_, _/_, _<_, _≤_}
+use Prim.Native.Nat.{ℕ, _+_, _-_, _/_, _^_, _<_, _≤_}
 use mathlib.Core.Path.{_≡_, refl, sym, ap, ap₂, _∙_}
-use mathlib.Core.Bool.{Bool}
-use mathlib.Core.List.{List}
+use mathlib.Core.Bool.{Bool, cond}
+use mathlib.Core.List.{List, []}
 use native.Mathlib.Numerals.{add-one}
 use native.Mathlib.Omega.{arith}
 use lib.ListN.{length}
+use Rattle.sets.specs.Bits.{bit}
 use Rattle.sets.specs.Lists.{concat}
 use Rattle.sets.specs.Writing.{WrittenAt}
 use Rattle.sets.proofs.SearchLaws.{count-le}
@@ -13,12 +14,13 @@ use Rattle.sets.proofs.WritingLaws.{same-room, same-written}
 use Rattle.decoders.specs.Words.{IsWord}
 use Rattle.report.specs.Tables.{Tables, relationLength, relationStart}
 use Rattle.report.specs.Typing.{present}
-use Rattle.report.specs.Configuring.{entryKept, keptLength}
+use Rattle.report.specs.Configuring.{entryKept, allStay, keptLength}
 use Rattle.at_configuration.specs.AtConfiguration.{ListReads, ListReadable, PresentReads, PresentReadable, RelationReads}
 use Rattle.at_configuration.proofs.ListLaws.{reads-present, starts-at, is-long, relation-list}
 use Rattle.kept_lists.specs.Keeping.{relationLists, relationForms, KeptRelationWritable}
 use Rattle.kept_lists.specs.Blocks.{pairIf, listIf, relationListAt, relationFormAt, WordPairWritable, ListIfWritable}
 use Rattle.kept_lists.proofs.BlockLaws.{Keeping, keeping-none, keeping-room, keeping-more, keeping-all}
+use Rattle.report.proofs.StayLaws.{all-staying}
 
 -- ---- what is read of one relation
 
@@ -35,13 +37,18 @@ module _ {T : Tables} {expressionRows entries relations : List ℕ} {c : ℕ} (R
   module _ {r start : ℕ} (s : start ≡ relationStart relations r) (h : r < length relations / 2) {n : ℕ} (e : n ≡ relationLength relations r) where
     -- what relation r writes is what was found of it
     module _ {b : Bool} (p : b ≡ present T c r) where
-      list-text : relationListAt T c r ≡ listIf b T c (0 + start) n
-      list-text =
+      list-text : {stays : ℕ} → stays ≡ 2 ^ 64 - 1 → relationListAt T c r ≡ listIf b T c (bit stays) (0 + start) n
+      list-text {stays} all =
+          let L = relation-list R s h e in
           sym
-          (ap (λ (t : Bool). listIf t T c (0 + start) n) p ∙ ap₂ (λ (i k : ℕ). listIf (present T c r) T c i k) (starts-at R s h e) (is-long R s h e))
+          (ap (λ (k : ℕ). listIf b T c (bit k) (0 + start) n) all
+          ∙ ap (λ (l : List ℕ). cond b l [])
+          (all-staying T c (0 + start) (R .reads .formed) n (let l = L .lies in let m = L .part .inside in omega arith))
+          ∙ ap (λ (t : Bool). listIf t T c allStay (0 + start) n) p
+          ∙ ap₂ (λ (i k : ℕ). listIf (present T c r) T c allStay i k) (starts-at R s h e) (is-long R s h e))
 
-      form-text : {k : ℕ} → k ≡ keptLength T c (0 + start) n → relationFormAt T c r ≡ pairIf b 0 k
-      form-text q = sym (ap₂ (λ (t : Bool) (k : ℕ). pairIf t 0 k) p (q ∙ ap₂ (keptLength T c) (starts-at R s h e) (is-long R s h e)))
+      form-text : {k : ℕ} → k ≡ keptLength T c allStay (0 + start) n → relationFormAt T c r ≡ pairIf b 0 k
+      form-text q = sym (ap₂ (λ (t : Bool) (k : ℕ). pairIf t 0 k) p (q ∙ ap₂ (keptLength T c allStay) (starts-at R s h e) (is-long R s h e)))
 
 -- ---- the loops
 
@@ -80,8 +87,9 @@ module _ {f : Tables → ℕ → ℕ → List ℕ} {expressionRows entries relat
 module _ {expressionRows entries relations : List ℕ} {c : ℕ} {first out : List ℕ} {r start p : ℕ} (h : r < length relations / 2) {n : ℕ}
     (e : IsWord (relationLength relations r) n) {b : Bool} (q : (T : Tables) → PresentReads T expressionRows relations c → b ≡ present T c r) where
   -- the lists
-  module _ (S : Relating relationListAt expressionRows entries relations c first out r start p) where
-    pub lists-room : KeptRelationWritable relationLists expressionRows entries relations c first 0 → ListIfWritable b expressionRows entries c start n out p
+  module _ (S : Relating relationListAt expressionRows entries relations c first out r start p) {stays : ℕ} (all : stays ≡ 2 ^ 64 - 1) where
+    pub lists-room : KeptRelationWritable relationLists expressionRows entries relations c first 0
+        → ListIfWritable b expressionRows entries c start n stays out p
     lists-room A =
         let R = A .reads in
         record {
@@ -89,20 +97,21 @@ module _ {expressionRows entries relations : List ℕ} {c : ℕ} {first out : Li
           offset = 0;
           reads = relation-list R (S .starts) h (e .same);
           room =
-              same-room (list-text R (S .starts) h (e .same) (q (A .tables) (reads-present R)))
+              same-room (list-text R (S .starts) h (e .same) (q (A .tables) (reads-present R)) all)
               (keeping-room (S .kept) R (same-room (all-lists R) (A .room)) h);
         }
 
     pub lists-more : {o : List ℕ} {k : ℕ}
-        → ((T : Tables) (offset : ℕ) → ListReads T offset expressionRows entries c start n → WrittenAt (listIf b T c (offset + start) n) out p o k)
+        → ((T : Tables) (offset : ℕ) → ListReads T offset expressionRows entries c start n
+        → WrittenAt (listIf b T c (bit stays) (offset + start) n) out p o k)
         → Relating relationListAt expressionRows entries relations c first o (r + 1) (start + n) k
     lists-more w =
         relating-more S h e
-        (λ T R. same-written (list-text R (S .starts) h (e .same) (q T (reads-present R))) (w T 0 (relation-list R (S .starts) h (e .same))))
+        (λ T R. same-written (list-text R (S .starts) h (e .same) (q T (reads-present R)) all) (w T 0 (relation-list R (S .starts) h (e .same))))
 
   -- the forms
   module _ (S : Relating relationFormAt expressionRows entries relations c first out r start p) {m : ℕ}
-      (l : (T : Tables) (offset : ℕ) → ListReads T offset expressionRows entries c start n → m ≡ keptLength T c (offset + start) n) where
+      (l : (T : Tables) (offset : ℕ) → ListReads T offset expressionRows entries c start n → m ≡ keptLength T c allStay (offset + start) n) where
     text : {T : Tables} → RelationReads T expressionRows entries relations c → relationFormAt T c r ≡ pairIf b 0 m
     text {T} R = form-text R (S .starts) h (e .same) (q T (reads-present R)) (l T 0 (relation-list R (S .starts) h (e .same)))
 

@@ -11,16 +11,17 @@ use sets::AttributeSet;
 ghost use mathlib.Core.Path.{_≡_};
 ghost use mathlib.Core.Bool.{cond};
 ghost use Prim.Native.Nat.{ℕ, _+_, _<_};
+ghost use Rattle.sets.specs.Bits.{bit};
 ghost use Rattle.sets.specs.Writing.{WrittenAt};
 ghost use Rattle.report.specs.Tables.{Tables};
-ghost use Rattle.report.specs.Configuring.{keptLength, keptList, newRelation};
+ghost use Rattle.report.specs.Configuring.{allStay, keptLength, keptList, newRelation};
 ghost use Rattle.at_configuration.specs.AtConfiguration.{ListReads, ListReadable, PresentReads, PresentReadable, RelationReads};
 ghost use Rattle.kept_lists.specs.Keeping.{relationLists, projectLists, relationForms, KeptListWritable, KeptRelationWritable};
 ghost use Rattle.kept_lists.specs.Keeping.{ProjectReads, ProjectWritable};
 ghost use Rattle.kept_lists.specs.Blocks.{pairIf, listIf, WordPairWritable, ListIfWritable};
 
-// How many of the `count` entries from `start` on are kept at c: as many as their joined set has attributes.
-pub fn kept_length(
+// How many of the `count` entries from `start` on are kept at c, where all attributes stay: as many as their joined set has attributes.
+fn kept_length(
     c: usize,
     start: usize,
     count: usize,
@@ -30,7 +31,7 @@ pub fn kept_length(
     requires { ⌜ ListReadable (now «expression_rows») (now entries) c start count ⌝ }
     ensures { λ r.
         ⌜ ((T : Tables) (offset : ℕ) → ListReads T offset (now («expression_rows» .entry)) (now (entries .entry)) c start count
-        → r ≡ keptLength T c (offset + start) count) ⌝ }
+        → r ≡ keptLength T c allStay (offset + start) count) ⌝ }
 {
     joined_at(c, start, count, expression_rows, entries).count()
 }
@@ -48,21 +49,22 @@ fn write_pair(keep: bool, x: usize, y: usize, out: &mut [u16], at: usize) -> usi
     at
 }
 
-// Writes of the `count` entries from `start` on each attribute's first that holds at c, its expression made 0. `kept` has the attributes that are
-// written.
+// Writes of the `count` entries from `start` on each attribute's first that holds at c, its expression made 0, if the attribute stays. `kept` has
+// the attributes of the entries that hold, so that of each a later one is no first.
 fn write_list(
     c: usize,
     start: usize,
     count: usize,
+    stays: AttributeSet,
     expression_rows: &[u64],
     entries: &[u16],
     out: &mut [u16],
     at: usize,
 ) -> usize
-    requires { ⌜ KeptListWritable (now «expression_rows») (now entries) c start count (now out) at ⌝ }
+    requires { ⌜ KeptListWritable (now «expression_rows») (now entries) c start count (stays .bits) (now out) at ⌝ }
     ensures { λ r.
         ⌜ ((T : Tables) (offset : ℕ) → ListReads T offset (now («expression_rows» .entry)) (now (entries .entry)) c start count
-        → WrittenAt (keptList T c (offset + start) count) (now (out .entry)) at (now (out .exit)) r) ⌝ }
+        → WrittenAt (keptList T c (bit (stays .bits)) (offset + start) count) (now (out .entry)) at (now (out .exit)) r) ⌝ }
 {
     let mut kept = AttributeSet::empty();
     let mut p = at;
@@ -70,7 +72,9 @@ fn write_list(
     while i < count {
         let a = entry_attribute(entries, start + i);
         let holds = entry_holds(c, start, i, expression_rows, entries);
-        p = write_pair(holds & !kept.has(a), a, 0, &mut *out, p);
+        let first = holds & !kept.has(a);
+        let stay = stays.has(a);
+        p = write_pair(stay & first, a, 0, &mut *out, p);
         kept = kept.with_if(a, holds);
         i += 1;
     }
@@ -83,18 +87,19 @@ fn write_list_if(
     c: usize,
     start: usize,
     count: usize,
+    stays: AttributeSet,
     expression_rows: &[u64],
     entries: &[u16],
     out: &mut [u16],
     at: usize,
 ) -> usize
-    requires { ⌜ ListIfWritable keep (now «expression_rows») (now entries) c start count (now out) at ⌝ }
+    requires { ⌜ ListIfWritable keep (now «expression_rows») (now entries) c start count (stays .bits) (now out) at ⌝ }
     ensures { λ r.
         ⌜ ((T : Tables) (offset : ℕ) → ListReads T offset (now («expression_rows» .entry)) (now (entries .entry)) c start count
-        → WrittenAt (listIf keep T c (offset + start) count) (now (out .entry)) at (now (out .exit)) r) ⌝ }
+        → WrittenAt (listIf keep T c (bit (stays .bits)) (offset + start) count) (now (out .entry)) at (now (out .exit)) r) ⌝ }
 {
     if keep {
-        return write_list(c, start, count, expression_rows, entries, out, at);
+        return write_list(c, start, count, stays, expression_rows, entries, out, at);
     }
     at
 }
@@ -125,7 +130,7 @@ pub fn new_relation(c: usize, r: usize, expression_rows: &[u64], relations: &[u1
     kept
 }
 
-// Writes the lists of the relations that are present at c.
+// Writes the lists of the relations that are present at c. All attributes of a relation stay.
 pub fn write_relation_lists(
     c: usize,
     expression_rows: &[u64],
@@ -138,6 +143,7 @@ pub fn write_relation_lists(
         ⌜ ((T : Tables) → RelationReads T (now («expression_rows» .entry)) (now («relation_entries» .entry)) (now (relations .entry)) c
         → WrittenAt (relationLists T c) (now (out .entry)) 0 (now (out .exit)) r) ⌝ }
 {
+    let all = AttributeSet::of_bits(0xFFFF_FFFF_FFFF_FFFF);
     let count = relations.len() / 2;
     let mut start = 0;
     let mut p = 0;
@@ -150,6 +156,7 @@ pub fn write_relation_lists(
             c,
             start,
             n,
+            all,
             expression_rows,
             relation_entries,
             &mut *out,
@@ -189,19 +196,23 @@ pub fn write_relation_forms(
     p
 }
 
-// Writes the lists of the project forms that c reaches. Another form has no entries, so its list is written as none.
+// Writes the lists of the project forms that c reaches; `form_sets` has the sets of the forms. Of a project's list those attributes stay that are in
+// its own set: of what it lists at c they are what its operand has. Another form has no entries, so its list is written as none.
 pub fn write_project_lists(
     c: usize,
     expression_rows: &[u64],
     project_entries: &[u16],
     queries: &[u16],
     reach: &[u64],
+    form_sets: &[u64],
     out: &mut [u16],
     at: usize,
 ) -> usize
-    requires { ⌜ ProjectWritable (now «expression_rows») (now reach) (now «project_entries») (now queries) c (now out) at ⌝ }
+    requires { ⌜ ProjectWritable (now «expression_rows») (now reach) (now «form_sets») (now «project_entries») (now queries) c (now out) at ⌝ }
     ensures { λ r.
-        ⌜ ((T : Tables) → ProjectReads T (now («expression_rows» .entry)) (now (reach .entry)) (now («project_entries» .entry)) (now (queries .entry)) c
+        ⌜ ((T : Tables)
+        → ProjectReads T (now («expression_rows» .entry)) (now (reach .entry)) (now («form_sets» .entry)) (now («project_entries» .entry))
+        (now (queries .entry)) c
         → WrittenAt (projectLists T c) (now (out .entry)) at (now (out .exit)) r) ⌝ }
 {
     let count = queries.len() / 4;
@@ -212,11 +223,13 @@ pub fn write_project_lists(
         let x = decode_query(queries, q);
         let n = project_length(x);
         let reached = holds_at(reach, q, c);
+        let stays = AttributeSet::of_bits(form_sets[q]);
         p = write_list_if(
             reached,
             c,
             start,
             n,
+            stays,
             expression_rows,
             project_entries,
             &mut *out,

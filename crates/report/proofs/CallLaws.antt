@@ -13,39 +13,40 @@ use Rattle.report.specs.Calls.{Call, Given, conditionsTo, beforeTypingTo
 use Rattle.report.specs.GivenDemands.{Forms, FirstFaultTo}
 use Rattle.report.specs.declared.Refusal.{Refusal}
 use Rattle.report.specs.declared.Verdict.{Verdict}
+use Rattle.report.specs.declared.Reading.{Reading}
 use Rattle.report.proofs.VerdictLaws.{or-else-assoc, both-accepted, accepted-both, then-next, then-refused}
 use Rattle.report.proofs.Formed.{formed}
-use Rattle.report.proofs.SetLaws.{faults-narrow}
+use Rattle.report.proofs.SetLaws.{narrow-by}
 use Rattle.report.proofs.FirstFault.{first-append, first-form, first-schema, first-typing, first-foremost, foremost-first, none-holds, holds-none}
 
 -- ---- the parts of an answer
 
-module _ (G : Given) (call : Call) where
+module _ (G : Given) (R : Reading) (call : Call) where
   -- the first conditions refuse
-  pub given-refused : {r : Refusal} → firstOf (G .first) ≡ Verdict.Refused r → answerTo G call ≡ Verdict.Refused r
+  pub given-refused : {r : Refusal} → firstOf (G .first) ≡ Verdict.Refused r → answerTo G R call ≡ Verdict.Refused r
   unfolding answerTo
   given-refused e = then-refused _ (then-refused _ e)
 
   -- a call that gets as far as typing answers what typing answers, and then what comes after it
-  pub given-answer : GetsTo G call → answerTo G call ≡ orElse (typingCheck (G .tables)) (firstOf (call .afterTyping (G .tables)))
+  pub given-answer : GetsTo G call → answerTo G R call ≡ orElse (typingCheck (G .tables) R) (firstOf (call .afterTyping (G .tables)))
   unfolding answerTo
   given-answer g = then-next g
 
   -- a call that does not get there answers what it ran before
-  pub given-before : {r : Refusal} → beforeTypingTo G call ≡ Verdict.Refused r → answerTo G call ≡ Verdict.Refused r
+  pub given-before : {r : Refusal} → beforeTypingTo G call ≡ Verdict.Refused r → answerTo G R call ≡ Verdict.Refused r
   unfolding answerTo
   given-before e = then-refused _ e
 
   -- a call that accepts gets as far as typing, which accepts, and none of its own conditions after it holds
-  module _ (e : answerTo G call ≡ Verdict.Accepted) where
+  module _ (e : answerTo G R call ≡ Verdict.Accepted) where
     pub given-gets : GetsTo G call
     unfolding answerTo
     given-gets = both-accepted _ _ e .0
 
-    after : (typingCheck (G .tables) ≡ Verdict.Accepted) × (firstOf (call .afterTyping (G .tables)) ≡ Verdict.Accepted)
-    after = both-accepted (typingCheck (G .tables)) _ (sym (given-answer given-gets) ∙ e)
+    after : (typingCheck (G .tables) R ≡ Verdict.Accepted) × (firstOf (call .afterTyping (G .tables)) ≡ Verdict.Accepted)
+    after = both-accepted (typingCheck (G .tables) R) _ (sym (given-answer given-gets) ∙ e)
 
-    pub given-typed : typingCheck (G .tables) ≡ Verdict.Accepted
+    pub given-typed : typingCheck (G .tables) R ≡ Verdict.Accepted
     given-typed = after .0
 
     pub given-own : firstOf (call .afterTyping (G .tables)) ≡ Verdict.Accepted
@@ -53,33 +54,33 @@ module _ (G : Given) (call : Call) where
 
 -- ---- "first fault first"
 
-module _ (G : Given) (forms : Forms G) (call : Call) where
+module _ (G : Given) (forms : Forms G) (R : Reading) (call : Call) where
   -- its checks before typing, typing, and those after it
-  first-given : firstOf (conditionsTo G call)
-      ≡ orElse (beforeTypingTo G call) (orElse (firstOf (typingConditions (G .tables))) (firstOf (call .afterTyping (G .tables))))
+  first-given : firstOf (conditionsTo G R call)
+      ≡ orElse (beforeTypingTo G call) (orElse (firstOf (typingConditions (G .tables) R)) (firstOf (call .afterTyping (G .tables))))
   first-given = simp (first-append, first-schema, or-else-assoc)
 
   -- the answer is the first of the conditions that holds
-  pub given-first : answerTo G call ≡ firstOf (conditionsTo G call)
+  pub given-first : answerTo G R call ≡ firstOf (conditionsTo G R call)
   unfolding answerTo
   given-first = go (firstOf (G .first)) refl
     where
-      go : (v : Verdict) → firstOf (G .first) ≡ v → answerTo G call ≡ firstOf (conditionsTo G call)
+      go : (v : Verdict) → firstOf (G .first) ≡ v → answerTo G R call ≡ firstOf (conditionsTo G R call)
       go Verdict.Accepted e =
           ap (λ (v : Verdict). orElse (beforeTypingTo G call) (orElse v (firstOf (call .afterTyping (G .tables)))))
-          (sym (first-typing (G .tables) (faults-narrow (forms e))))
+          (sym (first-typing (G .tables) R (narrow-by (forms e) R)))
           ∙ sym first-given
       go (Verdict.Refused r) e =
           let before = then-refused {a = firstOf (G .first)} _ e in then-refused _ before ∙ sym (first-given ∙ then-refused _ before)
 
   -- it refuses exactly by the first that holds, and accepts exactly where none holds
-  pub first-fault-to : FirstFaultTo G call
+  pub first-fault-to : FirstFaultTo G R call
   first-fault-to = record {
     refuses = λ r. (
-      λ e. first-foremost (conditionsTo G call) r (sym given-first ∙ e),
-      λ f. given-first ∙ foremost-first (conditionsTo G call) r f,
+      λ e. first-foremost (conditionsTo G R call) r (sym given-first ∙ e),
+      λ f. given-first ∙ foremost-first (conditionsTo G R call) r f,
     );
-    accepts = (λ e. none-holds (conditionsTo G call) (sym given-first ∙ e), λ h. given-first ∙ holds-none (conditionsTo G call) h);
+    accepts = (λ e. none-holds (conditionsTo G R call) (sym given-first ∙ e), λ h. given-first ∙ holds-none (conditionsTo G R call) h);
   }
 
 -- ---- "sound in form and schema", and "gets as far as typing"
@@ -123,36 +124,36 @@ module _ (T : Tables) where
   pub whole-forms : Forms (whole T)
   whole-forms a = formed T (sym (first-form T) ∙ a)
 
-  module _ (call : Call) where
+  module _ (R : Reading) (call : Call) where
     -- the answer, with the form checks as they run
-    pub answer-checks : answer T call
-        ≡ orElse (orElse (formCheck T) (orElse (firstOf (call .beforeModel T)) (modelAndSchemaCheck T))) (orElse (typingCheck T) (firstOf (call .afterTyping T)))
+    pub answer-checks : answer T R call
+        ≡ orElse (orElse (formCheck T) (orElse (firstOf (call .beforeModel T)) (modelAndSchemaCheck T))) (orElse (typingCheck T R) (firstOf (call .afterTyping T)))
     unfolding answerTo
     answer-checks =
         ap
         (λ (v : Verdict).
-        orElse (orElse v (orElse (firstOf (call .beforeModel T)) (modelAndSchemaCheck T))) (orElse (typingCheck T) (firstOf (call .afterTyping T))))
+        orElse (orElse v (orElse (firstOf (call .beforeModel T)) (modelAndSchemaCheck T))) (orElse (typingCheck T R) (firstOf (call .afterTyping T))))
         (first-form T)
 
     -- and check by check
-    pub answer-run : answer T call
+    pub answer-run : answer T R call
         ≡ orElse (formCheck T)
         (orElse (firstOf (call .beforeModel T))
-        (orElse (modelCheck T) (orElse (schemaCheck T) (orElse (typingCheck T) (firstOf (call .afterTyping T))))))
+        (orElse (modelCheck T) (orElse (schemaCheck T) (orElse (typingCheck T R) (firstOf (call .afterTyping T))))))
     answer-run = answer-checks ∙ simp or-else-assoc
 
-    pub form-refused : {r : Refusal} → formCheck T ≡ Verdict.Refused r → answer T call ≡ Verdict.Refused r
-    form-refused e = given-refused (whole T) call (first-form T ∙ e)
+    pub form-refused : {r : Refusal} → formCheck T ≡ Verdict.Refused r → answer T R call ≡ Verdict.Refused r
+    form-refused e = given-refused (whole T) R call (first-form T ∙ e)
 
     -- "first fault first"
-    pub answer-first : answer T call ≡ firstOf (conditions T call)
-    answer-first = given-first (whole T) whole-forms call
+    pub answer-first : answer T R call ≡ firstOf (conditions T R call)
+    answer-first = given-first (whole T) whole-forms R call
 
-    pub refused-foremost : (r : Refusal) → (answer T call ≡ Verdict.Refused r) ↔ Foremost (conditions T call) r
-    refused-foremost = first-fault-to (whole T) whole-forms call .refuses
+    pub refused-foremost : (r : Refusal) → (answer T R call ≡ Verdict.Refused r) ↔ Foremost (conditions T R call) r
+    refused-foremost = first-fault-to (whole T) whole-forms R call .refuses
 
-    pub accepted-none : (answer T call ≡ Verdict.Accepted) ↔ NoneHolds (conditions T call)
-    accepted-none = first-fault-to (whole T) whole-forms call .accepts
+    pub accepted-none : (answer T R call ≡ Verdict.Accepted) ↔ NoneHolds (conditions T R call)
+    accepted-none = first-fault-to (whole T) whole-forms R call .accepts
 
   -- what 1 to 10, 24 and 12 to 14 accept is sound
   pub sound-accepted : Sound T ↔ (orElse (formCheck T) (modelAndSchemaCheck T) ≡ Verdict.Accepted)

@@ -1,7 +1,7 @@
 -- A list of entries and what configuring writes of it: the entries that are kept at c, in order, their expression made 0.
 use Prim.Native.Nat.{ℕ, zero, suc, _+_, _*_, _/_, _%_, _<_, _≤_}
 use mathlib.Core.Path.{_≡_, refl, sym, ap, ap₂, _∙_}
-use mathlib.Core.Bool.{Bool, true, false}
+use mathlib.Core.Bool.{Bool, true, false, and-eq-true-iff}
 use mathlib.Core.Logic.{_≢_}
 use mathlib.Core.List.{List, [], _∷_, _++_}
 use native.Mathlib.Nat.{le-refl, zero-lt-suc}
@@ -12,7 +12,7 @@ use Rattle.sets.proofs.ListLaws.{kept-yes, kept-no}
 use Rattle.report.specs.Tables.{Tables, entryAttribute, entryExpression, entryCount}
 use Rattle.report.specs.Typing.{entryHolds, joinedSet}
 use Rattle.report.specs.PlainAlgebra.{setFrom}
-use Rattle.report.specs.Configuring.{entryKept, keptLength, keptList}
+use Rattle.report.specs.Configuring.{entryKept, entryStays, allStay, keptLength, keptList}
 use Rattle.report.specs.ConfiguredReport.{keptAttributes}
 use Rattle.report.specs.Repeats.{repeats}
 use Rattle.report.specs.Formed.{Formed}
@@ -61,74 +61,78 @@ pub record Stands (entries : List ℕ) (start : ℕ) (l : List ℕ) : Type 0 whe
   pub inside : start * 2 + length l ≤ length entries
   pub reads : (j : ℕ) → j < length l → getD entries (start * 2 + j) 0 ≡ getD l j 0
 
-module _ (T : Tables) (c start count : ℕ) where
+module _ (T : Tables) (c : ℕ) (stay : ℕ → Bool) (start count : ℕ) where
+  -- what stays is kept
+  kept-of : (i : ℕ) → entryStays T c stay start i ≡ true → entryKept T c start i ≡ true
+  kept-of i e = and-eq-true-iff (stay (entryAttribute (T .entries) (start + i))) (entryKept T c start i) .0 e .1
+
   abbrev pairOf : ℕ → List ℕ
   pairOf i = entryAttribute (T .entries) (start + i) ∷ 0 ∷ []
 
-  pub list-length : length (keptList T c start count) ≡ keptLength T c start count * 2
-  list-length = forms-length (entryKept T c start) pairOf 2 count (λ i h k. refl) (zero-lt-suc 1)
+  pub list-length : length (keptList T c stay start count) ≡ keptLength T c stay start count * 2
+  list-length = forms-length (entryStays T c stay start) pairOf 2 count (λ i h k. refl) (zero-lt-suc 1)
 
   -- entry i of the source is one of the list written, if it is kept
-  list-attribute : (i : ℕ) → i < count → entryKept T c start i ≡ true
-      → getD (keptList T c start count) (keptLength T c start i * 2) 0 ≡ entryAttribute (T .entries) (start + i)
-  list-attribute i h k = first-word (entryKept T c start) pairOf 2 count (λ i h k. refl) (zero-lt-suc 1) i h k
+  list-attribute : (i : ℕ) → i < count → entryStays T c stay start i ≡ true
+      → getD (keptList T c stay start count) (keptLength T c stay start i * 2) 0 ≡ entryAttribute (T .entries) (start + i)
+  list-attribute i h k = first-word (entryStays T c stay start) pairOf 2 count (λ i h k. refl) (zero-lt-suc 1) i h k
 
-  pub list-pairs : Formed T → start + count ≤ entryCount T → Pairs (T .attributes) (keptList T c start count)
+  pub list-pairs : Formed T → start + count ≤ entryCount T → Pairs (T .attributes) (keptList T c stay start count)
   list-pairs F l =
-      kept-all (entryKept T c start) pairOf (Pairs (T .attributes)) tt (pairs-join (T .attributes)) count
+      kept-all (entryStays T c stay start) pairOf (Pairs (T .attributes)) tt (pairs-join (T .attributes)) count
       (λ i h k. (entry-attribute F (start + i) (omega arith), refl, tt))
 
   -- tables U in whose table 1 the list written stands from `new` on, all entries holding at 0
-  module _ (U : Tables) (new : ℕ) (s : Stands (U .entries) new (keptList T c start count)) where
-    carried : (i : ℕ) → i < count → entryKept T c start i ≡ true
-        → entryAttribute (U .entries) (new + keptLength T c start i) ≡ entryAttribute (T .entries) (start + i)
+  module _ (U : Tables) (new : ℕ) (s : Stands (U .entries) new (keptList T c stay start count)) where
+    carried : (i : ℕ) → i < count → entryStays T c stay start i ≡ true
+        → entryAttribute (U .entries) (new + keptLength T c stay start i) ≡ entryAttribute (T .entries) (start + i)
     carried i h k =
-        let m = count-lt (entryKept T c start) i count h k in
-        let e : (new + keptLength T c start i) * 2 ≡ new * 2 + keptLength T c start i * 2 = omega arith in
-        ap (λ (x : ℕ). getD (U .entries) x 0) e ∙ s .reads (keptLength T c start i * 2) (omega (arith, list-length)) ∙ list-attribute i h k
+        let m = count-lt (entryStays T c stay start) i count h k in
+        let e : (new + keptLength T c stay start i) * 2 ≡ new * 2 + keptLength T c stay start i * 2 = omega arith in
+        ap (λ (x : ℕ). getD (U .entries) x 0) e ∙ s .reads (keptLength T c stay start i * 2) (omega (arith, list-length)) ∙ list-attribute i h k
 
-    pub carried-inside : new + keptLength T c start count ≤ entryCount U
+    pub carried-inside : new + keptLength T c stay start count ≤ entryCount U
     carried-inside = omega (arith, list-length, s .inside)
 
     -- no attribute is in it twice
-    carried-once : (i j : ℕ) → i < j → j < keptLength T c start count → entryAttribute (U .entries) (new + i) ≢ entryAttribute (U .entries) (new + j)
+    carried-once : (i j : ℕ) → i < j → j < keptLength T c stay start count → entryAttribute (U .entries) (new + i) ≢ entryAttribute (U .entries) (new + j)
     carried-once i j below h same =
-        let p = nth (entryKept T c start) count i (omega arith) in
-        let q = nth (entryKept T c start) count j h in
+        let p = nth (entryStays T c stay start) count i (omega arith) in
+        let q = nth (entryStays T c stay start) count j h in
         kept-once T c start (p .old) (q .old)
-        (count-before (entryKept T c start) (q .old) (p .old) (p .passed) (let a = p .number in let b = q .number in omega arith))
-        (p .passed) (q .passed)
+        (count-before (entryStays T c stay start) (q .old) (p .old) (p .passed) (let a = p .number in let b = q .number in omega arith))
+        (kept-of (p .old) (p .passed)) (kept-of (q .old) (q .passed))
         (sym (carried (p .old) (p .below) (p .passed)) ∙ ap (λ (x : ℕ). entryAttribute (U .entries) (new + x)) (p .number) ∙ same
         ∙ ap (λ (x : ℕ). entryAttribute (U .entries) (new + x)) (sym (q .number)) ∙ carried (q .old) (q .below) (q .passed))
 
-    pub carried-repeats : repeats (U .entries) new (keptLength T c start count) ≡ false
-    carried-repeats = no-repeat (U .entries) new (keptLength T c start count) carried-once
+    pub carried-repeats : repeats (U .entries) new (keptLength T c stay start count) ≡ false
+    carried-repeats = no-repeat (U .entries) new (keptLength T c stay start count) carried-once
 
     module _ (hold : (k : ℕ) → entryHolds U 0 k ≡ true) where
       -- all of it is kept
-      carried-kept : (k : ℕ) → k < keptLength T c start count → entryKept U 0 new k ≡ true
+      carried-kept : (k : ℕ) → k < keptLength T c stay start count → entryKept U 0 new k ≡ true
       carried-kept k h = kept-alone U 0 new k (λ j l. carried-once j k l h) ∙ hold (new + k)
 
-      attributes-to : (n : ℕ) → n ≤ count → keptAttributes U 0 new (keptLength T c start n) ≡ keptAttributes T c start n
+      attributes-to : (n : ℕ) → n ≤ count → keptAttributes U 0 allStay new (keptLength T c stay start n) ≡ keptAttributes T c stay start n
       unfolding keptAttributes
       attributes-to zero h = refl
-      attributes-to (suc n) h = go (entryKept T c start n) refl (attributes-to n (omega arith))
+      attributes-to (suc n) h = go (entryStays T c stay start n) refl (attributes-to n (omega arith))
         where
-          go : (t : Bool) → entryKept T c start n ≡ t → keptAttributes U 0 new (keptLength T c start n) ≡ keptAttributes T c start n
-              → keptAttributes U 0 new (keptLength T c start (suc n)) ≡ keptAttributes T c start (suc n)
+          go : (t : Bool) → entryStays T c stay start n ≡ t → keptAttributes U 0 allStay new (keptLength T c stay start n) ≡ keptAttributes T c stay start n
+              → keptAttributes U 0 allStay new (keptLength T c stay start (suc n)) ≡ keptAttributes T c stay start (suc n)
           go true p ih =
-              ap (keptAttributes U 0 new) (count-yes (entryKept T c start) n p)
-              ∙ kept-yes (entryKept U 0 new) (λ i. entryAttribute (U .entries) (new + i) ∷ []) (keptLength T c start n)
-              (carried-kept (keptLength T c start n) (count-lt (entryKept T c start) n count h p))
+              ap (keptAttributes U 0 allStay new) (count-yes (entryStays T c stay start) n p)
+              ∙ kept-yes (entryKept U 0 new) (λ i. entryAttribute (U .entries) (new + i) ∷ []) (keptLength T c stay start n)
+              (carried-kept (keptLength T c stay start n) (count-lt (entryStays T c stay start) n count h p))
               ∙ ap₂ _++_ ih (ap (λ (a : ℕ). a ∷ []) (carried n h p))
-              ∙ sym (kept-yes (entryKept T c start) (λ i. entryAttribute (T .entries) (start + i) ∷ []) n p)
+              ∙ sym (kept-yes (entryStays T c stay start) (λ i. entryAttribute (T .entries) (start + i) ∷ []) n p)
           go false p ih =
-              ap (keptAttributes U 0 new) (count-no (entryKept T c start) n p) ∙ ih
-              ∙ sym (kept-no (entryKept T c start) (λ i. entryAttribute (T .entries) (start + i) ∷ []) n p)
+              ap (keptAttributes U 0 allStay new) (count-no (entryStays T c stay start) n p) ∙ ih
+              ∙ sym (kept-no (entryStays T c stay start) (λ i. entryAttribute (T .entries) (start + i) ∷ []) n p)
 
       -- its list of attributes, and its set, are those of the source's list at c
-      pub carried-attributes : keptAttributes U 0 new (keptLength T c start count) ≡ keptAttributes T c start count
+      pub carried-attributes : keptAttributes U 0 allStay new (keptLength T c stay start count) ≡ keptAttributes T c stay start count
       carried-attributes = attributes-to count (le-refl count)
 
-      pub carried-set : joinedSet U 0 new (keptLength T c start count) ≡ joinedSet T c start count
-      carried-set = sym (kept-joined U 0 new (keptLength T c start count)) ∙ ap setFrom carried-attributes ∙ kept-joined T c start count
+      pub carried-set : joinedSet U 0 new (keptLength T c stay start count) ≡ setFrom (keptAttributes T c stay start count)
+      carried-set = sym (kept-joined U 0 new (keptLength T c stay start count)) ∙ ap setFrom carried-attributes

@@ -12,6 +12,7 @@ use Rattle.sets.proofs.BitLaws.{bit-none, bit-suc}
 use Rattle.report.specs.Tables.{Tables, report}
 use Rattle.report.specs.Expressions.{holds, permitted}
 use Rattle.report.specs.Typing.{gathered, compares, setOf, leads, reached, joinedSet, faults}
+use Rattle.report.specs.Readings.{foundBelow, spared}
 use Rattle.report.specs.ColumnRows.{hasColumn, columnRows}
 use Rattle.report.specs.Configuring.{comparisonTarget, queryTarget, entryKept, configured}
 use Rattle.report.specs.FormChecks.{formCheck, tablesCheck, kindsCheck, expressionsCheck, entriesCheck, relationsCheck, comparisonsCheck, queriesCheck, untakenCheck}
@@ -26,7 +27,7 @@ use Rattle.report.specs.Examples.{Case, Outcome, outcomeBy, outcome, Exa
 
 -- to unfold this is to unfold all that an outcome is computed with
 unfoldable pub computed : Unit {0}
-unfolding bitsOf holds permitted gathered compares setOf leads reached joinedSet faults columnRows comparisonTarget queryTarget entryKept configured formCheck tablesCheck kindsCheck expressionsCheck entriesCheck relationsCheck comparisonsCheck queriesCheck untakenCheck typingCheck _gives_ formConditions each firstOf answerTo decimal numbersIn linesOf fileLines fileOf print
+unfolding bitsOf holds permitted gathered compares setOf leads reached joinedSet faults foundBelow spared columnRows comparisonTarget queryTarget entryKept configured formCheck tablesCheck kindsCheck expressionsCheck entriesCheck relationsCheck comparisonsCheck queriesCheck untakenCheck typingCheck _gives_ formConditions each firstOf answerTo decimal numbersIn linesOf fileLines fileOf print
 computed = tt
 
 -- ---- the column rows, each configuration's set worked out once

@@ -16,7 +16,8 @@ use Rattle.sets.specs.Bits.{bit, lowestMember}
 use Rattle.report.specs.Tables.{Tables, shapeOf, shapes, words, entryAttribute, relationLength, relationStart, query}
 use Rattle.report.specs.Tables.{relationCount, queryCount}
 use Rattle.report.specs.Expressions.{configurations, permitted}
-use Rattle.report.specs.Typing.{reached, faults, fails}
+use Rattle.report.specs.Typing.{reached}
+use Rattle.report.specs.Readings.{faultsBy, failsBy}
 use Rattle.report.specs.Verdicts.{refusal, refuseIf, refuseAt, orElse, firstFrom}
 use Rattle.report.specs.Verdicts.{Condition, _gives_, each, firstOf, condition, NoneHolds, Foremost}
 use Rattle.report.specs.FormChecks.{formCheck, tablesCheck, kindsCheck, lengthFits, lengthsCheck, expressionsCheck, entriesCheck, relationsCheck, comparisonsCheck, queriesCheck, untakenCheck}
@@ -25,6 +26,7 @@ use Rattle.report.specs.Conditions.{formConditions, relationConditions, 
 use Rattle.report.specs.Calls.{permittedCondition, roomConditions, configuring}
 use Rattle.report.specs.declared.Refusal.{Refusal}
 use Rattle.report.specs.declared.Verdict.{Verdict}
+use Rattle.report.specs.declared.Reading.{Reading}
 use Rattle.sets.proofs.SearchLaws.{lowest-nothing, nothing-lowest, lowest-at}
 use Rattle.sets.proofs.BitLaws.{zero-bits, bit-none}
 use Rattle.report.proofs.VerdictLaws.{or-else-assoc, or-else-accepted, both-accepted, accepted-both, if-accepted, accepted-if, accepted-not-refused}
@@ -137,26 +139,26 @@ first-fault : (t : Bool) (s : ℕ) (r : ℕ → Refusal) → s < 2 ^ 64
 first-fault true s r h = first-each 64 (bit s) r ∙ sym (first-item s r h)
 first-fault false s r h = first-each 64 (λ a. false) r ∙ ap (refuseAt r) (nothing-lowest (λ a. false) 64 (λ k l. refl))
 
-module _ (T : Tables) (narrow : (c phase q : ℕ) → q < queryCount T → faults T c phase q < 2 ^ 64) where
+module _ (T : Tables) (R : Reading) (narrow : (c phase q : ℕ) → q < queryCount T → faultsBy T R c phase q < 2 ^ 64) where
   -- one form in one phase
   abbrev phaseConditions : ℕ → ℕ → List Condition
   phaseConditions q phase =
       concat (configurations T)
-      (λ c. each 64 (λ a. reached T c q && bit (faults T c phase q) a) (λ a. refusal (faultNumber phase (query (T .queries) q)) q a c))
+      (λ c. each 64 (λ a. reached T c q && bit (faultsBy T R c phase q) a) (λ a. refusal (faultNumber phase (query (T .queries) q)) q a c))
 
-  first-at : (q phase : ℕ) → q < queryCount T → firstOf (phaseConditions q phase) ≡ phaseAt T q phase
+  first-at : (q phase : ℕ) → q < queryCount T → firstOf (phaseConditions q phase) ≡ phaseAt T R q phase
   first-at q phase h =
       first-concat (configurations T) _
       ∙ ap (λ (check : ℕ → Verdict). firstFrom check (configurations T) 0)
-      (fun-ext (λ c. first-fault (reached T c q) (faults T c phase q) _ (narrow c phase q h)))
-      ∙ sym (first-search _ (λ c. fails T c phase q) (configurations T) 0)
+      (fun-ext (λ c. first-fault (reached T c q) (faultsBy T R c phase q) _ (narrow c phase q h)))
+      ∙ sym (first-search _ (λ c. failsBy T R c phase q) (configurations T) 0)
 
-  first-phases : (q : ℕ) → q < queryCount T → firstOf (concat 2 (phaseConditions q)) ≡ typingAt T q
-  first-phases q h = first-concat 2 (phaseConditions q) ∙ first-same _ (phaseAt T q) 2 0 (λ phase l n. first-at q phase h)
+  first-phases : (q : ℕ) → q < queryCount T → firstOf (concat 2 (phaseConditions q)) ≡ typingAt T R q
+  first-phases q h = first-concat 2 (phaseConditions q) ∙ first-same _ (phaseAt T R q) 2 0 (λ phase l n. first-at q phase h)
 
-  pub first-typing : firstOf (typingConditions T) ≡ typingCheck T
+  pub first-typing : firstOf (typingConditions T R) ≡ typingCheck T R
   unfolding typingCheck typingConditions
-  first-typing = first-concat (queryCount T) _ ∙ first-same _ (typingAt T) (queryCount T) 0 (λ q l h. first-phases q (omega arith))
+  first-typing = first-concat (queryCount T) _ ∙ first-same _ (typingAt T R) (queryCount T) 0 (λ q l h. first-phases q (omega arith))
 
 -- ---- what 'first' says: the least in the order of the list
 

@@ -17,6 +17,7 @@ use Rattle.report.specs.Calls.{answer, Sound, checking, configuring}
 use Rattle.report.specs.TypingFaults.{Broken, Named}
 use Rattle.report.specs.Examples.{h1, harbour, h1Expressions, h1Entries, h1Queries, guarded}
 use Rattle.report.specs.declared.Verdict.{Verdict}
+use Rattle.report.specs.declared.Reading.{Reading}
 use Rattle.report.proofs.ExamplesHold.{computed}
 use Rattle.report.proofs.CallLaws.{sound-accepted, sound-formed}
 use Rattle.report.proofs.TreeLaws.{report-passes}
@@ -54,7 +55,7 @@ pub h1-sound : Sound (h1 2)
 unfolding computed
 h1-sound = sound-accepted (h1 2) .1 refl
 
-pub h1-accepted : answer (h1 2) (checking 1024) ≡ Verdict.Accepted
+pub h1-accepted : answer (h1 2) Reading.Strict (checking 1024) ≡ Verdict.Accepted
 unfolding computed
 h1-accepted = refl
 
@@ -63,11 +64,11 @@ pub h1-permitted : (permitted (h1 2) 3 ≡ true) × (permitted (h1 2) 4 ≡ fals
 unfolding computed
 h1-permitted = (refl, refl)
 
-pub h1-passes : (c : ℕ) → permitted (h1 2) c ≡ true → passes (kindOf (h1 2)) (configuredSchema (h1 2) c) (configuredReport (h1 2) c) ≡ true
+pub h1-passes : (c : ℕ) → permitted (h1 2) c ≡ true → passes (kindOf (h1 2)) (configuredSchema (h1 2) c) (configuredReport (h1 2) c Reading.Strict) ≡ true
 h1-passes c p =
-    report-passes (sound-formed (h1 2) h1-sound) c p .1 (λ q phase. accepted-exactly (h1 2) h1-sound .0 h1-accepted c q phase (permitted-within (h1 2) c p))
+    report-passes (sound-formed (h1 2) h1-sound) c p .1 (λ q phase. accepted-exactly (h1 2) Reading.Strict h1-sound .0 h1-accepted c q phase (permitted-within (h1 2) c p))
 
-pub h1-never : (c r1 r2 r3 r4 : ℕ) → isTypingFault (answer (h1 2) (configuring c r1 r2 r3 r4)) ≡ false
+pub h1-never : (c r1 r2 r3 r4 : ℕ) → isTypingFault (answer (h1 2) Reading.Strict (configuring c r1 r2 r3 r4)) ≡ false
 h1-never c r1 r2 r3 r4 = never-refused (h1 2) (configuring-own c r1 r2 r3 r4) (configure-gets (h1 2) h1-sound c r1 r2 r3 r4) h1-passes
 
 -- ---- H2: sound, and refused for a typing fault by both calls; so its report breaks a rule somewhere: at 1, where the form named fails
@@ -79,11 +80,11 @@ pub h2-sound : Sound h2
 unfolding computed
 h2-sound = sound-accepted h2 .1 refl
 
-pub h2-refused : answer h2 (checking 1024) ≡ Verdict.Refused (refusal 17 1 2 1)
+pub h2-refused : answer h2 Reading.Strict (checking 1024) ≡ Verdict.Refused (refusal 17 1 2 1)
 unfolding computed
 h2-refused = refl
 
-h2-fault : isTypingFault (answer h2 (checking 1024)) ≡ true
+h2-fault : isTypingFault (answer h2 Reading.Strict (checking 1024)) ≡ true
 h2-fault = ap isTypingFault h2-refused
 
 pub h2-broken : Broken h2
@@ -92,7 +93,7 @@ h2-broken = refused-broken h2 (checking-own 1024) (check-gets h2 h2-sound 1024 .
 pub h2-named : Named h2 (checking 1024)
 h2-named = refused-named h2 (checking-own 1024) (check-gets h2 h2-sound 1024 .1 refl) h2-fault
 
-pub h2-configure : (c r1 r2 r3 r4 : ℕ) → isTypingFault (answer h2 (configuring c r1 r2 r3 r4)) ≡ true
+pub h2-configure : (c r1 r2 r3 r4 : ℕ) → isTypingFault (answer h2 Reading.Strict (configuring c r1 r2 r3 r4)) ≡ true
 h2-configure c r1 r2 r3 r4 = refused-broken h2 (configuring-own c r1 r2 r3 r4) (configure-gets h2 h2-sound c r1 r2 r3 r4) .1 h2-broken
 
 pub h2-fails : (fails h2 1 0 1 ≡ true) × (fails h2 0 0 1 ≡ false)
@@ -100,7 +101,7 @@ unfolding computed
 h2-fails = (refl, refl)
 
 -- computed as a tree, without the theorem
-pub h2-tree : (passes (kindOf h2) (configuredSchema h2 1) (configuredReport h2 1) ≡ false) × (passes (kindOf h2) (configuredSchema h2 0) (configuredReport h2 0) ≡ true)
+pub h2-tree : (passes (kindOf h2) (configuredSchema h2 1) (configuredReport h2 1 Reading.Strict) ≡ false) × (passes (kindOf h2) (configuredSchema h2 0) (configuredReport h2 0 Reading.Strict) ≡ true)
 unfolding computed plainComparisonAt keptAttributes plainQueryAt
 h2-tree = (refl, refl)
 
@@ -109,19 +110,19 @@ h2-tree = (refl, refl)
 abbrev h8 : Tables
 h8 = harbour 2 (0 ∷ 0 ∷ 0 ∷ 2 ∷ 0 ∷ 0 ∷ 2 ∷ 1 ∷ 0 ∷ []) (h1Entries 2) h1Queries
 
-h8-refused : answer h8 (checking 1024) ≡ Verdict.Refused (refusal 12 0 0 0)
+h8-refused : answer h8 Reading.Strict (checking 1024) ≡ Verdict.Refused (refusal 12 0 0 0)
 unfolding computed
 h8-refused = refl
 
 pub h8-unsound : Sound h8 → ⊥
-h8-unsound = check-early h8 .0 (refusal 12 0 0 0, h8-refused, refl)
+h8-unsound = check-early h8 Reading.Strict .0 (refusal 12 0 0 0, h8-refused, refl)
 
 -- ---- a relation that is absent at 0, under a choice that does not take it there: accepted. A form that is not reached breaks nothing
 
 abbrev untaken : Tables
 untaken = guarded (0 ∷ 0 ∷ []) 1
 
-pub untaken-accepted : answer untaken (checking 1024) ≡ Verdict.Accepted
+pub untaken-accepted : answer untaken Reading.Strict (checking 1024) ≡ Verdict.Accepted
 unfolding computed
 untaken-accepted = refl
 
@@ -133,6 +134,6 @@ untaken-absent = (refl, refl, refl)
 abbrev unguarded : Tables
 unguarded = tablesOf 1 2 0 (1 ∷ 0 ∷ 0 ∷ 2 ∷ 0 ∷ 0 ∷ []) (0 ∷ 0 ∷ []) (1 ∷ 1 ∷ []) [] (1 ∷ 0 ∷ 0 ∷ 0 ∷ []) (0 ∷ 0 ∷ [])
 
-pub unguarded-refused : answer unguarded (checking 1024) ≡ Verdict.Refused (refusal 15 0 0 0)
+pub unguarded-refused : answer unguarded Reading.Strict (checking 1024) ≡ Verdict.Refused (refusal 15 0 0 0)
 unfolding computed
 unguarded-refused = refl

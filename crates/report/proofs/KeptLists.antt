@@ -1,25 +1,24 @@
 -- What is kept of a list at c (specs/Configuring) and its joined set (specs/Typing): what is kept has no attribute twice, and its set is the joined
 -- set. Other proofs cite these laws, and do not ask whether a list has an attribute twice.
-use Prim.Native.Nat.{ℕ, zero, suc, _+_, _^_, _<_, _≤_}
+use Prim.Native.Nat.{ℕ, zero, suc, _+_, _^_, _<_}
 use mathlib.Core.Path.{_≡_, refl, sym, ap, ap₂, _∙_}
-use mathlib.Core.Bool.{Bool, true, false, cond, _&&_, _||_, not, and-eq-true-iff, false≢true}
+use mathlib.Core.Bool.{Bool, true, false, cond, _&&_, _||_, not, and-true, and-false, and-eq-true-iff, false≢true}
 use mathlib.Core.Logic.{_≢_, _↔_}
 use mathlib.Core.List.{List, [], _∷_, _++_}
-use native.Mathlib.Omega.{arith}
-use borrow.Author.Tests.{eq-eqb, ne-eqb, not-true}
+use borrow.Author.Tests.{eqb-true, eq-eqb, ne-eqb, not-true}
 use lib.Dec.{eqb}
 use lib.Bits.{bitOr, or-zero-l, or-zero-r}
 use Rattle.sets.specs.Search.{someBelow}
-use Rattle.sets.specs.Bits.{bit, memberCount}
-use Rattle.sets.proofs.SearchLaws.{some-none, none-some, someBelow-suc, count-yes, count-no}
-use Rattle.sets.proofs.BitLaws.{bit-none, bit-or, bit-pow, or-assoc, or-member, or-count}
-use Rattle.report.specs.Tables.{Tables, entryAttribute, entryCount}
+use Rattle.sets.specs.Bits.{bit}
+use Rattle.sets.proofs.SearchLaws.{some-none, none-some, someBelow-suc}
+use Rattle.sets.proofs.BitLaws.{bit-none, bits-equal, bit-or, bit-pow, or-assoc, or-member}
+use Rattle.report.specs.Tables.{Tables, entryAttribute}
 use Rattle.report.specs.Typing.{entryHolds, joinedSet}
 use Rattle.report.specs.PlainAlgebra.{setFrom}
-use Rattle.report.specs.Configuring.{givesAttribute, entryKept, keptLength}
+use Rattle.report.specs.Configuring.{givesAttribute, entryKept, entryStays, allStay, staying, readAs}
+use Rattle.report.specs.declared.Query.{Query}
+use Rattle.report.specs.declared.Reading.{Reading}
 use Rattle.report.specs.ConfiguredReport.{keptAttributes}
-use Rattle.report.specs.Formed.{Formed}
-use Rattle.report.proofs.FormedFacts.{entry-narrow}
 
 set-join : (x y : List ℕ) → setFrom (x ++ y) ≡ bitOr (setFrom x) (setFrom y)
 set-join [] y = sym (or-zero-l (setFrom y))
@@ -102,31 +101,66 @@ module _ (T : Tables) (c start : ℕ) where
 
   -- ---- its set is the joined set
 
-  pub kept-joined : (count : ℕ) → setFrom (keptAttributes T c start count) ≡ joinedSet T c start count
+  -- where some attributes stay, those of the joined set that stay
+  pub kept-staying : (stay : ℕ → Bool) (count x : ℕ)
+      → bit (setFrom (keptAttributes T c stay start count)) x ≡ (bit (joinedSet T c start count) x && stay x)
   unfolding keptAttributes joinedSet
-  kept-joined zero = refl
-  kept-joined (suc count) =
-      set-join (keptAttributes T c start count) _
-      ∙ ap₂ bitOr (kept-joined count) (one (entryKept T c start count) (attribute count))
-      ∙ sym (joined-kept count)
+  kept-staying stay zero x = bit-none x ∙ sym (ap (λ (t : Bool). t && stay x) (bit-none x))
+  kept-staying stay (suc count) x =
+      ap (λ (y : ℕ). bit y x) (set-join (keptAttributes T c stay start count) _)
+      ∙ bit-or (setFrom (keptAttributes T c stay start count)) _ x
+      ∙ ap₂ _||_ (kept-staying stay count x) (one (entryStays T c stay start count))
+      ∙ go (eqb x (attribute count)) refl (bit (joinedSet T c start count) x) (entryKept T c start count)
+      ∙ sym (ap (λ (t : Bool). t && stay x)
+      (ap (λ (y : ℕ). bit y x) (joined-kept count) ∙ bit-or (joinedSet T c start count) _ x ∙ ap (λ (t : Bool). bit (joinedSet T c start count) x || t) (two (entryKept T c start count))))
     where
-      one : (t : Bool) (a : ℕ) → setFrom (cond t (a ∷ []) []) ≡ cond t (2 ^ a) 0
-      one true a = or-zero-r (2 ^ a)
-      one false a = refl
+      one : (t : Bool) → bit (setFrom (cond t (attribute count ∷ []) [])) x ≡ (t && eqb x (attribute count))
+      one true = ap (λ (y : ℕ). bit y x) (or-zero-r (2 ^ attribute count)) ∙ bit-pow (attribute count) x
+      one false = bit-none x
 
-  -- and it has as many entries as the joined set has attributes
-  pub kept-count : Formed T → (count : ℕ) → start + count ≤ entryCount T → keptLength T c start count ≡ memberCount (joinedSet T c start count)
-  unfolding joinedSet
-  kept-count F zero h = refl
-  kept-count F (suc count) h = go (entryKept T c start count) refl (kept-count F count (omega arith))
-    where
-      go : (t : Bool) → entryKept T c start count ≡ t → keptLength T c start count ≡ memberCount (joinedSet T c start count)
-          → keptLength T c start (suc count) ≡ memberCount (joinedSet T c start (suc count))
-      go true k ih =
-          count-yes (entryKept T c start) count k ∙ ap suc ih
-          ∙ sym (ap memberCount (joined-kept count ∙ ap (λ (t : Bool). bitOr (joinedSet T c start count) (cond t (2 ^ attribute count) 0)) k)
-          ∙ or-count 64 (joinedSet T c start count) (attribute count) (entry-narrow F (start + count) (omega arith)) (kept-parts count k .1))
-      go false k ih =
-          count-no (entryKept T c start) count k ∙ ih
-          ∙ sym (ap memberCount (joined-kept count ∙ ap (λ (t : Bool). bitOr (joinedSet T c start count) (cond t (2 ^ attribute count) 0)) k
-          ∙ or-zero-r (joinedSet T c start count)))
+      two : (t : Bool) → bit (cond t (2 ^ attribute count) 0) x ≡ (t && eqb x (attribute count))
+      two true = bit-pow (attribute count) x
+      two false = bit-none x
+
+      spread : (j s k : Bool) → ((j && s) || ((s && k) && true)) ≡ ((j || (k && true)) && s)
+      spread true true k = refl
+      spread true false k = refl
+      spread false true k = sym (and-true (k && true))
+      spread false false k = sym (and-false (k && true))
+
+      keep : (j s u k : Bool) → ((j && s) || ((u && k) && false)) ≡ ((j || (k && false)) && s)
+      keep true true u k = refl
+      keep true false u k = and-false (u && k)
+      keep false s u k = and-false (u && k) ∙ sym (ap (λ (t : Bool). t && s) (and-false k))
+
+      go : (t : Bool) → eqb x (attribute count) ≡ t → (j k : Bool)
+          → ((j && stay x) || ((stay (attribute count) && k) && t)) ≡ ((j || (k && t)) && stay x)
+      go true e j k = ap (λ (a : ℕ). (j && stay x) || ((stay a && k) && true)) (sym (eqb-true x (attribute count) e)) ∙ spread j (stay x) k
+      go false e j k = keep j (stay x) (stay (attribute count)) k
+
+  pub kept-joined : (count : ℕ) → setFrom (keptAttributes T c allStay start count) ≡ joinedSet T c start count
+  kept-joined count = bits-equal _ _ (λ x. kept-staying allStay count x ∙ and-true (bit (joinedSet T c start count) x))
+
+-- ---- in the strict reading all attributes stay, and each form is written as it is
+
+pub strict-staying : (T : Tables) (c : ℕ) (y : Query) → staying T c Reading.Strict y ≡ allStay
+strict-staying T c Query.Malformed = refl
+strict-staying T c Query.Empty = refl
+strict-staying T c (Query.Relation a) = refl
+strict-staying T c (Query.Select a b) = refl
+strict-staying T c (Query.Project a b) = refl
+strict-staying T c (Query.Choice a b d) = refl
+strict-staying T c (Query.Product a b) = refl
+strict-staying T c (Query.Union a b) = refl
+strict-staying T c (Query.Intersection a b) = refl
+
+pub strict-read : (T : Tables) (c : ℕ) (y : Query) → readAs T c Reading.Strict y ≡ y
+strict-read T c Query.Malformed = refl
+strict-read T c Query.Empty = refl
+strict-read T c (Query.Relation a) = refl
+strict-read T c (Query.Select a b) = refl
+strict-read T c (Query.Project a b) = refl
+strict-read T c (Query.Choice a b d) = refl
+strict-read T c (Query.Product a b) = refl
+strict-read T c (Query.Union a b) = refl
+strict-read T c (Query.Intersection a b) = refl

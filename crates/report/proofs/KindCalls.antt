@@ -17,8 +17,8 @@ use Rattle.report.specs.Tables.{Tables, kindOf, comparisonCount, queryCo
 use Rattle.report.specs.Operands.{sidesIn}
 use Rattle.report.specs.Expressions.{permitted}
 use Rattle.report.specs.Typing.{faults, fails}
-use Rattle.report.specs.PlainAlgebra.{PlainComparison, PlainQuery, Schema, Kinds, oneKind, namesThere, columns, passes}
-use Rattle.report.specs.ConfiguredReport.{plainQueryAt, configuredReport, configuredSchema}
+use Rattle.report.specs.PlainAlgebra.{PlainComparison, PlainQuery, Schema, Kinds, oneKind, namesThere, columns}
+use Rattle.report.specs.ConfiguredReport.{plainQueryAt, configuredSchema}
 use Rattle.report.specs.Verdicts.{refusal, refuseIf, refuseAt}
 use Rattle.report.specs.FormChecks.{constantKind, kindOk, constantOk, kindsCheck, tablesCheck, formCheck}
 use Rattle.report.specs.Checks.{faultNumber, isEarly, isOfTyping, isTypingFault}
@@ -30,40 +30,37 @@ use Rattle.report.specs.Kinds.{Differing, KindFault}
 use Rattle.report.specs.declared.Query.{Query}
 use Rattle.report.specs.declared.Refusal.{Refusal}
 use Rattle.report.specs.declared.Verdict.{Verdict}
+use Rattle.report.specs.declared.Reading.{Reading}
 use Rattle.report.proofs.VerdictLaws.{accepted-not-refused, then-next, then-refused, accepted-both, accepted-if}
 use Rattle.report.proofs.Formed.{fit-all}
 use Rattle.report.proofs.SetLaws.{faults-narrow}
 use Rattle.report.proofs.ReachLaws.{reached-in}
-use Rattle.report.proofs.TreeLaws.{reached-permitted, fails-where, report-passes}
-use Rattle.report.proofs.TypingLaws.{permitted-within, typing-accepted, typing-refused, fault-item}
+use Rattle.report.proofs.TreeLaws.{reached-permitted, fails-where}
+use Rattle.report.proofs.TypingLaws.{fails-refused, permitted-within, typing-accepted, typing-refused, fault-item}
 use Rattle.report.proofs.CallLaws.{given-answer, given-formed, given-gets, given-typed, gets-given, whole-forms, sound-formed, form-refused}
-use Rattle.report.proofs.Refusing.{rule-below, refused-early, refused-broken, given-named}
+use Rattle.report.proofs.Refusing.{rule-below, refused-early, given-fault, given-named}
+use Rattle.report.proofs.ReadingLaws.{fails-later}
 use Rattle.report.proofs.KindMembers.{fault-differing, fails-differing}
 
 -- ---- both sides have one kind, or the call refuses
 
 -- "Both sides must have one kind at every configuration that reaches them": where a call accepts, they have
-pub accepted-one-kind : (T : Tables) (call : Call) → answer T call ≡ Verdict.Accepted → (c q a g : ℕ) → Differing T c q a g → ⊥
-accepted-one-kind T call e c q a g d =
-    let F = sound-formed T (gets-given (whole T) call (given-gets (whole T) call e)) in
+pub accepted-one-kind : (T : Tables) (R : Reading) (call : Call) → answer T R call ≡ Verdict.Accepted → (c q a g : ℕ) → Differing T c q a g → ⊥
+accepted-one-kind T R call e c q a g d =
+    let F = sound-formed T (gets-given (whole T) call (given-gets (whole T) R call e)) in
     let ok = reached-permitted T c q (d .reaches) in
-    let none = typing-accepted T .0 (given-typed (whole T) call e) c q 1 (permitted-within T c ok) (reached-in F c ok q (d .reaches)) in
-    fails-differing T c q .0 (none (omega arith)) a g d
+    let none = typing-accepted T R .0 (given-typed (whole T) R call e) c q 1 (permitted-within T c ok) (reached-in F c ok q (d .reaches)) (omega arith) in
+    fails-differing T c q .0 (sym (fails-later T R c 0 q) ∙ none) a g d
 
 -- where they have not, every call that gets as far as typing refuses for a typing fault
-pub differing-refused : (T : Tables) → Sound T → {call : Call} → OwnNumbers call → GetsAsFarAsTyping T call → (c q a g : ℕ)
-    → Differing T c q a g → isTypingFault (answer T call) ≡ true
-differing-refused T sound own gets c q a g d =
-    refused-broken T own gets .1 (c, ok, go (passes (kindOf T) (configuredSchema T c) (configuredReport T c)) refl)
+pub differing-refused : (T : Tables) (R : Reading) → Sound T → {call : Call} → OwnNumbers call → GetsAsFarAsTyping T call → (c q a g : ℕ)
+    → Differing T c q a g → isTypingFault (answer T R call) ≡ true
+differing-refused T R sound own gets c q a g d =
+    given-fault (whole T) R own gets ∙ fails-refused (sound-formed T sound) R c 1 q (omega arith) (fails-later T R c 0 q ∙ go (fails T c 1 q) refl)
   where
-    ok : permitted T c ≡ true
-    ok = reached-permitted T c q (d .reaches)
-
-    go : (t : Bool) → passes (kindOf T) (configuredSchema T c) (configuredReport T c) ≡ t → t ≡ false
-    go true e =
-        let F = sound-formed T sound in
-        absurd (fails-differing T c q .0 (report-passes F c ok .0 e q 1 (reached-in F c ok q (d .reaches)) (omega arith)) a g d)
-    go false e = refl
+    go : (t : Bool) → fails T c 1 q ≡ t → t ≡ true
+    go true e = refl
+    go false e = absurd (fails-differing T c q .0 e a g d)
 
 -- ---- 25
 
@@ -77,7 +74,7 @@ second-number (suc phase) y n e = omega arith
 
 module _ {T : Tables} (F : Formed T) (r : Refusal) (is25 : r .number ≡ 25) where
   -- a typing fault by 25 is one of kinds
-  typing-kinds : TypingFault T r → KindFault T r
+  typing-kinds : TypingFault T Reading.Strict r → KindFault T r
   typing-kinds f = record {
     at = found .0;
     differs = found .1;
@@ -99,7 +96,7 @@ module _ {T : Tables} (F : Formed T) (r : Refusal) (is25 : r .number ≡ 25) whe
           (fails-where T (r .configuration) (r .place) (f .phase) .0 (f .failing) .0, rw second at (item .holds))
 
   -- and one of kinds is the typing fault
-  kinds-typing : KindFault T r → TypingFault T r
+  kinds-typing : KindFault T r → TypingFault T Reading.Strict r
   kinds-typing k = record {
     inside = inside;
     permits = permits;
@@ -154,49 +151,49 @@ two-kinds kind schema (PlainQuery.intersection p q) e f = absurd (false≢true (
 
 -- of a call that gets as far as typing, whatever it is given
 module _ (G : Given) (forms : Forms G) {call : Call} (own : OwnNumbers call) (gets : GetsTo G call) where
-  named-25 : (r : Refusal) → r .number ≡ 25 → answerTo G call ≡ Verdict.Refused r → NamedBy (G .tables) (answerTo G call)
+  named-25 : (r : Refusal) → r .number ≡ 25 → answerTo G Reading.Strict call ≡ Verdict.Refused r → NamedBy (G .tables) (answerTo G Reading.Strict call)
   named-25 r is25 e = given-named G forms own gets (ap isTypingFault e ∙ ap isOfTyping is25)
 
-  answers-25 : (r : Refusal) → r .number ≡ 25 → (answerTo G call ≡ Verdict.Refused r) ↔ KindFault (G .tables) r
+  answers-25 : (r : Refusal) → r .number ≡ 25 → (answerTo G Reading.Strict call ≡ Verdict.Refused r) ↔ KindFault (G .tables) r
   answers-25 r is25 = (
-    λ e. let n = named-25 r is25 e in typing-kinds formed r is25 (subst (TypingFault (G .tables)) (one-refusal (n .answers) e) (n .fault)),
-    λ k. given-answer G call gets ∙ then-refused _ (typing-refused (G .tables) r .1 (kinds-typing formed r is25 k)),
+    λ e. let n = named-25 r is25 e in typing-kinds formed r is25 (subst (TypingFault (G .tables) Reading.Strict) (one-refusal (n .answers) e) (n .fault)),
+    λ k. given-answer G Reading.Strict call gets ∙ then-refused _ (typing-refused (G .tables) Reading.Strict r .1 (kinds-typing formed r is25 k)),
   )
     where
       formed : Formed (G .tables)
       formed = given-formed G call forms gets
 
   -- it answers (25 f a c) if, and only if, kinds differ there so
-  pub given-25 : (f a c : ℕ) → (answerTo G call ≡ Verdict.Refused (refusal 25 f a c)) ↔ KindFault (G .tables) (refusal 25 f a c)
+  pub given-25 : (f a c : ℕ) → (answerTo G Reading.Strict call ≡ Verdict.Refused (refusal 25 f a c)) ↔ KindFault (G .tables) (refusal 25 f a c)
   given-25 f a c = answers-25 (refusal 25 f a c) refl
 
   -- and then the node of form f in the report configured at c is a select that compares two kinds, while its operand has all that it compares
-  pub given-25-plain : (f a c : ℕ) → answerTo G call ≡ Verdict.Refused (refusal 25 f a c)
+  pub given-25-plain : (f a c : ℕ) → answerTo G Reading.Strict call ≡ Verdict.Refused (refusal 25 f a c)
       → (t : PlainComparison)
       × (q : PlainQuery)
-      × (plainQueryAt (G .tables) c f ≡ PlainQuery.select t q)
+      × (plainQueryAt (G .tables) c Reading.Strict f ≡ PlainQuery.select t q)
       × (namesThere (columns (configuredSchema (G .tables) c) q) t ≡ true)
       × (oneKind (kindOf (G .tables)) t ≡ false)
   given-25-plain f a c e =
       let n = named-25 (refusal 25 f a c) refl e in
       let b = subst (Breaks (G .tables)) (one-refusal (n .answers) e) (n .breaks) in
-      two-kinds (kindOf (G .tables)) (configuredSchema (G .tables) c) (plainQueryAt (G .tables) c f) (b .comparedAlways refl c (b .reaches)) (b .twoKinds refl)
+      two-kinds (kindOf (G .tables)) (configuredSchema (G .tables) c) (plainQueryAt (G .tables) c Reading.Strict f) (b .comparedAlways refl c (b .reaches)) (b .twoKinds refl)
 
 -- and so of whole tables
 module _ (T : Tables) {call : Call} (own : OwnNumbers call) (gets : GetsAsFarAsTyping T call) where
-  pub exactly-25 : (f a c : ℕ) → (answer T call ≡ Verdict.Refused (refusal 25 f a c)) ↔ KindFault T (refusal 25 f a c)
+  pub exactly-25 : (f a c : ℕ) → (answer T Reading.Strict call ≡ Verdict.Refused (refusal 25 f a c)) ↔ KindFault T (refusal 25 f a c)
   exactly-25 = given-25 (whole T) (whole-forms T) own gets
 
-  pub plain-25 : (f a c : ℕ) → answer T call ≡ Verdict.Refused (refusal 25 f a c)
+  pub plain-25 : (f a c : ℕ) → answer T Reading.Strict call ≡ Verdict.Refused (refusal 25 f a c)
       → (t : PlainComparison)
       × (q : PlainQuery)
-      × (plainQueryAt T c f ≡ PlainQuery.select t q)
+      × (plainQueryAt T c Reading.Strict f ≡ PlainQuery.select t q)
       × (namesThere (columns (configuredSchema T c) q) t ≡ true)
       × (oneKind (kindOf T) t ≡ false)
   plain-25 = given-25-plain (whole T) (whole-forms T) own gets
 
 -- any call refuses by 25 for such a fault alone, since one that does so gets as far as typing
-pub refused-25 : (T : Tables) {call : Call} → OwnNumbers call → (r : Refusal) → answer T call ≡ Verdict.Refused r → r .number ≡ 25 → KindFault T r
+pub refused-25 : (T : Tables) {call : Call} → OwnNumbers call → (r : Refusal) → answer T Reading.Strict call ≡ Verdict.Refused r → r .number ≡ 25 → KindFault T r
 refused-25 T {call} own r e is25 = answers-25 (whole T) (whole-forms T) own gets r is25 .0 e
   where
     -- 25 is no early number
@@ -206,18 +203,18 @@ refused-25 T {call} own r e is25 = answers-25 (whole T) (whole-forms T) own gets
         go : (v : Verdict) → beforeTypingTo (whole T) call ≡ v → GetsAsFarAsTyping T call
         go Verdict.Accepted p = p
         go (Verdict.Refused s) p =
-            let early = refused-early T own .1 (λ g. accepted-not-refused p g) in
+            let early = refused-early T own Reading.Strict .1 (λ g. accepted-not-refused p g) in
             absurd (false≢true (sym (ap isEarly is25) ∙ ap (λ (x : Refusal). isEarly (x .number)) (one-refusal e (early .1)) ∙ early .2))
 
 -- ---- 24, "checked after 10"
 
-module _ (T : Tables) (call : Call) (ten : tablesCheck T ≡ Verdict.Accepted) where
-  refused-24 : {r : Refusal} → kindsCheck (T .attributes) (T .kinds) (T .comparisons) ≡ Verdict.Refused r → answer T call ≡ Verdict.Refused r
+module _ (T : Tables) (R : Reading) (call : Call) (ten : tablesCheck T ≡ Verdict.Accepted) where
+  refused-24 : {r : Refusal} → kindsCheck (T .attributes) (T .kinds) (T .comparisons) ≡ Verdict.Refused r → answer T R call ≡ Verdict.Refused r
   unfolding formCheck
-  refused-24 e = form-refused T call (then-next ten ∙ e)
+  refused-24 e = form-refused T R call (then-next ten ∙ e)
 
   -- "24 kind table not m words (place 0)"
-  pub kind-table-refused : length (T .kinds) ≢ T .attributes → answer T call ≡ Verdict.Refused (refusal 24 0 0 0)
+  pub kind-table-refused : length (T .kinds) ≢ T .attributes → answer T R call ≡ Verdict.Refused (refusal 24 0 0 0)
   unfolding kindsCheck
   kind-table-refused n =
       refused-24
@@ -229,7 +226,7 @@ module _ (T : Tables) (call : Call) (ten : tablesCheck T ≡ Verdict.Accepted) w
 
     -- "else a kind over 2 there (place the word)"
     pub kind-word-refused : (a : ℕ) → a < T .attributes → 2 < kindOf T a → ((b : ℕ) → b < a → kindOf T b ≤ 2)
-        → answer T call ≡ Verdict.Refused (refusal 24 a 0 0)
+        → answer T R call ≡ Verdict.Refused (refusal 24 a 0 0)
     unfolding kindsCheck
     kind-word-refused a h over lower =
         refused-24
@@ -242,7 +239,7 @@ module _ (T : Tables) (call : Call) (ten : tablesCheck T ≡ Verdict.Accepted) w
     -- "else one in a comparison (place the form)", whether a query names it or not
     pub constant-refused : ((a : ℕ) → a < T .attributes → kindOf T a ≤ 2) → (f : ℕ) → f < comparisonCount T
         → 2 < constantKind (sidesIn (T .comparisons) f) → ((g : ℕ) → g < f → constantKind (sidesIn (T .comparisons) g) ≤ 2)
-        → answer T call ≡ Verdict.Refused (refusal 24 f 0 0)
+        → answer T R call ≡ Verdict.Refused (refusal 24 f 0 0)
     unfolding kindsCheck
     constant-refused right f h over lower =
         refused-24

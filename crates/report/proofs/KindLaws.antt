@@ -29,6 +29,7 @@ use Rattle.report.specs.Kinds.{answerWithout, answerBeforeKinds, withKin
 use Rattle.report.specs.declared.Comparison.{Comparison}
 use Rattle.report.specs.declared.Sides.{Sides}
 use Rattle.report.specs.declared.Verdict.{Verdict}
+use Rattle.report.specs.declared.Reading.{Reading}
 use Rattle.report.proofs.VerdictLaws.{or-else-accepted, accepted-both, accepted-if}
 use Rattle.report.proofs.Formed.{fit-all}
 use Rattle.report.proofs.CallLaws.{answer-checks}
@@ -38,21 +39,21 @@ use Rattle.report.proofs.KindMembers.{fails-differing}
 
 module _ (T : Tables) where
   -- then 15 to 19 are all that is looked for in a form
-  first-alone : ((c q : ℕ) → fails T c 1 q ≡ false) → (q : ℕ) → typingAt T q ≡ phaseAt T q 0
+  first-alone : ((c q : ℕ) → fails T c 1 q ≡ false) → (q : ℕ) → typingAt T Reading.Strict q ≡ phaseAt T Reading.Strict q 0
   first-alone f q =
-      ap (orElse (phaseAt T q 0))
-      (accepted-both {a = phaseAt T q 1} (ap (refuseAt _) (nothing-lowest (λ c. fails T c 1 q) (configurations T) (λ c h. f c q))) refl)
-      ∙ or-else-accepted (phaseAt T q 0)
+      ap (orElse (phaseAt T Reading.Strict q 0))
+      (accepted-both {a = phaseAt T Reading.Strict q 1} (ap (refuseAt _) (nothing-lowest (λ c. fails T c 1 q) (configurations T) (λ c h. f c q))) refl)
+      ∙ or-else-accepted (phaseAt T Reading.Strict q 0)
 
-  typing-before : ((c q : ℕ) → fails T c 1 q ≡ false) → typingCheck T ≡ typingCheckBefore T
+  typing-before : ((c q : ℕ) → fails T c 1 q ≡ false) → typingCheck T Reading.Strict ≡ typingCheckBefore T
   unfolding typingCheck typingCheckBefore
   typing-before f = ap (λ (check : ℕ → Verdict). firstFrom check (queryCount T) 0) (fun-ext (first-alone f))
 
   pub without-kinds : kindsCheck (T .attributes) (T .kinds) (T .comparisons) ≡ Verdict.Accepted → ((c q : ℕ) → fails T c 1 q ≡ false)
-      → (call : Call) → answer T call ≡ answerWithout T (tablesCheck T) call
+      → (call : Call) → answer T Reading.Strict call ≡ answerWithout T (tablesCheck T) call
   unfolding formCheck
   without-kinds e f call =
-      answer-checks T call
+      answer-checks T Reading.Strict call
       ∙ ap₂
       (λ (tables typing : Verdict).
       orElse (orElse tables (orElse (firstOf (call .beforeModel T)) (modelAndSchemaCheck T))) (orElse typing (firstOf (call .afterTyping T))))
@@ -77,13 +78,13 @@ module _ (T : Tables) (zeros : ConstantsAre0 T) where
 
   -- so every answer is what it was, if 24 finds nothing and kinds differ nowhere
   answer-before : kindsCheck (T .attributes) (T .kinds) (T .comparisons) ≡ Verdict.Accepted → ((c q a g : ℕ) → Differing T c q a g → ⊥)
-      → (call : Call) → answer T call ≡ answerBeforeKinds T call
+      → (call : Call) → answer T Reading.Strict call ≡ answerBeforeKinds T call
   unfolding answerBeforeKinds
   answer-before e never call =
       without-kinds T e (λ c q. fails-differing T c q .1 (never c q)) call ∙ ap (λ (v : Verdict). answerWithout T v call) tables-before
 
   -- and so is what configuring writes of the comparisons
-  pub comparisons-before : (c : ℕ) → configured T c .comparisons ≡ comparisonsBefore T c
+  pub comparisons-before : (c : ℕ) → configured T c Reading.Strict .comparisons ≡ comparisonsBefore T c
   unfolding configured
   comparisons-before c =
       kept-same (comparisonCount T) {keep = comparisonKept T c} (λ f h. refl)
@@ -152,7 +153,7 @@ module _ {T : Tables} (K : AllKinds0 T) where
       (fit-all _ (constantOk T) (comparisonCount T) (λ f h. ap isKind (constant-0 f)))
 
   -- "with all kinds 0, the constants' too, every answer is what it was"
-  pub kinds-0-before : (call : Call) → answer T call ≡ answerBeforeKinds T call
+  pub kinds-0-before : (call : Call) → answer T Reading.Strict call ≡ answerBeforeKinds T call
   kinds-0-before =
       answer-before T (K .constants) all-kinds
       (λ c q a g d. false≢true (sym (zero-kinds (kindOf T) attribute-0 (sidesIn (T .comparisons) g) (constant-0 g)) ∙ d .two))
@@ -165,13 +166,13 @@ nothing-differs {T} none c q a g d = false≢true (ap (λ (t : List ℕ). kindsD
 
 -- "Where 24 finds nothing, a report with no comparisons is judged as before"
 pub no-comparisons-before : (T : Tables) → T .comparisons ≡ [] → kindsCheck (T .attributes) (T .kinds) (T .comparisons) ≡ Verdict.Accepted
-    → (call : Call) → answer T call ≡ answerBeforeKinds T call
+    → (call : Call) → answer T Reading.Strict call ≡ answerBeforeKinds T call
 no-comparisons-before T none e =
     answer-before T (λ f h. ap (λ (t : List ℕ). constantKind (sidesIn t f)) none) e (nothing-differs none)
 
 -- and so is one without a select, where comparisons that no query names have kind 0
 pub no-select-before : (T : Tables) → NoSelect T → ConstantsAre0 T → kindsCheck (T .attributes) (T .kinds) (T .comparisons) ≡ Verdict.Accepted
-    → (call : Call) → answer T call ≡ answerBeforeKinds T call
+    → (call : Call) → answer T Reading.Strict call ≡ answerBeforeKinds T call
 no-select-before T none zeros e = answer-before T zeros e (λ c q a g d. none q (d .selects) (d .of) (d .form))
 
 -- ---- the kinds are not read
@@ -179,7 +180,7 @@ no-select-before T none zeros e = answer-before T zeros e (λ c q a g d. none q 
 module _ (T : Tables) {call : Call} (free : KindFree call) where
   -- where 24 finds nothing and kinds differ nowhere, no answer reads them
   unread : (kinds : List ℕ) → kindsCheck (T .attributes) kinds (T .comparisons) ≡ Verdict.Accepted
-      → ((c q a g : ℕ) → Differing (withKinds T kinds) c q a g → ⊥) → answer (withKinds T kinds) call ≡ answerWithout T (tablesCheck T) call
+      → ((c q a g : ℕ) → Differing (withKinds T kinds) c q a g → ⊥) → answer (withKinds T kinds) Reading.Strict call ≡ answerWithout T (tablesCheck T) call
   unfolding tablesCheck typingCheckBefore permitted reached leads setOf joinedSet gathered faults
   unread kinds e never =
       without-kinds (withKinds T kinds) e (λ c q. fails-differing (withKinds T kinds) c q .1 (never c q)) call
@@ -191,19 +192,19 @@ module _ (T : Tables) {call : Call} (free : KindFree call) where
   -- so any two kind tables in which 24 finds nothing give the same answer
   same-answer : ((kinds : List ℕ) (c q a g : ℕ) → Differing (withKinds T kinds) c q a g → ⊥) → (k k′ : List ℕ)
       → kindsCheck (T .attributes) k (T .comparisons) ≡ Verdict.Accepted → kindsCheck (T .attributes) k′ (T .comparisons) ≡ Verdict.Accepted
-      → answer (withKinds T k) call ≡ answer (withKinds T k′) call
+      → answer (withKinds T k) Reading.Strict call ≡ answer (withKinds T k′) Reading.Strict call
   same-answer never k k′ e e′ = unread k e (never k) ∙ sym (unread k′ e′ (never k′))
 
 -- of a report without a select
 pub kinds-unread : (T : Tables) → NoSelect T → {call : Call} → KindFree call → (k k′ : List ℕ)
     → kindsCheck (T .attributes) k (T .comparisons) ≡ Verdict.Accepted → kindsCheck (T .attributes) k′ (T .comparisons) ≡ Verdict.Accepted
-    → answer (withKinds T k) call ≡ answer (withKinds T k′) call
+    → answer (withKinds T k) Reading.Strict call ≡ answer (withKinds T k′) Reading.Strict call
 kinds-unread T none free = same-answer T free (λ kinds c q a g d. none q (d .selects) (d .of) (d .form))
 
 -- and of one with no comparisons
 pub no-comparisons-unread : (T : Tables) → T .comparisons ≡ [] → {call : Call} → KindFree call → (k k′ : List ℕ)
     → kindsCheck (T .attributes) k (T .comparisons) ≡ Verdict.Accepted → kindsCheck (T .attributes) k′ (T .comparisons) ≡ Verdict.Accepted
-    → answer (withKinds T k) call ≡ answer (withKinds T k′) call
+    → answer (withKinds T k) Reading.Strict call ≡ answer (withKinds T k′) Reading.Strict call
 no-comparisons-unread T none free = same-answer T free (λ kinds. nothing-differs none)
 
 -- the column rows do not depend on them
@@ -212,9 +213,10 @@ unfolding columnRows permitted setOf joinedSet
 rows-unread T k = refl
 
 -- nor what configuring writes, but for the kind table itself
-pub configured-unread : (T : Tables) (k : List ℕ) (c : ℕ) → configured (withKinds T k) c ≡ withKinds (configured T c) k
-unfolding configured permitted reached leads entryKept comparisonTarget queryTarget
-configured-unread T k c = refl
+pub configured-unread : (T : Tables) (k : List ℕ) (c : ℕ) (R : Reading) → configured (withKinds T k) c R ≡ withKinds (configured T c R) k
+unfolding configured permitted reached leads joinedSet setOf entryKept comparisonTarget queryTarget
+configured-unread T k c Reading.Strict = refl
+configured-unread T k c Reading.Filled = refl
 
 -- the two calls' own conditions do not read them
 pub checking-free : (room : ℕ) → KindFree (checking room)

@@ -30,6 +30,8 @@ use Rattle.report.specs.TypingFaults.{Broken, TypingFault, Breaks, Named
 use Rattle.report.specs.declared.Refusal.{Refusal}
 use Rattle.report.specs.declared.Query.{Query}
 use Rattle.report.specs.declared.Verdict.{Verdict}
+use Rattle.report.specs.declared.Reading.{Reading}
+use Rattle.report.specs.Readings.{failsBy}
 use Rattle.report.proofs.VerdictLaws.{accepted-not-refused, then-refused, if-accepted, accepted-if, or-else-accepted}
 use Rattle.report.proofs.FirstFault.{first-none, first-one, first-form}
 use Rattle.report.proofs.CallLaws.{given-answer, given-before, own-gets, gets-given, given-formed, whole-forms}
@@ -131,12 +133,12 @@ module _ (T : Tables) where
       numbered-or (numbered-if (not (somewhere T (λ c. true))) (refusal 12 0 0 0) refl)
       (numbered-first (relationCheck T) (relationCount T) 0 relation-numbered)
 
-  typing-numbered : Numbered isOfTyping (typingCheck T)
-  typing-numbered = go (typingCheck T) refl
+  typing-numbered : (R : Reading) → Numbered isOfTyping (typingCheck T R)
+  typing-numbered R = go (typingCheck T R) refl
     where
-      go : (v : Verdict) → typingCheck T ≡ v → Numbered isOfTyping v
+      go : (v : Verdict) → typingCheck T R ≡ v → Numbered isOfTyping v
       go Verdict.Accepted e = Numbered.accepts
-      go (Verdict.Refused r) e = Numbered.refuses (fault-number T r (typing-refused T r .0 e))
+      go (Verdict.Refused r) e = Numbered.refuses (fault-number T R r (typing-refused T R r .0 e))
 
 -- what holds of each number of a list
 one-of : (test : ℕ → Bool) (ns : List ℕ) → every test ns ≡ true → (k : ℕ) → isOneOf ns k ≡ true → test k ≡ true
@@ -159,7 +161,7 @@ late-not k e = go (isEarly k) (isOfTyping k) e
 
 -- ---- refused before typing
 
-module _ (G : Given) (early : EarlyFirst G) {call : Call} (own : OwnNumbers call) where
+module _ (G : Given) (early : EarlyFirst G) {call : Call} (own : OwnNumbers call) (R : Reading) where
   before-early : (r : Refusal) → beforeTypingTo G call ≡ Verdict.Refused r → isEarly (r .number) ≡ true
   before-early r = go (firstOf (G .first)) refl
     where
@@ -169,30 +171,30 @@ module _ (G : Given) (early : EarlyFirst G) {call : Call} (own : OwnNumbers call
           number-of (numbered-or (numbered-list (call .beforeModel (G .tables)) (own .early (G .tables))) (schema-numbered (G .tables))) u
       go (Verdict.Refused s) p u = early r (p ∙ u)
 
-  late : GetsTo G call → (r : Refusal) → answerTo G call ≡ Verdict.Refused r → isEarly (r .number) ≡ false
-  late g r e = go (typingCheck (G .tables)) refl (sym (given-answer G call g) ∙ e)
+  late : GetsTo G call → (r : Refusal) → answerTo G R call ≡ Verdict.Refused r → isEarly (r .number) ≡ false
+  late g r e = go (typingCheck (G .tables) R) refl (sym (given-answer G R call g) ∙ e)
     where
-      go : (v : Verdict) → typingCheck (G .tables) ≡ v → orElse v (firstOf (call .afterTyping (G .tables))) ≡ Verdict.Refused r → isEarly (r .number) ≡ false
+      go : (v : Verdict) → typingCheck (G .tables) R ≡ v → orElse v (firstOf (call .afterTyping (G .tables))) ≡ Verdict.Refused r → isEarly (r .number) ≡ false
       go Verdict.Accepted p u = late-not (r .number) (number-of (numbered-list (call .afterTyping (G .tables)) (own .late (G .tables))) u) .0
-      go (Verdict.Refused s) p u = typing-not-early (r .number) (number-of (typing-numbered (G .tables)) (p ∙ u))
+      go (Verdict.Refused s) p u = typing-not-early (r .number) (number-of (typing-numbered (G .tables) R) (p ∙ u))
 
   -- a call refuses by an early number exactly where it does not get as far as typing
-  pub given-early : ((r : Refusal) × (answerTo G call ≡ Verdict.Refused r) × (isEarly (r .number) ≡ true)) ↔ (GetsTo G call → ⊥)
+  pub given-early : ((r : Refusal) × (answerTo G R call ≡ Verdict.Refused r) × (isEarly (r .number) ≡ true)) ↔ (GetsTo G call → ⊥)
   given-early = (
     λ p g. false≢true (sym (late g (p .0) (p .1)) ∙ p .2),
     λ g. go g (beforeTypingTo G call) refl,
   )
     where
       go : (GetsTo G call → ⊥) → (v : Verdict) → beforeTypingTo G call ≡ v
-          → (r : Refusal) × (answerTo G call ≡ Verdict.Refused r) × (isEarly (r .number) ≡ true)
+          → (r : Refusal) × (answerTo G R call ≡ Verdict.Refused r) × (isEarly (r .number) ≡ true)
       go g Verdict.Accepted e = absurd (g e)
-      go g (Verdict.Refused r) e = (r, given-before G call e, before-early r e)
+      go g (Verdict.Refused r) e = (r, given-before G R call e, before-early r e)
 
 whole-early : (T : Tables) → EarlyFirst (whole T)
 whole-early T r e = number-of (form-numbered T) (sym (first-form T) ∙ e)
 
-pub refused-early : (T : Tables) {call : Call} → OwnNumbers call
-    → ((r : Refusal) × (answer T call ≡ Verdict.Refused r) × (isEarly (r .number) ≡ true)) ↔ (GetsAsFarAsTyping T call → ⊥)
+pub refused-early : (T : Tables) {call : Call} → OwnNumbers call → (R : Reading)
+    → ((r : Refusal) × (answer T R call ≡ Verdict.Refused r) × (isEarly (r .number) ≡ true)) ↔ (GetsAsFarAsTyping T call → ⊥)
 refused-early T own = given-early (whole T) (whole-early T) own
 
 -- the two calls' own numbers are of their places
@@ -204,33 +206,33 @@ pub configuring-own : (c r1 r2 r3 r4 : ℕ) → OwnNumbers (configuring c r1 r2 
 unfolding _gives_
 configuring-own c r1 r2 r3 r4 = record { early = λ T. refl; late = λ T. refl }
 
-module _ (T : Tables) where
+module _ (T : Tables) (R : Reading) where
   -- a call whose own conditions before 12 do not hold does so exactly where the tables are not sound
   pub own-early : {call : Call} → OwnNumbers call → firstOf (call .beforeModel T) ≡ Verdict.Accepted
-      → ((r : Refusal) × (answer T call ≡ Verdict.Refused r) × (isEarly (r .number) ≡ true)) ↔ (Sound T → ⊥)
+      → ((r : Refusal) × (answer T R call ≡ Verdict.Refused r) × (isEarly (r .number) ≡ true)) ↔ (Sound T → ⊥)
   own-early {call} own none =
-      let e = refused-early T own in (λ p s. e .0 p (own-gets (whole T) call s .1 none), λ n. e .1 (λ g. n (gets-given (whole T) call g)))
+      let e = refused-early T own R in (λ p s. e .0 p (own-gets (whole T) call s .1 none), λ n. e .1 (λ g. n (gets-given (whole T) call g)))
 
   -- checking with 1,024 words of rows, and configuring
-  pub check-early : ((r : Refusal) × (answer T (checking 1024) ≡ Verdict.Refused r) × (isEarly (r .number) ≡ true)) ↔ (Sound T → ⊥)
+  pub check-early : ((r : Refusal) × (answer T R (checking 1024) ≡ Verdict.Refused r) × (isEarly (r .number) ≡ true)) ↔ (Sound T → ⊥)
   check-early = own-early (checking-own 1024) (first-one _ _)
 
   pub configure-early : (c r1 r2 r3 r4 : ℕ)
-      → ((r : Refusal) × (answer T (configuring c r1 r2 r3 r4) ≡ Verdict.Refused r) × (isEarly (r .number) ≡ true)) ↔ (Sound T → ⊥)
+      → ((r : Refusal) × (answer T R (configuring c r1 r2 r3 r4) ≡ Verdict.Refused r) × (isEarly (r .number) ≡ true)) ↔ (Sound T → ⊥)
   configure-early c r1 r2 r3 r4 = own-early (configuring-own c r1 r2 r3 r4) first-none
 
   -- ---- accepted
 
   -- of sound tables a check with 1,024 words of rows answers as typing does
-  pub check-typing : Sound T → answer T (checking 1024) ≡ typingCheck T
+  pub check-typing : Sound T → answer T R (checking 1024) ≡ typingCheck T R
   check-typing s =
-      given-answer (whole T) (checking 1024) (check-gets T s 1024 .1 refl) ∙ ap (orElse (typingCheck T)) first-none ∙ or-else-accepted (typingCheck T)
+      given-answer (whole T) R (checking 1024) (check-gets T s 1024 .1 refl) ∙ ap (orElse (typingCheck T R)) first-none ∙ or-else-accepted (typingCheck T R)
 
   -- so it accepts them exactly where no form fails at any configuration
   pub accepted-exactly : Sound T
-      → (answer T (checking 1024) ≡ Verdict.Accepted)
-      ↔ ((c q phase : ℕ) → c < configurations T → q < queryCount T → phase < 2 → fails T c phase q ≡ false)
-  accepted-exactly s = let e = check-typing s in (λ a. typing-accepted T .0 (sym e ∙ a), λ f. e ∙ typing-accepted T .1 f)
+      → (answer T R (checking 1024) ≡ Verdict.Accepted)
+      ↔ ((c q phase : ℕ) → c < configurations T → q < queryCount T → phase < 2 → failsBy T R c phase q ≡ false)
+  accepted-exactly s = let e = check-typing s in (λ a. typing-accepted T R .0 (sym e ∙ a), λ f. e ∙ typing-accepted T R .1 f)
 
 -- ---- refused for a typing fault
 
@@ -296,15 +298,15 @@ clash-select T (suc (suc phase)) c q e n = absurd (n refl)
 
 module _ {T : Tables} (F : Formed T) where
   -- where a form fails the report breaks a rule
-  report-breaks : (c phase q : ℕ) → q < queryCount T → phase < 2 → fails T c phase q ≡ true
-      → passes (kindOf T) (configuredSchema T c) (configuredReport T c) ≡ false
-  report-breaks c phase q h n e = go (passes (kindOf T) (configuredSchema T c) (configuredReport T c)) refl
+  pub report-breaks : (c phase q : ℕ) → q < queryCount T → phase < 2 → fails T c phase q ≡ true
+      → passes (kindOf T) (configuredSchema T c) (configuredReport T c Reading.Strict) ≡ false
+  report-breaks c phase q h n e = go (passes (kindOf T) (configuredSchema T c) (configuredReport T c Reading.Strict)) refl
     where
-      go : (t : Bool) → passes (kindOf T) (configuredSchema T c) (configuredReport T c) ≡ t → t ≡ false
-      go true p = absurd (false≢true (sym (report-passes F c (fails-permitted T c phase q e) .0 p q phase h n) ∙ e))
+      go : (t : Bool) → passes (kindOf T) (configuredSchema T c) (configuredReport T c Reading.Strict) ≡ t → t ≡ false
+      go true p = absurd (false≢true (sym (report-passes F c (fails-permitted T Reading.Strict c phase q e) .0 p q phase h n) ∙ e))
       go false p = refl
 
-  fault-breaks : (r : Refusal) → TypingFault T r → Breaks T r
+  fault-breaks : (r : Refusal) → TypingFault T Reading.Strict r → Breaks T r
   fault-breaks r f = record {
     permits = f .permits;
     reportBreaks = report-breaks (r .configuration) (f .phase) (r .place) (f .inside) (f .isPhase) (f .failing);
@@ -345,7 +347,7 @@ module _ {T : Tables} (F : Formed T) where
       within c q e = permitted-within T c (reached-permitted T c q e)
 
       node : (operandsPass T (r .configuration) (formAt T (r .place)) ≡ true)
-          × (passes (kindOf T) (configuredSchema T (r .configuration)) (plainQueryAt T (r .configuration) (r .place)) ≡ false)
+          × (passes (kindOf T) (configuredSchema T (r .configuration)) (plainQueryAt T (r .configuration) Reading.Strict (r .place)) ≡ false)
       node =
           lowest-breaks F (r .configuration) (r .place) (f .phase) (f .isPhase) (f .failing)
           (λ x phase l n. f .lowerForms x phase (r .configuration) l n (permitted-within T (r .configuration) (f .permits)))
@@ -383,16 +385,16 @@ module _ {T : Tables} (F : Formed T) where
           go (suc (suc i)) p (suc zero) m = absurd (let k = f .isPhase in omega arith)
           go i p (suc (suc phase)) m = absurd (omega arith)
 
-  typing-broken : (isTypingFault (typingCheck T) ≡ true) ↔ Broken T
-  typing-broken = (forth (typingCheck T) refl, back (typingCheck T) refl)
+  typing-broken : (isTypingFault (typingCheck T Reading.Strict) ≡ true) ↔ Broken T
+  typing-broken = (forth (typingCheck T Reading.Strict) refl, back (typingCheck T Reading.Strict) refl)
     where
-      forth : (v : Verdict) → typingCheck T ≡ v → isTypingFault v ≡ true → Broken T
+      forth : (v : Verdict) → typingCheck T Reading.Strict ≡ v → isTypingFault v ≡ true → Broken T
       forth Verdict.Accepted e t = absurd (false≢true t)
-      forth (Verdict.Refused r) e t = let b = fault-breaks r (typing-refused T r .0 e) in (r .configuration, b .permits, b .reportBreaks)
+      forth (Verdict.Refused r) e t = let b = fault-breaks r (typing-refused T Reading.Strict r .0 e) in (r .configuration, b .permits, b .reportBreaks)
 
-      back : (v : Verdict) → typingCheck T ≡ v → Broken T → isTypingFault v ≡ true
+      back : (v : Verdict) → typingCheck T Reading.Strict ≡ v → Broken T → isTypingFault v ≡ true
       back Verdict.Accepted e b = absurd (false≢true (sym (b .2) ∙ typing-passes F .0 e (b .0) (b .1)))
-      back (Verdict.Refused r) e b = fault-number T r (typing-refused T r .0 e)
+      back (Verdict.Refused r) e b = fault-number T Reading.Strict r (typing-refused T Reading.Strict r .0 e)
 
 -- what comes after typing is no typing fault
 no-fault : {v : Verdict} → Numbered isLate v → isTypingFault v ≡ false
@@ -403,13 +405,19 @@ late-fault : (t : Verdict) (xs : List Condition) → allGive isLate xs ≡ true 
 late-fault Verdict.Accepted xs h = no-fault (numbered-list xs h)
 late-fault (Verdict.Refused r) xs h = refl
 
+-- a call that gets as far as typing refuses for a typing fault exactly where typing refuses
+pub given-fault : (G : Given) (R : Reading) {call : Call} → OwnNumbers call → GetsTo G call
+    → isTypingFault (answerTo G R call) ≡ isTypingFault (typingCheck (G .tables) R)
+given-fault G R {call} own gets =
+    ap isTypingFault (given-answer G R call gets) ∙ late-fault (typingCheck (G .tables) R) (call .afterTyping (G .tables)) (own .late (G .tables))
+
 -- ---- demand 3, of any answer that is typing's, and then that of conditions with late numbers
 
 module _ {T : Tables} (F : Formed T) {v : Verdict} (xs : List Condition) (lateNumbers : allGive isLate xs ≡ true)
-    (is : v ≡ orElse (typingCheck T) (firstOf xs))
+    (is : v ≡ orElse (typingCheck T Reading.Strict) (firstOf xs))
   where
-    same-fault : isTypingFault v ≡ isTypingFault (typingCheck T)
-    same-fault = ap isTypingFault is ∙ late-fault (typingCheck T) xs lateNumbers
+    same-fault : isTypingFault v ≡ isTypingFault (typingCheck T Reading.Strict)
+    same-fault = ap isTypingFault is ∙ late-fault (typingCheck T Reading.Strict) xs lateNumbers
 
     -- it refuses for a typing fault exactly where the report breaks a plain rule at some permitted configuration
     typed-broken : (isTypingFault v ≡ true) ↔ Broken T
@@ -417,12 +425,12 @@ module _ {T : Tables} (F : Formed T) {v : Verdict} (xs : List Condition) (lateNu
 
     -- the configuration that it then names is one of those, and the form, the configuration and the item are the lowest
     typed-named : isTypingFault v ≡ true → NamedBy T v
-    typed-named e = go (typingCheck T) refl (sym same-fault ∙ e)
+    typed-named e = go (typingCheck T Reading.Strict) refl (sym same-fault ∙ e)
       where
-        go : (t : Verdict) → typingCheck T ≡ t → isTypingFault (typingCheck T) ≡ true → NamedBy T v
+        go : (t : Verdict) → typingCheck T Reading.Strict ≡ t → isTypingFault (typingCheck T Reading.Strict) ≡ true → NamedBy T v
         go Verdict.Accepted p t = absurd (false≢true (sym (ap isTypingFault p) ∙ t))
         go (Verdict.Refused r) p t =
-            let f = typing-refused T r .0 p in
+            let f = typing-refused T Reading.Strict r .0 p in
             record { refuses = r; answers = is ∙ then-refused _ p; fault = f; lowestItem = fault-item F r f; breaks = fault-breaks F r f }
 
     -- no report that passes at every permitted configuration is refused so
@@ -435,22 +443,22 @@ module _ {T : Tables} (F : Formed T) {v : Verdict} (xs : List Condition) (lateNu
 
 -- of a call that gets as far as typing, whatever it is given
 module _ (G : Given) (forms : Forms G) {call : Call} (own : OwnNumbers call) (gets : GetsTo G call) where
-  pub given-broken : (isTypingFault (answerTo G call) ≡ true) ↔ Broken (G .tables)
-  given-broken = typed-broken (given-formed G call forms gets) (call .afterTyping (G .tables)) (own .late (G .tables)) (given-answer G call gets)
+  pub given-broken : (isTypingFault (answerTo G Reading.Strict call) ≡ true) ↔ Broken (G .tables)
+  given-broken = typed-broken (given-formed G call forms gets) (call .afterTyping (G .tables)) (own .late (G .tables)) (given-answer G Reading.Strict call gets)
 
-  pub given-named : isTypingFault (answerTo G call) ≡ true → NamedBy (G .tables) (answerTo G call)
-  given-named = typed-named (given-formed G call forms gets) (call .afterTyping (G .tables)) (own .late (G .tables)) (given-answer G call gets)
+  pub given-named : isTypingFault (answerTo G Reading.Strict call) ≡ true → NamedBy (G .tables) (answerTo G Reading.Strict call)
+  given-named = typed-named (given-formed G call forms gets) (call .afterTyping (G .tables)) (own .late (G .tables)) (given-answer G Reading.Strict call gets)
 
-  pub given-never : PassesThroughout (G .tables) → isTypingFault (answerTo G call) ≡ false
-  given-never = typed-never (given-formed G call forms gets) (call .afterTyping (G .tables)) (own .late (G .tables)) (given-answer G call gets)
+  pub given-never : PassesThroughout (G .tables) → isTypingFault (answerTo G Reading.Strict call) ≡ false
+  given-never = typed-never (given-formed G call forms gets) (call .afterTyping (G .tables)) (own .late (G .tables)) (given-answer G Reading.Strict call gets)
 
 -- and so of whole tables
 module _ (T : Tables) {call : Call} (own : OwnNumbers call) (gets : GetsAsFarAsTyping T call) where
-  pub refused-broken : (isTypingFault (answer T call) ≡ true) ↔ Broken T
+  pub refused-broken : (isTypingFault (answer T Reading.Strict call) ≡ true) ↔ Broken T
   refused-broken = given-broken (whole T) (whole-forms T) own gets
 
-  pub refused-named : isTypingFault (answer T call) ≡ true → Named T call
+  pub refused-named : isTypingFault (answer T Reading.Strict call) ≡ true → Named T call
   refused-named = given-named (whole T) (whole-forms T) own gets
 
-  pub never-refused : PassesThroughout T → isTypingFault (answer T call) ≡ false
+  pub never-refused : PassesThroughout T → isTypingFault (answer T Reading.Strict call) ≡ false
   never-refused = given-never (whole T) (whole-forms T) own gets

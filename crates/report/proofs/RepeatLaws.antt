@@ -21,17 +21,18 @@ use Rattle.report.specs.Verdicts.{refusal, refuseAt, orElse, firstOf}
 use Rattle.report.specs.Checks.{modelAndSchemaCheck, typingCheck}
 use Rattle.report.specs.Calls.{Call, answer}
 use Rattle.report.specs.Configuring.{queryWordsOf, queryKept, newRelation, newComparison, newQuery}
-use Rattle.report.specs.Configuring.{entryKept, keptLength, keptList, queryFormOf, configured}
+use Rattle.report.specs.Configuring.{allStay, entryKept, keptLength, keptList, queryFormOf, configured}
 use Rattle.report.specs.ConfiguredReport.{keptAttributes}
 use Rattle.report.specs.Repeats.{repeats, NoRepeats, relationRepeats, projectRepeats, relationsCheckBefore, queriesCheckBefore}
 use Rattle.report.specs.Repeats.{tablesCheckWith, answerBefore, heldLength, heldList, heldAttributes, configuredBefore}
 use Rattle.report.specs.declared.Verdict.{Verdict}
 use Rattle.report.specs.declared.Query.{Query}
+use Rattle.report.specs.declared.Reading.{Reading}
 use Rattle.report.proofs.FormFacts.{Listing, project, unlisted, listing}
 use Rattle.report.proofs.FitLaws.{list-fits}
 use Rattle.report.proofs.CallLaws.{answer-checks}
 use Rattle.report.proofs.FormedFacts.{relation-list, project-inside}
-use Rattle.report.proofs.KeptLists.{kept-alone}
+use Rattle.report.proofs.KeptLists.{kept-alone, strict-staying}
 
 -- ---- two entries of a list have one attribute, or none do
 
@@ -53,13 +54,13 @@ module _ (T : Tables) (c start count : ℕ) (once : repeats (T .entries) start c
   kept-held : (i : ℕ) → i < count → entryKept T c start i ≡ entryHolds T c (start + i)
   kept-held i h = kept-alone T c start i (λ j l. repeat-none (T .entries) start count once j i l h)
 
-  pub length-before : keptLength T c start count ≡ heldLength T c start count
+  pub length-before : keptLength T c allStay start count ≡ heldLength T c start count
   length-before = count-same _ _ count kept-held
 
-  pub list-before : keptList T c start count ≡ heldList T c start count
+  pub list-before : keptList T c allStay start count ≡ heldList T c start count
   list-before = kept-same count kept-held (λ i h. refl)
 
-  pub attributes-before : keptAttributes T c start count ≡ heldAttributes T c start count
+  pub attributes-before : keptAttributes T c allStay start count ≡ heldAttributes T c start count
   unfolding keptAttributes
   attributes-before = kept-same count kept-held (λ i h. refl)
 
@@ -101,14 +102,14 @@ module _ {T : Tables} (N : NoRepeats T) where
       relations-check-before queries-check-before
 
   -- every answer is what it was
-  pub answer-before : (call : Call) → answer T call ≡ answerBefore T call
+  pub answer-before : (call : Call) → answer T Reading.Strict call ≡ answerBefore T call
   unfolding answerBefore formCheck
   answer-before call =
-      answer-checks T call
+      answer-checks T Reading.Strict call
       ∙ ap
       (λ (v : Verdict).
       orElse (orElse (orElse v (kindsCheck (T .attributes) (T .kinds) (T .comparisons))) (orElse (firstOf (call .beforeModel T)) (modelAndSchemaCheck T)))
-      (orElse (typingCheck T) (firstOf (call .afterTyping T))))
+      (orElse (typingCheck T Reading.Strict) (firstOf (call .afterTyping T))))
       tables-check-before
 
 -- ---- the written tables
@@ -121,8 +122,8 @@ module _ {T : Tables} (F : Formed T) (N : NoRepeats T) (c : ℕ) where
   project-once q h = N .projects q h (list-fits (T .entries) _ _ (project-inside F q h))
 
   -- a project alone has a list
-  words-before : (q : ℕ) (y : Query) → keptLength T c (projectStart T q) (projectLength y) ≡ heldLength T c (projectStart T q) (projectLength y)
-      → queryFormOf T c q y ≡ queryWordsOf (newRelation T c) (newComparison T c) (newQuery T c) (heldLength T c (projectStart T q)) y
+  words-before : (q : ℕ) (y : Query) → keptLength T c allStay (projectStart T q) (projectLength y) ≡ heldLength T c (projectStart T q) (projectLength y)
+      → queryFormOf T c Reading.Strict q y ≡ queryWordsOf (newRelation T c) (newComparison T c) (newQuery T c) (heldLength T c (projectStart T q)) y
   words-before q Query.Malformed e = refl
   words-before q Query.Empty e = refl
   words-before q (Query.Relation a) e = refl
@@ -133,7 +134,7 @@ module _ {T : Tables} (F : Formed T) (N : NoRepeats T) (c : ℕ) where
   words-before q (Query.Union a b) e = refl
   words-before q (Query.Intersection a b) e = refl
 
-  pub written-before : configured T c ≡ configuredBefore T c
+  pub written-before : configured T c Reading.Strict ≡ configuredBefore T c
   unfolding configured configuredBefore
   written-before =
       let start = relationStart (T .relations) in
@@ -143,11 +144,13 @@ module _ {T : Tables} (F : Formed T) (N : NoRepeats T) (c : ℕ) where
       kept-same (relationCount T) {keep = present T c} (λ r h. refl) (λ r h. list-before T c (start r) (long r) (relation-once r h)) in
       let ofProjects =
       kept-same (queryCount T) {keep = queryKept T c} (λ q h. refl)
-      (λ q h. list-before T c (projectStart T q) (projectLength (form q)) (project-once q h)) in
+      (λ q h.
+      ap (λ (stay : ℕ → Bool). keptList T c stay (projectStart T q) (projectLength (form q))) (strict-staying T c (form q))
+      ∙ list-before T c (projectStart T q) (projectLength (form q)) (project-once q h)) in
       let relations =
       kept-same (relationCount T) {keep = present T c} (λ r h. refl)
       (λ r h. ap (λ (n : ℕ). 0 ∷ n ∷ []) (length-before T c (start r) (long r) (relation-once r h))) in
       let queries =
       kept-same (queryCount T) {keep = queryKept T c} (λ q h. refl)
       (λ q h. words-before q (form q) (length-before T c (projectStart T q) (projectLength (form q)) (project-once q h))) in
-      λ i. tablesOf 0 (T .attributes) 0 (1 ∷ 0 ∷ 0 ∷ []) (ofRelations i ++ ofProjects i) (relations i) (configured T c .comparisons) (queries i) (T .kinds)
+      λ i. tablesOf 0 (T .attributes) 0 (1 ∷ 0 ∷ 0 ∷ []) (ofRelations i ++ ofProjects i) (relations i) (configured T c Reading.Strict .comparisons) (queries i) (T .kinds)

@@ -23,6 +23,7 @@ use Rattle.report.specs.Calls.{answer, Sound, checking}
 use Rattle.report.specs.GivenDemands.{RulesThroughout, PassesThroughout}
 use Rattle.report.specs.declared.Query.{Query}
 use Rattle.report.specs.declared.Verdict.{Verdict}
+use Rattle.report.specs.declared.Reading.{Reading}
 use Rattle.report.proofs.ValueLaws.{strong}
 use Rattle.report.proofs.StepLaws.{set-in}
 use Rattle.report.proofs.SetLaws.{kept-sets}
@@ -110,7 +111,7 @@ module _ {T : Tables} (F : Formed T) (c : ℕ) (ok : permitted T c ≡ true) whe
 module _ {T : Tables} (F : Formed T) where
   -- at a permitted configuration there are sets that keep the typing rules exactly where the configured report passes the plain rules
   pub rules-plain : (c : ℕ) → permitted T c ≡ true
-      → ((S : ℕ → ℕ) × Rules T c S) ↔ (passes (kindOf T) (configuredSchema T c) (configuredReport T c) ≡ true)
+      → ((S : ℕ → ℕ) × Rules T c S) ↔ (passes (kindOf T) (configuredSchema T c) (configuredReport T c Reading.Strict) ≡ true)
   rules-plain c ok =
       let sets = rules-exactly F c ok in
       let plain = report-passes F c ok in
@@ -140,13 +141,13 @@ module _ {T : Tables} (F : Formed T) (S : ℕ → ℕ → ℕ) (keep : (c : ℕ)
 
 module _ (T : Tables) (sound : Sound T) where
   -- where a check accepts the definition's sets keep the rules
-  pub accepted-sets : answer T (checking 1024) ≡ Verdict.Accepted → (c : ℕ) → permitted T c ≡ true → Rules T c (setOf T c)
-  accepted-sets e c p = sets-rules (sound-formed T sound) c p (λ q phase. accepted-exactly T sound .0 e c q phase (permitted-within T c p))
+  pub accepted-sets : answer T Reading.Strict (checking 1024) ≡ Verdict.Accepted → (c : ℕ) → permitted T c ≡ true → Rules T c (setOf T c)
+  accepted-sets e c p = sets-rules (sound-formed T sound) c p (λ q phase. accepted-exactly T Reading.Strict sound .0 e c q phase (permitted-within T c p))
 
   -- of sound tables a check with 1,024 words of rows accepts exactly where at each permitted configuration there are sets that keep the rules
-  pub accepted-rules : (answer T (checking 1024) ≡ Verdict.Accepted) ↔ RulesThroughout T
+  pub accepted-rules : (answer T Reading.Strict (checking 1024) ≡ Verdict.Accepted) ↔ RulesThroughout T
   accepted-rules =
-      let same = check-typing T sound in
+      let same = check-typing T Reading.Strict sound in
       let typed = typing-passes (sound-formed T sound) in
       let ruled = rules-throughout (sound-formed T sound) in
       (λ e. ruled .1 (typed .0 (sym same ∙ e)), λ k. same ∙ typed .1 (ruled .0 k))

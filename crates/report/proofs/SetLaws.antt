@@ -15,16 +15,19 @@ use Rattle.report.specs.Operands.{comparisonOperands, comparisonSides}
 use Rattle.report.specs.Tables.{entryCount, comparisonCount, queryCount}
 use Rattle.report.specs.Typing.{at, joinedSet, present, relationSet, projectSet, gatheredOf, gathered, namesOf, names, kindsDiffer, leftOf, clashes}
 use Rattle.report.specs.Typing.{setRule, setOf, faultsOf, clashesIn, faults, keeps}
+use Rattle.report.specs.Readings.{spared, faultsBy}
 use Rattle.report.specs.Rules.{Rule}
 use Rattle.report.specs.Formed.{Formed, OperandsBelow, SidesBelow, QueryLower}
 use Rattle.report.specs.declared.Comparison.{Comparison}
 use Rattle.report.specs.declared.Query.{Query}
 use Rattle.report.specs.declared.Operands.{Operands}
 use Rattle.report.specs.declared.Sides.{Sides}
+use Rattle.report.specs.declared.Reading.{Reading}
 use Rattle.report.proofs.ValueLaws.{strong}
 use Rattle.report.proofs.FormedFacts.{comparison-operands, comparison-sides, query-at, entry-attribute, relation-list, counts}
 use Rattle.report.proofs.StepLaws.{taken-below, gathered-in, set-in}
 use Rattle.report.proofs.KindMembers.{no-clash}
+use Rattle.report.proofs.ReadingLaws.{faults-spared, faults-later}
 
 -- ---- the sets of forms that keep their rule
 
@@ -166,3 +169,9 @@ module _ {T : Tables} (F : Formed T) (c : ℕ) where
   faults-narrow zero q h = faults-rule q h (query (T .queries) q) (query-at F q h)
   faults-narrow (suc zero) q h = clashes-rule q (query (T .queries) q) (query-at F q h)
   faults-narrow (suc (suc phase)) q h = pow-pos 64
+
+-- and what is at fault in either reading
+pub narrow-by : {T : Tables} → Formed T → (R : Reading) (c phase q : ℕ) → q < queryCount T → faultsBy T R c phase q < 2 ^ 64
+narrow-by {T} F R c zero q h =
+    rw (faults-spared T R c q) (difference-lt 64 (faults T c 0 q) (spared T R q) (faults-narrow F c 0 q h))
+narrow-by {T} F R c (suc phase) q h = rw (faults-later T R c phase q) (faults-narrow F c (suc phase) q h)

@@ -12,12 +12,13 @@ use Rattle.report.specs.Expressions.{truthOf, holds}
 use Rattle.report.specs.Typing.{at, onward, passesOn, leads, projectSet, gatheredOf, gathered, setRule, setOf}
 use Rattle.report.specs.Configuring.{targetOf, comparisonTarget, queryTarget}
 use Rattle.report.specs.PlainAlgebra.{PlainComparison, PlainQuery}
-use Rattle.report.specs.ConfiguredReport.{plainComparisonOf, plainComparisonAt, keptAttributes, plainQueryOf, plainQueryAt}
+use Rattle.report.specs.ConfiguredReport.{plainComparisonOf, plainComparisonAt, keptAttributes, plainStaying, plainQueryOf, plainQueryAt}
 use Rattle.report.specs.Formed.{Formed, ExpressionLower, OperandsBelow}
 use Rattle.report.specs.declared.Expression.{Expression}
 use Rattle.report.specs.declared.Comparison.{Comparison}
 use Rattle.report.specs.declared.Query.{Query}
 use Rattle.report.specs.declared.Operands.{Operands}
+use Rattle.report.specs.declared.Reading.{Reading}
 use Rattle.report.proofs.ValueLaws.{value-step}
 use Rattle.report.proofs.FormedFacts.{comparison-operands, query-operands}
 
@@ -89,16 +90,17 @@ module _ (T : Tables) (c n : ℕ) where
     onward-local (Operands.Choice e a b) l = same _ (taken-below (at T c e) l)
 
   module _ (f g : ℕ → PlainQuery) (same : (k : ℕ) → k < n → f k ≡ g k) where
-    plain-query-local : (x : Query) → OperandsBelow n (queryOperands x) → plainQueryOf T c f n x ≡ plainQueryOf T c g n x
-    plain-query-local Query.Malformed l = refl
-    plain-query-local Query.Empty l = refl
-    plain-query-local (Query.Relation a) l = refl
-    plain-query-local (Query.Select a b) l = ap (PlainQuery.select (plainComparisonAt T c a)) (same b l)
-    plain-query-local (Query.Project a b) l = ap (PlainQuery.project (keptAttributes T c (projectStart T n) a)) (same b l)
-    plain-query-local (Query.Choice a b d) l = same _ (taken-below (at T c a) l)
-    plain-query-local (Query.Product a b) l = two n f g same PlainQuery.product l
-    plain-query-local (Query.Union a b) l = two n f g same PlainQuery.union l
-    plain-query-local (Query.Intersection a b) l = two n f g same PlainQuery.intersection l
+    plain-query-local : (R : Reading) (x : Query) → OperandsBelow n (queryOperands x) → plainQueryOf T c R f n x ≡ plainQueryOf T c R g n x
+    plain-query-local R Query.Malformed l = refl
+    plain-query-local R Query.Empty l = refl
+    plain-query-local R (Query.Relation a) l = refl
+    plain-query-local R (Query.Select a b) l = ap (PlainQuery.select (plainComparisonAt T c a)) (same b l)
+    plain-query-local R (Query.Project a b) l =
+        ap (λ (t : PlainQuery). PlainQuery.project (keptAttributes T c (plainStaying T c R t) (projectStart T n) a) t) (same b l)
+    plain-query-local R (Query.Choice a b d) l = same _ (taken-below (at T c a) l)
+    plain-query-local R (Query.Product a b) l = two n f g same PlainQuery.product l
+    plain-query-local R (Query.Union a b) l = two n f g same PlainQuery.union l
+    plain-query-local R (Query.Intersection a b) l = two n f g same PlainQuery.intersection l
 
 -- ---- the step of each meaning, of one form
 
@@ -151,11 +153,11 @@ module _ (T : Tables) (c q : ℕ) (l : OperandsBelow q (queryOperands (query (T 
       value-step 0 (λ target k. targetOf T c target k (queryOperands (query (T .queries) k))) q
       (λ g h s. target-local T c q g h s (queryOperands (query (T .queries) q)) l)
 
-  pub plain-query-step : plainQueryAt T c q ≡ plainQueryOf T c (plainQueryAt T c) q (query (T .queries) q)
+  pub plain-query-step : (R : Reading) → plainQueryAt T c R q ≡ plainQueryOf T c R (plainQueryAt T c R) q (query (T .queries) q)
   unfolding plainQueryAt
-  plain-query-step =
-      value-step PlainQuery.empty (λ tree k. plainQueryOf T c tree k (query (T .queries) k)) q
-      (λ g h s. plain-query-local T c q g h s (query (T .queries) q) l)
+  plain-query-step R =
+      value-step PlainQuery.empty (λ tree k. plainQueryOf T c R tree k (query (T .queries) k)) q
+      (λ g h s. plain-query-local T c q g h s R (query (T .queries) q) l)
 
 -- ---- the same of a form of accepted tables
 
@@ -184,5 +186,5 @@ module _ {T : Tables} (F : Formed T) (c : ℕ) where
     pub query-target-in : queryTarget T c q ≡ targetOf T c (queryTarget T c) q (queryOperands (query (T .queries) q))
     query-target-in = query-target-step T c q (query-operands F q h)
 
-    pub plain-query-in : plainQueryAt T c q ≡ plainQueryOf T c (plainQueryAt T c) q (query (T .queries) q)
+    pub plain-query-in : (R : Reading) → plainQueryAt T c R q ≡ plainQueryOf T c R (plainQueryAt T c R) q (query (T .queries) q)
     plain-query-in = plain-query-step T c q (query-operands F q h)

@@ -6,7 +6,7 @@ use mathlib.Core.Bool.{Bool, true, false, cond, _&&_, _||_, not, and-eq-true-iff
 use mathlib.Core.Logic.{_↔_, _≢_, ⊎-elim}
 use mathlib.Core.Option.{none, some}
 use native.Mathlib.Omega.{arith}
-use borrow.Author.Tests.{eqb-true, eqb-false, eq-eqb, ne-eqb, not-true, not-false}
+use borrow.Author.Tests.{eqb-true, eq-eqb, ne-eqb, not-true, not-false}
 use lib.Dec.{eqb}
 use lib.Bits.{bitAnd, bitOr}
 use lib.Pow.{pow-pos}
@@ -24,12 +24,14 @@ use Rattle.report.specs.TypingFaults.{PartOf, comparedThere, comparedAli
 use Rattle.report.specs.declared.Comparison.{Comparison}
 use Rattle.report.specs.declared.Query.{Query}
 use Rattle.report.specs.declared.Operands.{Operands}
+use Rattle.report.specs.declared.Reading.{Reading}
 use Rattle.report.proofs.ValueLaws.{strong, value-map}
 use Rattle.report.proofs.FormedFacts.{query-operands, report-in}
 use Rattle.report.proofs.StepLaws.{taken-below, set-in, plain-query-in}
 use Rattle.report.proofs.KeptLists.{kept-joined}
 use Rattle.report.proofs.PassingOn.{passesTo, PassedTo, passed-to, to-passed, or-either, same-number}
 use Rattle.report.proofs.LeadLaws.{formAt, passed-lower, leads-self, leads-next, leads-cases, leads-lower, along}
+use Rattle.report.proofs.ReadingLaws.{fails-by}
 use Rattle.report.proofs.ReachLaws.{reached-leads, reached-in, reached-next, reached-report, reached-led}
 
 -- ---- where a form fails
@@ -42,10 +44,7 @@ module _ (T : Tables) (c x : ℕ) where
 
   -- in a phase it fails where it is reached and has a fault
   pub fails-where : (phase : ℕ) → (fails T c phase x ≡ true) ↔ ((reached T c x ≡ true) × (faults T c phase x ≢ 0))
-  fails-where phase = (
-    λ e. let p = and-eq-true-iff (reached T c x) _ .0 e in (p .0, eqb-false (faults T c phase x) 0 (not-true _ (p .1))),
-    λ p. and-eq-true-iff (reached T c x) _ .1 (p .0, ap not (ne-eqb (faults T c phase x) 0 (p .1))),
-  )
+  fails-where phase = fails-by T Reading.Strict c phase x
 
   -- and does not where, if reached, it has none
   pub holds-where : (phase : ℕ) → (fails T c phase x ≡ false) ↔ (reached T c x ≡ true → faults T c phase x ≡ 0)
@@ -169,10 +168,10 @@ two-pass false t e = absurd (false≢true e)
 module _ (T : Tables) (c : ℕ) where
   -- the tree of form q keeps the plain rules; its columns
   abbrev pub treePasses : ℕ → Bool
-  treePasses q = passes (kindOf T) (configuredSchema T c) (plainQueryAt T c q)
+  treePasses q = passes (kindOf T) (configuredSchema T c) (plainQueryAt T c Reading.Strict q)
 
   abbrev pub treeColumns : ℕ → ℕ
-  treeColumns q = columns (configuredSchema T c) (plainQueryAt T c q)
+  treeColumns q = columns (configuredSchema T c) (plainQueryAt T c Reading.Strict q)
 
   -- a query passes c on to no form whose tree breaks a rule
   abbrev pub operandsPass : Query → Bool
@@ -205,7 +204,7 @@ module _ (T : Tables) (c : ℕ) where
   keepsBy q y = eqb (faultsOf T c q y) 0 && eqb (clashesIn T c y) 0
 
   passes-rule : (q : ℕ) (y : Query) → OperandsBelow q (queryOperands y) → ColumnsAgree q
-      → passes (kindOf T) (configuredSchema T c) (plainQueryOf T c (plainQueryAt T c) q y) ≡ (operandsPass y && keepsBy q y)
+      → passes (kindOf T) (configuredSchema T c) (plainQueryOf T c Reading.Strict (plainQueryAt T c Reading.Strict) q y) ≡ (operandsPass y && keepsBy q y)
   passes-rule q Query.Malformed l ih = refl
   passes-rule q Query.Empty l ih = refl
   passes-rule q (Query.Relation a) l ih = relation-passes (present T c a) (relationSet T c a) a ∙ sym (and-true _)
@@ -227,7 +226,7 @@ module _ (T : Tables) (c : ℕ) where
   relation-columns false s = refl
 
   columns-rule : (q : ℕ) (y : Query) → OperandsBelow q (queryOperands y) → ColumnsAgree q → operandsPass y ≡ true → faultsOf T c q y ≡ 0
-      → columns (configuredSchema T c) (plainQueryOf T c (plainQueryAt T c) q y) ≡ setRule T c (setOf T c) q y
+      → columns (configuredSchema T c) (plainQueryOf T c Reading.Strict (plainQueryAt T c Reading.Strict) q y) ≡ setRule T c (setOf T c) q y
   columns-rule q Query.Malformed l ih e f = refl
   columns-rule q Query.Empty l ih e f = refl
   columns-rule q (Query.Relation a) l ih e f = relation-columns (present T c a) (relationSet T c a)
@@ -243,17 +242,17 @@ module _ (T : Tables) (c : ℕ) where
 module _ {T : Tables} (F : Formed T) (c : ℕ) where
   passes-at : (q : ℕ) → q < queryCount T → ColumnsAgree T c q → treePasses T c q ≡ (operandsPass T c (formAt T q) && keeps T c q)
   unfolding faults
-  passes-at q h ih = ap (passes (kindOf T) (configuredSchema T c)) (plain-query-in F c q h) ∙ passes-rule T c q (formAt T q) (query-operands F q h) ih
+  passes-at q h ih = ap (passes (kindOf T) (configuredSchema T c)) (plain-query-in F c q h Reading.Strict) ∙ passes-rule T c q (formAt T q) (query-operands F q h) ih
 
   columns-at : (q : ℕ) → q < queryCount T → ColumnsAgree T c q → operandsPass T c (formAt T q) ≡ true → keeps T c q ≡ true → treeColumns T c q ≡ setOf T c q
   unfolding faults
   columns-at q h ih e f =
-      ap (columns (configuredSchema T c)) (plain-query-in F c q h) ∙ columns-rule T c q (formAt T q) (query-operands F q h) ih e (keeps-phases T c q .0 f 0 (omega arith))
+      ap (columns (configuredSchema T c)) (plain-query-in F c q h Reading.Strict) ∙ columns-rule T c q (formAt T q) (query-operands F q h) ih e (keeps-phases T c q .0 f 0 (omega arith))
       ∙ sym (set-in F c q h)
 
   -- where the tree of a form passes, its columns are the set of the form
-  pub passes-columns : (q : ℕ) → q < queryCount T → passes (kindOf T) (configuredSchema T c) (plainQueryAt T c q) ≡ true
-      → columns (configuredSchema T c) (plainQueryAt T c q) ≡ setOf T c q
+  pub passes-columns : (q : ℕ) → q < queryCount T → passes (kindOf T) (configuredSchema T c) (plainQueryAt T c Reading.Strict q) ≡ true
+      → columns (configuredSchema T c) (plainQueryAt T c Reading.Strict q) ≡ setOf T c q
   passes-columns =
       strong (λ q. q < queryCount T → treePasses T c q ≡ true → treeColumns T c q ≡ setOf T c q)
       (λ q ih h e.
@@ -263,7 +262,7 @@ module _ {T : Tables} (F : Formed T) (c : ℕ) where
 
   -- a tree passes where those of its operands do and the form has no fault
   pub tree-passes : (q : ℕ) → q < queryCount T
-      → passes (kindOf T) (configuredSchema T c) (plainQueryAt T c q) ≡ (operandsPass T c (formAt T q) && keeps T c q)
+      → passes (kindOf T) (configuredSchema T c) (plainQueryAt T c Reading.Strict q) ≡ (operandsPass T c (formAt T q) && keeps T c q)
   tree-passes q h = passes-at q h (λ k l. passes-columns k (omega arith))
 
   -- ---- all forms to which it leads
@@ -291,7 +290,7 @@ module _ {T : Tables} (F : Formed T) (c : ℕ) where
 
   -- the tree of a form passes the plain rules exactly where no form to which it leads has a fault
   pub passes-clean : (q : ℕ) → q < queryCount T
-      → (passes (kindOf T) (configuredSchema T c) (plainQueryAt T c q) ≡ true) ↔ ((x : ℕ) → leads T c x q ≡ true → keeps T c x ≡ true)
+      → (passes (kindOf T) (configuredSchema T c) (plainQueryAt T c Reading.Strict q) ≡ true) ↔ ((x : ℕ) → leads T c x q ≡ true → keeps T c x ≡ true)
   passes-clean = strong (λ q. q < queryCount T → Known q) (λ q ih h. step q h (operands-known q h (λ k l. ih k l (omega arith))))
     where
       step : (q : ℕ) → q < queryCount T
@@ -318,7 +317,7 @@ module _ {T : Tables} (F : Formed T) (c : ℕ) where
 
   -- a form's own node breaks its rule, with all nodes below keeping theirs, exactly where something is at fault in the form and nothing below it
   pub node-breaks : (q : ℕ) → q < queryCount T
-      → ((operandsPass T c (formAt T q) ≡ true) × (passes (kindOf T) (configuredSchema T c) (plainQueryAt T c q) ≡ false))
+      → ((operandsPass T c (formAt T q) ≡ true) × (passes (kindOf T) (configuredSchema T c) (plainQueryAt T c Reading.Strict q) ≡ false))
       ↔ ((keeps T c q ≡ false) × ((x : ℕ) → leads T c x q ≡ true → x ≢ q → keeps T c x ≡ true))
   node-breaks q h = (
     λ e. (
@@ -342,7 +341,7 @@ module _ {T : Tables} (F : Formed T) (c : ℕ) where
   -- ---- the whole report
 
   -- the tree of a reached form passes where no form up to it fails
-  pub reached-passes : (q : ℕ) → reached T c q ≡ true → ((x phase : ℕ) → x ≤ q → phase < 2 → fails T c phase x ≡ false) → passes (kindOf T) (configuredSchema T c) (plainQueryAt T c q) ≡ true
+  pub reached-passes : (q : ℕ) → reached T c q ≡ true → ((x phase : ℕ) → x ≤ q → phase < 2 → fails T c phase x ≡ false) → passes (kindOf T) (configuredSchema T c) (plainQueryAt T c Reading.Strict q) ≡ true
   reached-passes q r f =
       let ok = reached-permitted T c q r in
       let h = reached-in F c ok q r in
@@ -350,7 +349,7 @@ module _ {T : Tables} (F : Formed T) (c : ℕ) where
 
   -- of the lowest form that fails at c the own node breaks its rule, with all nodes below keeping theirs
   pub lowest-breaks : (q phase : ℕ) → phase < 2 → fails T c phase q ≡ true → ((x phase : ℕ) → x < q → phase < 2 → fails T c phase x ≡ false)
-      → (operandsPass T c (formAt T q) ≡ true) × (passes (kindOf T) (configuredSchema T c) (plainQueryAt T c q) ≡ false)
+      → (operandsPass T c (formAt T q) ≡ true) × (passes (kindOf T) (configuredSchema T c) (plainQueryAt T c Reading.Strict q) ≡ false)
   lowest-breaks q phase n e f =
       let p = fails-breaks T c q phase n e in
       let ok = reached-permitted T c q (p .0) in
@@ -361,7 +360,7 @@ module _ {T : Tables} (F : Formed T) (c : ℕ) where
   -- in a reached select below which no form fails, every compared attribute is there exactly where the first phase finds nothing
   pub compared-where : (q a b : ℕ) → formAt T q ≡ Query.Select a b → reached T c q ≡ true
       → ((x phase : ℕ) → x < q → phase < phases → fails T c phase x ≡ false)
-      → comparedThere (configuredSchema T c) (plainQueryAt T c q) ≡ eqb (faults T c 0 q) 0
+      → comparedThere (configuredSchema T c) (plainQueryAt T c Reading.Strict q) ≡ eqb (faults T c 0 q) 0
   unfolding faults
   compared-where q a b e r below =
       let ok = reached-permitted T c q r in
@@ -369,21 +368,21 @@ module _ {T : Tables} (F : Formed T) (c : ℕ) where
       let p : passesTo T c b (formAt T q) ≡ true = ap (passesTo T c b) e ∙ same-number b in
       let l = passed-lower F c b q h p in
       let s = passes-columns b (omega arith) (reached-passes b (reached-next F c ok b q r p) (λ x phase k. below x phase (omega arith))) in
-      ap (comparedThere (configuredSchema T c)) (plain-query-in F c q h ∙ ap (plainQueryOf T c (plainQueryAt T c) q) e)
+      ap (comparedThere (configuredSchema T c)) (plain-query-in F c q h Reading.Strict ∙ ap (plainQueryOf T c Reading.Strict (plainQueryAt T c Reading.Strict) q) e)
       ∙ ap₂ (λ (x y : ℕ). eqb (difference x y) 0) (named-names T c a) s
       ∙ ap (λ (y : Query). eqb (faultsOf T c q y) 0) (sym e)
 
   -- in a select both sides of all that is compared have one kind exactly where the second phase finds nothing
   pub alike-where : (q a b : ℕ) → q < queryCount T → formAt T q ≡ Query.Select a b
-      → comparedAlike (kindOf T) (plainQueryAt T c q) ≡ eqb (faults T c 1 q) 0
+      → comparedAlike (kindOf T) (plainQueryAt T c Reading.Strict q) ≡ eqb (faults T c 1 q) 0
   unfolding faults
   alike-where q a b h e =
-      ap (comparedAlike (kindOf T)) (plain-query-in F c q h ∙ ap (plainQueryOf T c (plainQueryAt T c) q) e)
+      ap (comparedAlike (kindOf T)) (plain-query-in F c q h Reading.Strict ∙ ap (plainQueryOf T c Reading.Strict (plainQueryAt T c Reading.Strict) q) e)
       ∙ one-kind T c a
       ∙ ap (λ (y : Query). eqb (clashesIn T c y) 0) (sym e)
 
   -- at a permitted configuration the configured report passes exactly where no form fails
-  pub report-passes : permitted T c ≡ true → (passes (kindOf T) (configuredSchema T c) (configuredReport T c) ≡ true)
+  pub report-passes : permitted T c ≡ true → (passes (kindOf T) (configuredSchema T c) (configuredReport T c Reading.Strict) ≡ true)
       ↔ ((q phase : ℕ) → q < queryCount T → phase < 2 → fails T c phase q ≡ false)
   report-passes ok = (
     λ e q phase h. keeps-where T c q .1 (λ r. passes-clean (report T) (report-in F) .0 e q (sym (reached-leads F c ok q) ∙ r)) phase,
@@ -391,20 +390,20 @@ module _ {T : Tables} (F : Formed T) (c : ℕ) where
   )
 
   -- where it passes its columns are the set of the report
-  pub report-columns : passes (kindOf T) (configuredSchema T c) (configuredReport T c) ≡ true → columns (configuredSchema T c) (configuredReport T c) ≡ setOf T c (report T)
+  pub report-columns : passes (kindOf T) (configuredSchema T c) (configuredReport T c Reading.Strict) ≡ true → columns (configuredSchema T c) (configuredReport T c Reading.Strict) ≡ setOf T c (report T)
   report-columns e = passes-columns (report T) (report-in F) e
 
 -- ---- the tree of a form that c reaches is a part of the configured report
 
-module _ (T : Tables) (c : ℕ) (t : PlainQuery) (z : ℕ) (part : PartOf t (plainQueryAt T c z)) where
-  part-same : (b : ℕ) → eqb z b ≡ true → PartOf t (plainQueryAt T c b)
+module _ (T : Tables) (c : ℕ) (t : PlainQuery) (z : ℕ) (part : PartOf t (plainQueryAt T c Reading.Strict z)) where
+  part-same : (b : ℕ) → eqb z b ≡ true → PartOf t (plainQueryAt T c Reading.Strict b)
   part-same b e = rw (← eqb-true z b e) part
 
-  part-two : (a b : ℕ) {w : PlainQuery} → (PartOf t (plainQueryAt T c a) → PartOf t w) → (PartOf t (plainQueryAt T c b) → PartOf t w)
+  part-two : (a b : ℕ) {w : PlainQuery} → (PartOf t (plainQueryAt T c Reading.Strict a) → PartOf t w) → (PartOf t (plainQueryAt T c Reading.Strict b) → PartOf t w)
       → (eqb z a || eqb z b) ≡ true → PartOf t w
   part-two a b left right e = ⊎-elim (λ u. left (part-same a u)) (λ u. right (part-same b u)) (or-either (eqb z a) (eqb z b) e)
 
-  part-rule : (q : ℕ) (y : Query) → passesTo T c z y ≡ true → PartOf t (plainQueryOf T c (plainQueryAt T c) q y)
+  part-rule : (q : ℕ) (y : Query) → passesTo T c z y ≡ true → PartOf t (plainQueryOf T c Reading.Strict (plainQueryAt T c Reading.Strict) q y)
   part-rule q Query.Malformed e = absurd (false≢true e)
   part-rule q Query.Empty e = absurd (false≢true e)
   part-rule q (Query.Relation a) e = absurd (false≢true e)
@@ -415,8 +414,8 @@ module _ (T : Tables) (c : ℕ) (t : PlainQuery) (z : ℕ) (part : PartOf t (pla
   part-rule q (Query.Union a b) e = part-two a b PartOf.leftOfUnion PartOf.rightOfUnion e
   part-rule q (Query.Intersection a b) e = part-two a b PartOf.leftOfIntersection PartOf.rightOfIntersection e
 
-pub reached-part : {T : Tables} → Formed T → (c x : ℕ) → reached T c x ≡ true → PartOf (plainQueryAt T c x) (configuredReport T c)
+pub reached-part : {T : Tables} → Formed T → (c x : ℕ) → reached T c x ≡ true → PartOf (plainQueryAt T c Reading.Strict x) (configuredReport T c Reading.Strict)
 reached-part {T} F c x r =
-    along F c x (λ q. PartOf (plainQueryAt T c x) (plainQueryAt T c q)) (λ h. PartOf.whole)
-    (λ z q h k e l ih. rw (plain-query-in F c q h) (part-rule T c (plainQueryAt T c x) z ih q (formAt T q) e)) (report T) (report-in F)
+    along F c x (λ q. PartOf (plainQueryAt T c Reading.Strict x) (plainQueryAt T c Reading.Strict q)) (λ h. PartOf.whole)
+    (λ z q h k e l ih. rw (plain-query-in F c q h Reading.Strict) (part-rule T c (plainQueryAt T c Reading.Strict x) z ih q (formAt T q) e)) (report T) (report-in F)
     (sym (reached-leads F c (reached-permitted T c x r) x) ∙ r)

@@ -15,11 +15,12 @@ use Rattle.report.specs.Operands.{queryOperands, isAmong, isChoice}
 use Rattle.report.specs.Expressions.{permitted}
 use Rattle.report.specs.Typing.{present, reached}
 use Rattle.report.specs.FormChecks.{isOperand, takenBelow, expressionOk, queryOk}
-use Rattle.report.specs.Configuring.{queryTarget, comparisonKept, queryKept, newQuery, configured}
+use Rattle.report.specs.Configuring.{stayingOver, readAs, queryTarget, comparisonKept, queryKept, newQuery, configured}
 use Rattle.report.specs.Repeats.{repeats, projectRepeats}
 use Rattle.report.specs.Formed.{Sized, Formed, Free, FreePair, QueryLower}
 use Rattle.report.specs.declared.Query.{Query}
 use Rattle.report.specs.declared.Operands.{Operands}
+use Rattle.report.specs.declared.Reading.{Reading}
 use Rattle.report.proofs.FormFacts.{Listing, project, unlisted, listing}
 use Rattle.report.proofs.FitLaws.{query-fits}
 use Rattle.report.proofs.FormedFacts.{query-at, operand-lower, operand-once, counts}
@@ -32,8 +33,8 @@ use Rattle.report.proofs.WrittenEntries.{entries-even, entries-ok, rela
 use Rattle.report.proofs.WrittenQueries.{renumberedQuery, queries-length, queries-count, query-written, unlisted-written, project-stands, all-used, entries-room}
 
 -- every relation that c reaches is present
-abbrev pub RelationsPresent : Tables → ℕ → Type 0
-RelationsPresent T c = (q a : ℕ) → reached T c q ≡ true → formAt T q ≡ Query.Relation a → present T c a ≡ true
+abbrev pub RelationsPresent : Tables → ℕ → Reading → Type 0
+RelationsPresent T c R = (q a : ℕ) → reached T c q ≡ true → readAs T c R (formAt T q) ≡ Query.Relation a → present T c a ≡ true
 
 -- ---- the operands of a form, renumbered
 
@@ -44,16 +45,22 @@ renumberedOperands new (Operands.One a) = Operands.One (new a)
 renumberedOperands new (Operands.Both a b) = Operands.Both (new a) (new b)
 renumberedOperands new (Operands.Choice e a b) = Operands.Nothing
 
-written-operands : (T : Tables) (c q : ℕ) (y : Query) → queryOperands (renumberedQuery T c q y) ≡ renumberedOperands (newQuery T c) (queryOperands y)
-written-operands T c q Query.Malformed = refl
-written-operands T c q Query.Empty = refl
-written-operands T c q (Query.Relation a) = refl
-written-operands T c q (Query.Select a b) = refl
-written-operands T c q (Query.Project a b) = refl
-written-operands T c q (Query.Choice a b d) = refl
-written-operands T c q (Query.Product a b) = refl
-written-operands T c q (Query.Union a b) = refl
-written-operands T c q (Query.Intersection a b) = refl
+written-operands : (T : Tables) (c : ℕ) (R : Reading) (q : ℕ) (y : Query)
+    → queryOperands (renumberedQuery T c R q y) ≡ renumberedOperands (newQuery T c) (queryOperands y)
+written-operands T c R q Query.Malformed = refl
+written-operands T c R q Query.Empty = refl
+written-operands T c R q (Query.Relation a) = go R (present T c a) refl
+  where
+    go : (R : Reading) (t : Bool) → present T c a ≡ t → queryOperands (renumberedQuery T c R q (Query.Relation a)) ≡ Operands.Nothing
+    go Reading.Strict t e = refl
+    go Reading.Filled true e = rw e refl
+    go Reading.Filled false e = rw e refl
+written-operands T c R q (Query.Select a b) = refl
+written-operands T c R q (Query.Project a b) = refl
+written-operands T c R q (Query.Choice a b d) = refl
+written-operands T c R q (Query.Product a b) = refl
+written-operands T c R q (Query.Union a b) = refl
+written-operands T c R q (Query.Intersection a b) = refl
 
 module _ (new : ℕ → ℕ) where
   -- each is the new number of an operand
@@ -76,7 +83,7 @@ module _ (new : ℕ → ℕ) where
       ⊎-elim (λ e. or-first _ _ (new-number z a e)) (λ e. or-second (eqb (new z) (new a)) _ (new-number z b e)) (or-either (eqb z a) (eqb z b) m)
   new-operand (Operands.Choice e a b) p z m = absurd (false≢true (sym p))
 
-module _ {T : Tables} (F : Formed T) (c : ℕ) (ok : permitted T c ≡ true) where
+module _ {T : Tables} (F : Formed T) (c : ℕ) (R : Reading) (ok : permitted T c ≡ true) where
   operand-kept : (q x : ℕ) → queryKept T c q ≡ true → isOperand x (formAt T q) ≡ true → queryKept T c (queryTarget T c x) ≡ true
   operand-kept q x k o = target-kept F c ok x (operand-reached F c ok q x k o)
 
@@ -89,50 +96,56 @@ module _ {T : Tables} (F : Formed T) (c : ℕ) (ok : permitted T c ≡ true) whe
 
   -- the operands of a kept form are free for the form that is written
   new-free : (q x : ℕ) → q < queryCount T → queryKept T c q ≡ true → isOperand x (formAt T q) ≡ true
-      → Free (configured T c .queries) (countBelow (queryKept T c) q) (newQuery T c x)
+      → Free (configured T c R .queries) (countBelow (queryKept T c) q) (newQuery T c x)
   new-free q x h k o = record {
     lower =
         let m = operand-lower F q x h o in
         let l = lead F c x (omega arith) .low in
         count-lt (queryKept T c) (queryTarget T c x) q (omega arith) (operand-kept q x k o);
-    untaken = λ p l. go p l (isOperand (newQuery T c x) (formAt (configured T c) p)) refl;
+    untaken = λ p l. go p l (isOperand (newQuery T c x) (formAt (configured T c R) p)) refl;
   }
     where
-      go : (p : ℕ) → p < countBelow (queryKept T c) q → (t : Bool) → isOperand (newQuery T c x) (formAt (configured T c) p) ≡ t → t ≡ false
+      go : (p : ℕ) → p < countBelow (queryKept T c) q → (t : Bool) → isOperand (newQuery T c x) (formAt (configured T c R) p) ≡ t → t ≡ false
       go p l false e = refl
       go p l true e =
           let n = nth (queryKept T c) q p l in
           let b = n .below in
           let i : n .old < queryCount T = omega arith in
           let z = old-operand (newQuery T c) (operandsAt T (n .old)) (newQuery T c x)
-          (rw (← written-operands T c (n .old) (formAt T (n .old)), ← query-written F c (n .old) i (n .passed), n .number) e) in
+          (rw (← written-operands T c R (n .old) (formAt T (n .old)), ← query-written F c R (n .old) i (n .passed), n .number) e) in
           let s = new-same q (n .old) x (z .0) h i k (n .passed) o (z .1) (z .2) in
           let same = operand-once F q (n .old) x h i o (rw s (z .1)) in
           absurd (omega arith)
 
   two-free : (q a b : ℕ) → q < queryCount T → queryKept T c q ≡ true → isOperand a (formAt T q) ≡ true → isOperand b (formAt T q) ≡ true → (a ≡ b → ⊥)
-      → FreePair (configured T c .queries) (countBelow (queryKept T c) q) (newQuery T c a) (newQuery T c b)
+      → FreePair (configured T c R .queries) (countBelow (queryKept T c) q) (newQuery T c a) (newQuery T c b)
   two-free q a b h k o r n = record {
     first = new-free q a h k o;
     second = new-free q b h k r;
     apart = λ e. n (new-same q q a b h h k k o r e);
   }
 
-  module _ (P : RelationsPresent T c) where
+  module _ (P : RelationsPresent T c R) where
     -- a pair of operands of form q, given what the form is
     pair-free : (q a b : ℕ) → q < queryCount T → queryKept T c q ≡ true → ((x : ℕ) → isOperand x (formAt T q) ≡ (eqb x a || eqb x b))
-        → FreePair (T .queries) q a b → FreePair (configured T c .queries) (countBelow (queryKept T c) q) (newQuery T c a) (newQuery T c b)
+        → FreePair (T .queries) q a b → FreePair (configured T c R .queries) (countBelow (queryKept T c) q) (newQuery T c a) (newQuery T c b)
     pair-free q a b h k e l =
         two-free q a b h k (e a ∙ or-first _ _ (same-number a)) (e b ∙ or-second (eqb b a) _ (same-number b)) (l .apart)
 
     renumbered-lower : (q : ℕ) → q < queryCount T → queryKept T c q ≡ true → (y : Query) → formAt T q ≡ y → QueryLower T q y
-        → QueryLower (configured T c) (countBelow (queryKept T c) q) (renumberedQuery T c q y)
+        → QueryLower (configured T c R) (countBelow (queryKept T c) q) (renumberedQuery T c R q y)
     renumbered-lower q h k Query.Malformed e l = absurd l
     renumbered-lower q h k Query.Empty e l = tt
-    renumbered-lower q h k (Query.Relation a) e l = new-relation T c a (P q a (kept-both T c q k .0) e)
-    renumbered-lower q h k (Query.Select a b) e l = (new-comparison F c a (l .0), new-free q b h k (ap (isOperand b) e ∙ same-number b))
+    renumbered-lower q h k (Query.Relation a) e l = go R P (present T c a) refl
+      where
+        go : (R : Reading) → RelationsPresent T c R → (t : Bool) → present T c a ≡ t
+            → QueryLower (configured T c R) (countBelow (queryKept T c) q) (renumberedQuery T c R q (Query.Relation a))
+        go Reading.Strict P t i = new-relation T c Reading.Strict a (P q a (kept-both T c q k .0) (ap (readAs T c Reading.Strict) e))
+        go Reading.Filled P true i = rw i (new-relation T c Reading.Filled a i)
+        go Reading.Filled P false i = rw i tt
+    renumbered-lower q h k (Query.Select a b) e l = (new-comparison F c R a (l .0), new-free q b h k (ap (isOperand b) e ∙ same-number b))
     renumbered-lower q h k (Query.Project a b) e l = (
-      carried-inside T c (projectStart T q) a (configured T c) _ (project-stands F c q a b h k e),
+      carried-inside T c (stayingOver T c R b) (projectStart T q) a (configured T c R) _ (project-stands F c R q a b h k e),
       new-free q b h k (ap (isOperand b) e ∙ same-number b),
     )
     renumbered-lower q h k (Query.Choice a b d) e l = absurd (false≢true (sym (kept-both T c q k .1) ∙ ap (λ (y : Query). isChoice (queryOperands y)) e))
@@ -141,76 +154,76 @@ module _ {T : Tables} (F : Formed T) (c : ℕ) (ok : permitted T c ≡ true) whe
     renumbered-lower q h k (Query.Intersection a b) e l = pair-free q a b h k (λ x. ap (isOperand x) e) l
 
     -- each written form is a kept one
-    pub query-of : (k : ℕ) → k < queryCount (configured T c) → Nth (queryKept T c) (queryCount T) k
-    query-of k h = nth (queryKept T c) (queryCount T) k (let e = queries-count F c in omega arith)
+    pub query-of : (k : ℕ) → k < queryCount (configured T c R) → Nth (queryKept T c) (queryCount T) k
+    query-of k h = nth (queryKept T c) (queryCount T) k (let e = queries-count F c R in omega arith)
 
     -- check 8 of the tables written
-    queries-ok : (k : ℕ) → k < queryCount (configured T c) → queryOk (configured T c) k ≡ true
+    queries-ok : (k : ℕ) → k < queryCount (configured T c R) → queryOk (configured T c R) k ≡ true
     queries-ok k h =
         let n = query-of k h in
-        subst (λ (x : ℕ). queryOk (configured T c) x ≡ true) (n .number)
-        (query-fits (configured T c) _ (formAt (configured T c) (countBelow (queryKept T c) (n .old)))
-        (rw (query-written F c (n .old) (n .below) (n .passed))
+        subst (λ (x : ℕ). queryOk (configured T c R) x ≡ true) (n .number)
+        (query-fits (configured T c R) _ (formAt (configured T c R) (countBelow (queryKept T c) (n .old)))
+        (rw (query-written F c R (n .old) (n .below) (n .passed))
         (renumbered-lower (n .old) (n .below) (n .passed) (formAt T (n .old)) refl (query-at F (n .old) (n .below)))))
 
     -- no list of them has an attribute twice
     project-once : (q : ℕ) → q < queryCount T → queryKept T c q ≡ true → Listing (formAt T q)
-        → projectRepeats (configured T c) (countBelow (queryKept T c) q) ≡ false
+        → projectRepeats (configured T c R) (countBelow (queryKept T c) q) ≡ false
     project-once q h k (project a b e) =
-        rw (query-written F c q h k, e) (carried-repeats T c (projectStart T q) a (configured T c) _ (project-stands F c q a b h k e))
+        rw (query-written F c R q h k, e) (carried-repeats T c (stayingOver T c R b) (projectStart T q) a (configured T c R) _ (project-stands F c R q a b h k e))
     project-once q h k (unlisted e) =
-        ap (repeats (configured T c .entries) (projectStart (configured T c) (countBelow (queryKept T c) q))) (unlisted-written F c q h k e)
+        ap (repeats (configured T c R .entries) (projectStart (configured T c R) (countBelow (queryKept T c) q))) (unlisted-written F c R q h k e)
 
-    pub queries-once : (k : ℕ) → k < queryCount (configured T c) → projectRepeats (configured T c) k ≡ false
+    pub queries-once : (k : ℕ) → k < queryCount (configured T c R) → projectRepeats (configured T c R) k ≡ false
     queries-once k h =
         let n = query-of k h in
-        subst (λ (x : ℕ). projectRepeats (configured T c) x ≡ false) (n .number) (project-once (n .old) (n .below) (n .passed) (listing (formAt T (n .old))))
+        subst (λ (x : ℕ). projectRepeats (configured T c R) x ≡ false) (n .number) (project-once (n .old) (n .below) (n .passed) (listing (formAt T (n .old))))
 
     -- check 9
-    queries-taken : (k : ℕ) → k < queryCount (configured T c) - 1 → takenBelow (configured T c .queries) (queryCount (configured T c)) k ≡ true
+    queries-taken : (k : ℕ) → k < queryCount (configured T c R) - 1 → takenBelow (configured T c R .queries) (queryCount (configured T c R)) k ≡ true
     queries-taken k h = let n = query-of k (omega arith) in go n (kept-taken F c ok (n .old) (n .passed))
       where
         go : (n : Nth (queryKept T c) (queryCount T) k) → (queryTarget T c (report T) ≡ n .old) ⊎ Taker T c (n .old)
-            → takenBelow (configured T c .queries) (queryCount (configured T c)) k ≡ true
+            → takenBelow (configured T c R .queries) (queryCount (configured T c R)) k ≡ true
         go n (inl e) =
             absurd
             (let a = n .number in
             let b = ap (countBelow (queryKept T c)) e in
             let d = kept-count F c ok in
-            let f = queries-count F c in
+            let f = queries-count F c R in
             omega arith)
         go n (inr t) =
-            at-some (λ p. isOperand k (formAt (configured T c) p)) (queryCount (configured T c)) (countBelow (queryKept T c) (t .by))
-            (let l = count-lt (queryKept T c) (t .by) (queryCount T) (t .inside) (t .isKept) in let f = queries-count F c in omega arith)
-            (rw (query-written F c (t .by) (t .inside) (t .isKept), written-operands T c (t .by) (formAt T (t .by)), ← n .number, ← t .leadsTo)
+            at-some (λ p. isOperand k (formAt (configured T c R) p)) (queryCount (configured T c R)) (countBelow (queryKept T c) (t .by))
+            (let l = count-lt (queryKept T c) (t .by) (queryCount T) (t .inside) (t .isKept) in let f = queries-count F c R in omega arith)
+            (rw (query-written F c R (t .by) (t .inside) (t .isKept), written-operands T c R (t .by) (formAt T (t .by)), ← n .number, ← t .leadsTo)
             (new-operand (newQuery T c) (operandsAt T (t .by)) (kept-both T c (t .by) (t .isKept) .1) (t .operand) (t .isOperandOf)))
 
     -- ---- the whole
 
-    first-expression : (f : ℕ) → f < expressionCount (configured T c) → expressionOk (configured T c) f ≡ true
+    first-expression : (f : ℕ) → f < expressionCount (configured T c R) → expressionOk (configured T c R) f ≡ true
     unfolding configured
     first-expression zero h = refl
     first-expression (suc f) h = absurd (omega arith)
 
-    entries-sized : Sized (shapeOf 2 0 1024) (length (configured T c .entries))
-    entries-sized = let e = entries-even F c in let m = entries-room F c in let n = counts F .most1 in let w = counts F .words1 in omega arith
+    entries-sized : Sized (shapeOf 2 0 1024) (length (configured T c R .entries))
+    entries-sized = let e = entries-even F c R in let m = entries-room F c R in let n = counts F .most1 in let w = counts F .words1 in omega arith
 
-    relations-sized : Sized (shapeOf 2 0 32) (length (configured T c .relations))
-    relations-sized = let e = relations-length T c in let m = count-le (present T c) (relationCount T) in let n = counts F .most2 in omega arith
+    relations-sized : Sized (shapeOf 2 0 32) (length (configured T c R .relations))
+    relations-sized = let e = relations-length T c R in let m = count-le (present T c) (relationCount T) in let n = counts F .most2 in omega arith
 
-    comparisons-sized : Sized (shapeOf 5 0 256) (length (configured T c .comparisons))
+    comparisons-sized : Sized (shapeOf 5 0 256) (length (configured T c R .comparisons))
     comparisons-sized =
-        let e = comparisons-length F c in let m = count-le (comparisonKept T c) (comparisonCount T) in let n = counts F .most3 in omega arith
+        let e = comparisons-length F c R in let m = count-le (comparisonKept T c) (comparisonCount T) in let n = counts F .most3 in omega arith
 
-    queries-sized : Sized (shapeOf 4 1 256) (length (configured T c .queries))
+    queries-sized : Sized (shapeOf 4 1 256) (length (configured T c R .queries))
     queries-sized =
-        let e = queries-length F c in
+        let e = queries-length F c R in
         let d = kept-count F c ok in
         let m = count-le (queryKept T c) (queryCount T) in
         let n = counts F .most4 in
         omega arith
 
-    pub written-formed : Formed (configured T c)
+    pub written-formed : Formed (configured T c R)
     unfolding configured
     written-formed = record {
       few = omega arith;
@@ -222,13 +235,13 @@ module _ {T : Tables} (F : Formed T) (c : ℕ) (ok : permitted T c ≡ true) whe
       sized4 = queries-sized;
       expressionsOk = first-expression;
       modelIn = omega arith;
-      entriesOk = entries-ok F c;
-      relationsOk = relations-ok F c;
-      comparisonsOk = comparisons-ok F c;
+      entriesOk = entries-ok F c R;
+      relationsOk = relations-ok F c R;
+      comparisonsOk = comparisons-ok F c R;
       queriesOk = queries-ok;
       allTaken = queries-taken;
-      allUsed = all-used F c;
+      allUsed = all-used F c R;
       kinded = F .kinded;
       kindsOk = F .kindsOk;
-      constantsOk = constants-ok F c;
+      constantsOk = constants-ok F c R;
     }

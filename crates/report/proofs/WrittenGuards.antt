@@ -13,6 +13,7 @@ use Rattle.report.specs.Calls.{answer, Sound, checking}
 use Rattle.report.specs.WrittenTables.{WrittenAccepted}
 use Rattle.report.specs.Examples.{h1}
 use Rattle.report.specs.declared.Verdict.{Verdict}
+use Rattle.report.specs.declared.Reading.{Reading}
 use Rattle.report.proofs.ExamplesHold.{computed}
 use Rattle.report.proofs.CallLaws.{sound-accepted}
 use Rattle.report.proofs.Guards.{h1-accepted}
@@ -23,8 +24,8 @@ h1-permitted : permitted (h1 2) 0 ≡ true
 unfolding computed
 h1-permitted = refl
 
-pub h1-written : WrittenAccepted (h1 2) 0
-h1-written = accepted-written (h1 2) 1024 h1-accepted 0 h1-permitted
+pub h1-written : WrittenAccepted (h1 2) 0 Reading.Strict
+h1-written = accepted-written (h1 2) Reading.Strict 1024 h1-accepted 0 h1-permitted
 
 -- a report that names a relation which its feature guards, with no choice
 abbrev absent : Tables
@@ -35,7 +36,7 @@ pub absent-written : Sound absent
     × (permitted absent 0 ≡ true)
     × (reached absent 0 0 ≡ true)
     × (present absent 0 0 ≡ false)
-    × (answer absent (checking 1024) ≡ Verdict.Refused (refusal 15 0 0 0))
-    × (formCheck (configured absent 0) ≡ Verdict.Refused (refusal 8 0 0 0))
+    × (answer absent Reading.Strict (checking 1024) ≡ Verdict.Refused (refusal 15 0 0 0))
+    × (formCheck (configured absent 0 Reading.Strict) ≡ Verdict.Refused (refusal 8 0 0 0))
 unfolding computed
 absent-written = (sound-accepted absent .1 refl, refl, refl, refl, refl, refl)

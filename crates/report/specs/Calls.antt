@@ -11,6 +11,7 @@ use Rattle.report.specs.ColumnRows.{columnRows}
 use Rattle.report.specs.Verdicts.{refusal, orElse, after, Condition, _gives_, firstOf, NoneHolds}
 use Rattle.report.specs.Checks.{modelAndSchemaCheck, typingCheck, isEarly, isLate}
 use Rattle.report.specs.Conditions.{formConditions, schemaConditions, typingConditions}
+use Rattle.report.specs.declared.Reading.{Reading}
 use Rattle.report.specs.declared.Verdict.{Verdict}
 
 -- A call, by the conditions of its own: those that it checks between the first checks and 12, and those after typing
@@ -24,18 +25,18 @@ pub record Given : Type 0 where
   pub first : List Condition
 
 module _ (G : Given) where
-  -- all that a call checks, in its order
-  abbrev pub conditionsTo : Call → List Condition
-  conditionsTo call =
-      G .first ++ call .beforeModel (G .tables) ++ schemaConditions (G .tables) ++ typingConditions (G .tables) ++ call .afterTyping (G .tables)
+  -- all that a call checks in the reading it is told, in its order
+  abbrev pub conditionsTo : Reading → Call → List Condition
+  conditionsTo R call =
+      G .first ++ call .beforeModel (G .tables) ++ schemaConditions (G .tables) ++ typingConditions (G .tables) R ++ call .afterTyping (G .tables)
 
   -- what it runs before typing: the first checks, its own, 12 to 14
   abbrev pub beforeTypingTo : Call → Verdict
   beforeTypingTo call = orElse (firstOf (G .first)) (orElse (firstOf (call .beforeModel (G .tables))) (modelAndSchemaCheck (G .tables)))
 
-  -- the answer of a call
-  unfoldable pub answerTo : Call → Verdict
-  answerTo call = orElse (beforeTypingTo call) (orElse (typingCheck (G .tables)) (firstOf (call .afterTyping (G .tables))))
+  -- the answer of a call in the reading it is told
+  unfoldable pub answerTo : Reading → Call → Verdict
+  answerTo R call = orElse (beforeTypingTo call) (orElse (typingCheck (G .tables) R) (firstOf (call .afterTyping (G .tables))))
 
   -- "sound in form and schema": none of the conditions checked before typing holds, a call's own left aside
   abbrev pub SoundTo : Type 0
@@ -51,10 +52,10 @@ abbrev pub whole : Tables → Given
 whole T = record { tables = T; first = formConditions T }
 
 module _ (T : Tables) where
-  abbrev pub conditions : Call → List Condition
+  abbrev pub conditions : Reading → Call → List Condition
   conditions = conditionsTo (whole T)
 
-  abbrev pub answer : Call → Verdict
+  abbrev pub answer : Reading → Call → Verdict
   answer = answerTo (whole T)
 
   abbrev pub Sound : Type 0
@@ -86,8 +87,8 @@ abbrev pub checking : ℕ → Call
 checking room = record { beforeModel = λ T. rowsCondition room; afterTyping = λ T. [] }
 
 -- the rows lent to checking, afterwards
-abbrev pub rowsAfter : Tables → List ℕ → List ℕ
-rowsAfter T lent = after (answer T (checking (length lent))) (columnRows T) lent
+abbrev pub rowsAfter : Tables → Reading → List ℕ → List ℕ
+rowsAfter T R lent = after (answer T R (checking (length lent))) (columnRows T) lent
 
 -- ---- configuring: 1 to 10, 24, 12 to 19, 25, 20, 21
 

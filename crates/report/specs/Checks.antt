@@ -8,11 +8,13 @@ use Rattle.sets.specs.Bits.{lowestMember}
 use Rattle.report.specs.Tables.{Tables, entryAttribute, relationExpression, relationLength, query}
 use Rattle.report.specs.Tables.{relationCount, queryCount, relationStart}
 use Rattle.report.specs.Expressions.{configurations, permitted}
-use Rattle.report.specs.Typing.{phases, at, entryHolds, faults, fails}
+use Rattle.report.specs.Typing.{phases, at, entryHolds}
+use Rattle.report.specs.Readings.{faultsBy, failsBy}
 use Rattle.report.specs.Verdicts.{refusal, refuseIf, refuseAt, orElse, firstFrom}
 use Rattle.report.specs.declared.Refusal.{Refusal}
 use Rattle.report.specs.declared.Verdict.{Verdict}
 use Rattle.report.specs.declared.Query.{Query}
+use Rattle.report.specs.declared.Reading.{Reading}
 
 -- the number of a query form's rule among the typing faults; an empty or a choice breaks none
 abbrev pub ruleNumber : Query → ℕ
@@ -59,25 +61,26 @@ module _ (T : Tables) where
   abbrev pub schemaCheck : Verdict
   schemaCheck = firstFrom relationCheck (relationCount T) 0
 
+  -- 12 to 14
+  abbrev pub modelAndSchemaCheck : Verdict
+  modelAndSchemaCheck = orElse modelCheck schemaCheck
+
+module _ (T : Tables) (R : Reading) where
   -- the refusal of form q in a phase, at c: the lowest item at fault there
   abbrev pub faultRefusal : ℕ → ℕ → ℕ → Refusal
-  faultRefusal q phase c = refusal (faultNumber phase (query (T .queries) q)) q (lowestMember (faults T c phase q)) c
+  faultRefusal q phase c = refusal (faultNumber phase (query (T .queries) q)) q (lowestMember (faultsBy T R c phase q)) c
 
   -- one phase of form q: its lowest failing configuration
   abbrev pub phaseAt : ℕ → ℕ → Verdict
-  phaseAt q phase = refuseAt (faultRefusal q phase) (lowest (λ c. fails T c phase q) (configurations T))
+  phaseAt q phase = refuseAt (faultRefusal q phase) (lowest (λ c. failsBy T R c phase q) (configurations T))
 
   -- 15 to 19 of form q, and 25 only if they find nothing at any configuration
   abbrev pub typingAt : ℕ → Verdict
   typingAt q = firstFrom (phaseAt q) phases 0
 
-  -- 15 to 19 and 25: the lowest form that fails
+  -- 15 to 19 and 25, in the reading told: the lowest form that fails
   unfoldable pub typingCheck : Verdict
   typingCheck = firstFrom typingAt (queryCount T) 0
-
-  -- 12 to 14
-  abbrev pub modelAndSchemaCheck : Verdict
-  modelAndSchemaCheck = orElse modelCheck schemaCheck
 
 -- ---- the numbers of refusals
 

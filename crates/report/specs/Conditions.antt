@@ -10,10 +10,12 @@ use Rattle.sets.specs.Bits.{bit}
 use Rattle.report.specs.Tables.{Tables, shapeOf, shapes, words, entryAttribute, relationLength, relationStart, query}
 use Rattle.report.specs.Tables.{expressionCount, entryCount, relationCount, comparisonCount, queryCount}
 use Rattle.report.specs.Expressions.{configurations}
-use Rattle.report.specs.Typing.{phases, reached, faults}
+use Rattle.report.specs.Typing.{phases, reached}
+use Rattle.report.specs.Readings.{faultsBy}
 use Rattle.report.specs.Verdicts.{refusal, Condition, _gives_, each}
 use Rattle.report.specs.FormChecks.{lengthFits, expressionOk, entryOk, relationOk, comparisonOk, queryOk, kindOk, constantOk, takenBelow, listsEnd}
 use Rattle.report.specs.Checks.{faultNumber, somewhere, absentEverywhere, apartEverywhere}
+use Rattle.report.specs.declared.Reading.{Reading}
 
 module _ (T : Tables) where
   -- 1 to 10, then 24
@@ -44,10 +46,10 @@ module _ (T : Tables) where
   unfoldable pub schemaConditions : List Condition
   schemaConditions = (not (somewhere T (λ c. true)) gives refusal 12 0 0 0) ++ concat (relationCount T) relationConditions
 
-  -- 15 to 19 and 25: by form, then by phase, then by configuration, then by item
-  unfoldable pub typingConditions : List Condition
-  typingConditions =
-      concat (queryCount T)
-      (λ q. concat phases
-      (λ phase. concat (configurations T)
-      (λ c. each 64 (λ a. reached T c q && bit (faults T c phase q) a) (λ a. refusal (faultNumber phase (query (T .queries) q)) q a c))))
+-- 15 to 19 and 25, in the reading told: by form, then by phase, then by configuration, then by item
+unfoldable pub typingConditions : Tables → Reading → List Condition
+typingConditions T R =
+    concat (queryCount T)
+    (λ q. concat phases
+    (λ phase. concat (configurations T)
+    (λ c. each 64 (λ a. reached T c q && bit (faultsBy T R c phase q) a) (λ a. refusal (faultNumber phase (query (T .queries) q)) q a c))))

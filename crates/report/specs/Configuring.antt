@@ -1,20 +1,22 @@
--- docs/FORMAT.md, "Configuring": the tables that an accepted report becomes at a permitted configuration c.
+-- docs/FORMAT.md, "Configuring": the tables that an accepted report becomes at a permitted configuration c, in either reading.
 use Prim.Native.Nat.{ℕ, _+_}
-use mathlib.Core.Bool.{Bool, _&&_, not}
+use mathlib.Core.Bool.{Bool, true, cond, _&&_, not}
 use mathlib.Core.List.{List, [], _∷_, _++_}
 use lib.ListN.{length, drop}
 use lib.Dec.{eqb}
 use Rattle.sets.specs.Search.{someBelow, countBelow}
 use Rattle.sets.specs.Lists.{kept}
+use Rattle.sets.specs.Bits.{bit}
 use Rattle.report.specs.Values.{value}
 use Rattle.report.specs.Tables.{Tables, entryAttribute, relationLength, comparison, query}
 use Rattle.report.specs.Expressions.{tablesOf}
 use Rattle.report.specs.Tables.{relationCount, comparisonCount, queryCount, relationStart, projectLength, projectStart}
 use Rattle.report.specs.Operands.{comparisonOperands, queryOperands, isChoice}
-use Rattle.report.specs.Typing.{taken, reached, entryHolds, present}
+use Rattle.report.specs.Typing.{taken, reached, entryHolds, present, setOf}
 use Rattle.report.specs.declared.Comparison.{Comparison}
 use Rattle.report.specs.declared.Query.{Query}
 use Rattle.report.specs.declared.Operands.{Operands}
+use Rattle.report.specs.declared.Reading.{Reading}
 
 -- ---- the words of a plain form whose references have new numbers. A choice has none
 
@@ -41,6 +43,10 @@ queryWordsOf toRelation toComparison toQuery entries (Query.Choice e a b) = []
 queryWordsOf toRelation toComparison toQuery entries (Query.Product a b) = 5 ∷ toQuery a ∷ toQuery b ∷ 0 ∷ []
 queryWordsOf toRelation toComparison toQuery entries (Query.Union a b) = 6 ∷ toQuery a ∷ toQuery b ∷ 0 ∷ []
 queryWordsOf toRelation toComparison toQuery entries (Query.Intersection a b) = 7 ∷ toQuery a ∷ toQuery b ∷ 0 ∷ []
+
+-- all attributes of a list stay, as in that of a relation
+abbrev pub allStay : ℕ → Bool
+allStay a = true
 
 module _ (T : Tables) (c : ℕ) where
   -- ---- references: one to a choice becomes one to the form it leads to, through further choices
@@ -89,39 +95,77 @@ module _ (T : Tables) (c : ℕ) where
   entryKept start i =
       entryHolds T c (start + i) && not (someBelow (givesAttribute start (entryAttribute (T .entries) (start + i))) i)
 
-  abbrev pub keptLength : ℕ → ℕ → ℕ
-  keptLength start count = countBelow (entryKept start) count
+  -- and its attribute stays
+  abbrev pub entryStays : (ℕ → Bool) → ℕ → ℕ → Bool
+  entryStays stay start i = stay (entryAttribute (T .entries) (start + i)) && entryKept start i
 
-  abbrev pub keptList : ℕ → ℕ → List ℕ
-  keptList start count = kept (entryKept start) (λ i. entryAttribute (T .entries) (start + i) ∷ 0 ∷ []) count
+  abbrev pub keptLength : (ℕ → Bool) → ℕ → ℕ → ℕ
+  keptLength stay start count = countBelow (entryStays stay start) count
+
+  abbrev pub keptList : (ℕ → Bool) → ℕ → ℕ → List ℕ
+  keptList stay start count = kept (entryStays stay start) (λ i. entryAttribute (T .entries) (start + i) ∷ 0 ∷ []) count
 
   abbrev pub relationList : ℕ → List ℕ
-  relationList r = keptList (relationStart (T .relations) r) (relationLength (T .relations) r)
+  relationList r = keptList allStay (relationStart (T .relations) r) (relationLength (T .relations) r)
+
+  -- ---- the two readings (document 02, Wish 7)
+
+  -- which attributes stay in a project's list over operand b: in the filled reading those that the operand has
+  abbrev pub stayingOver : Reading → ℕ → ℕ → Bool
+  stayingOver Reading.Strict b = allStay
+  stayingOver Reading.Filled b = bit (setOf T c b)
+
+  abbrev pub staying : Reading → Query → ℕ → Bool
+  staying R Query.Malformed = allStay
+  staying R Query.Empty = allStay
+  staying R (Query.Relation a) = allStay
+  staying R (Query.Select a b) = allStay
+  staying R (Query.Project a b) = stayingOver R b
+  staying R (Query.Choice a b d) = allStay
+  staying R (Query.Product a b) = allStay
+  staying R (Query.Union a b) = allStay
+  staying R (Query.Intersection a b) = allStay
+
+  -- what a query form is written as: in the filled reading an absent relation as empty
+  abbrev pub relationAs : Reading → ℕ → Query
+  relationAs Reading.Strict a = Query.Relation a
+  relationAs Reading.Filled a = cond (present T c a) (Query.Relation a) Query.Empty
+
+  abbrev pub readAs : Reading → Query → Query
+  readAs R Query.Malformed = Query.Malformed
+  readAs R Query.Empty = Query.Empty
+  readAs R (Query.Relation a) = relationAs R a
+  readAs R (Query.Select a b) = Query.Select a b
+  readAs R (Query.Project a b) = Query.Project a b
+  readAs R (Query.Choice a b d) = Query.Choice a b d
+  readAs R (Query.Product a b) = Query.Product a b
+  readAs R (Query.Union a b) = Query.Union a b
+  readAs R (Query.Intersection a b) = Query.Intersection a b
 
   -- the list of query form q. One that is no project lists no entries
-  abbrev pub projectListOf : ℕ → Query → List ℕ
-  projectListOf q y = keptList (projectStart T q) (projectLength y)
+  abbrev pub projectListOf : Reading → ℕ → Query → List ℕ
+  projectListOf R q y = keptList (staying R y) (projectStart T q) (projectLength y)
 
   -- ---- forms
 
   abbrev pub relationForm : ℕ → List ℕ
-  relationForm r = 0 ∷ keptLength (relationStart (T .relations) r) (relationLength (T .relations) r) ∷ []
+  relationForm r = 0 ∷ keptLength allStay (relationStart (T .relations) r) (relationLength (T .relations) r) ∷ []
 
   abbrev pub comparisonFormOf : Comparison → List ℕ
   comparisonFormOf = comparisonWordsOf newComparison
 
-  abbrev pub queryFormOf : ℕ → Query → List ℕ
-  queryFormOf q = queryWordsOf newRelation newComparison newQuery (keptLength (projectStart T q))
+  abbrev pub queryFormOf : Reading → ℕ → Query → List ℕ
+  queryFormOf R q y = queryWordsOf newRelation newComparison newQuery (keptLength (staying R y) (projectStart T q)) (readAs R y)
 
   -- ---- the written tables: 0 features, the same attributes with their kinds, model 0, the one expression true
 
-  unfoldable pub configured : Tables
-  configured =
+  unfoldable pub configured : Reading → Tables
+  configured R =
       tablesOf 0 (T .attributes) 0 (1 ∷ 0 ∷ 0 ∷ [])
-      (kept (present T c) relationList (relationCount T) ++ kept queryKept (λ q. projectListOf q (query (T .queries) q)) (queryCount T))
+      (kept (present T c) relationList (relationCount T) ++ kept queryKept (λ q. projectListOf R q (query (T .queries) q)) (queryCount T))
       (kept (present T c) relationForm (relationCount T))
       (kept comparisonKept (λ f. comparisonFormOf (comparison (T .comparisons) f)) (comparisonCount T))
-      (kept queryKept (λ q. queryFormOf q (query (T .queries) q)) (queryCount T))
+      (kept queryKept (λ q. queryFormOf R q (query (T .queries) q)) (queryCount T))
       (T .kinds)
 
 -- a lent table with words written to it: those after them are unchanged

@@ -17,6 +17,7 @@ use Rattle.report.specs.TypingFaults.{Broken, NamedBy}
 use Rattle.report.specs.WrittenTables.{WrittenTyped}
 use Rattle.report.specs.declared.Refusal.{Refusal}
 use Rattle.report.specs.declared.Verdict.{Verdict}
+use Rattle.report.specs.declared.Reading.{Reading}
 
 -- ---- what theorems on a call ask of what it is given
 
@@ -30,20 +31,20 @@ EarlyFirst G = (r : Refusal) → firstOf (G .first) ≡ Verdict.Refused r → is
 
 -- ---- what they say
 
--- "first fault first", of any call
-pub record FirstFaultTo (G : Given) (call : Call) : Type 0 where
-  pub refuses : (r : Refusal) → (answerTo G call ≡ Verdict.Refused r) ↔ Foremost (conditionsTo G call) r
-  pub accepts : (answerTo G call ≡ Verdict.Accepted) ↔ NoneHolds (conditionsTo G call)
+-- "first fault first", of any call, in either reading
+pub record FirstFaultTo (G : Given) (R : Reading) (call : Call) : Type 0 where
+  pub refuses : (r : Refusal) → (answerTo G R call ≡ Verdict.Refused r) ↔ Foremost (conditionsTo G R call) r
+  pub accepts : (answerTo G R call ≡ Verdict.Accepted) ↔ NoneHolds (conditionsTo G R call)
 
 -- the typing rules hold at every permitted configuration: there are sets that keep them
 abbrev pub RulesThroughout : Tables → Type 0
 RulesThroughout T = (c : ℕ) → permitted T c ≡ true → (S : ℕ → ℕ) × Rules T c S
 
--- the configured report passes the plain rules at every permitted configuration
+-- the report configured strictly passes the plain rules at every permitted configuration
 abbrev pub PassesThroughout : Tables → Type 0
-PassesThroughout T = (c : ℕ) → permitted T c ≡ true → passes (kindOf T) (configuredSchema T c) (configuredReport T c) ≡ true
+PassesThroughout T = (c : ℕ) → permitted T c ≡ true → passes (kindOf T) (configuredSchema T c) (configuredReport T c Reading.Strict) ≡ true
 
--- demand 3: what an answer v to a call that got as far as typing says of the tables T
+-- demand 3: what an answer v, in the strict reading, to a call that got as far as typing says of the tables T
 pub record Demanded (T : Tables) (v : Verdict) : Type 0 where
   -- it refuses for a typing fault exactly when, at some permitted configuration, the configured report breaks a plain rule
   pub broken : (isTypingFault v ≡ true) ↔ Broken T
@@ -54,9 +55,9 @@ pub record Demanded (T : Tables) (v : Verdict) : Type 0 where
   -- its first sentence: where it accepts, the report passes at every permitted configuration, with the columns shown there
   pub passing : v ≡ Verdict.Accepted → PassesThroughout T
   pub showing : v ≡ Verdict.Accepted → (c : ℕ) → permitted T c ≡ true
-      → columns (configuredSchema T c) (configuredReport T c) ≡ shown (columnRows T) c
+      → columns (configuredSchema T c) (configuredReport T c Reading.Strict) ≡ shown (columnRows T) c
   -- and what configuring writes there
-  pub writing : v ≡ Verdict.Accepted → (c : ℕ) → permitted T c ≡ true → WrittenTyped T c
+  pub writing : v ≡ Verdict.Accepted → (c : ℕ) → permitted T c ≡ true → WrittenTyped T c Reading.Strict
 
 abbrev pub DemandsTo : Given → Call → Type 0
-DemandsTo G call = Demanded (G .tables) (answerTo G call)
+DemandsTo G call = Demanded (G .tables) (answerTo G Reading.Strict call)

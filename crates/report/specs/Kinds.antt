@@ -22,6 +22,7 @@ use Rattle.report.specs.declared.Comparison.{Comparison}
 use Rattle.report.specs.declared.Query.{Query}
 use Rattle.report.specs.declared.Refusal.{Refusal}
 use Rattle.report.specs.declared.Verdict.{Verdict}
+use Rattle.report.specs.declared.Reading.{Reading}
 
 -- ---- a comparison with a constant
 
@@ -83,7 +84,7 @@ module _ (T : Tables) where
 
   -- 15 to 19 alone
   unfoldable pub typingCheckBefore : Verdict
-  typingCheckBefore = firstFrom (λ q. phaseAt T q 0) (queryCount T) 0
+  typingCheckBefore = firstFrom (λ q. phaseAt T Reading.Strict q 0) (queryCount T) 0
 
   -- an answer without 24 and 25, after these checks of the tables
   abbrev pub answerWithout : Verdict → Call → Verdict

@@ -10,6 +10,7 @@ use Rattle.report.specs.Calls.{answer, checking}
 use Rattle.report.specs.Text.{bytes, spaced, bracket, line}
 use Rattle.report.specs.HarbourFile.{File, fileOf}
 use Rattle.report.specs.declared.Verdict.{Verdict}
+use Rattle.report.specs.declared.Reading.{Reading}
 
 -- the members of a set of attributes, ascending
 abbrev pub members : ℕ → List ℕ
@@ -27,7 +28,7 @@ printAnswer T (Verdict.Refused r) = line (bytes "refused") (r .number ∷ r .pla
 
 abbrev pub printFile : File → List ℕ
 printFile (File.unread n) = line (bytes "unread") (n ∷ [])
-printFile (File.holds T) = printAnswer T (answer T (checking 1024))
+printFile (File.holds T) = printAnswer T (answer T Reading.Strict (checking 1024))
 
 -- what the program prints for a text
 unfoldable pub print : List ℕ → List ℕ

@@ -11,6 +11,7 @@ use Rattle.report.specs.Tables.{Tables, entryAttribute, relationLength, 
 use Rattle.report.specs.Expressions.{tablesOf}
 use Rattle.report.specs.Tables.{expressionCount, entryCount, relationCount, queryCount, relationStart, projectLength, projectStart}
 use Rattle.report.specs.Typing.{entryHolds, present}
+use Rattle.report.specs.declared.Reading.{Reading}
 use Rattle.report.specs.Configuring.{queryWordsOf, queryKept, newRelation, newComparison, newQuery, configured}
 use Rattle.report.specs.FormChecks.{listFits, relationOk, queryOk, listsEnd, headCheck, lengthsCheck, expressionsCheck, modelFormCheck}
 use Rattle.report.specs.FormChecks.{entriesCheck, comparisonsCheck, untakenCheck, leftEntryCheck, kindsCheck}
@@ -62,7 +63,7 @@ module _ (T : Tables) where
   unfoldable pub answerBefore : Call → Verdict
   answerBefore call =
       orElse (orElse (orElse (tablesCheckWith relationsCheckBefore (comparisonsCheck (T .attributes) (expressionCount T) (T .comparisons)) queriesCheckBefore) (kindsCheck (T .attributes) (T .kinds) (T .comparisons))) (orElse (firstOf (call .beforeModel T)) (modelAndSchemaCheck T)))
-      (orElse (typingCheck T) (firstOf (call .afterTyping T)))
+      (orElse (typingCheck T Reading.Strict) (firstOf (call .afterTyping T)))
 
 module _ (T : Tables) (c : ℕ) where
   -- what was kept of a list: every entry that holds
@@ -82,7 +83,7 @@ module _ (T : Tables) (c : ℕ) where
       (kept (present T c) (λ r. heldList (relationStart (T .relations) r) (relationLength (T .relations) r)) (relationCount T)
       ++ kept (queryKept T c) (λ q. heldList (projectStart T q) (projectLength (query (T .queries) q))) (queryCount T))
       (kept (present T c) (λ r. 0 ∷ heldLength (relationStart (T .relations) r) (relationLength (T .relations) r) ∷ []) (relationCount T))
-      (configured T c .comparisons)
+      (configured T c Reading.Strict .comparisons)
       (kept (queryKept T c)
       (λ q. queryWordsOf (newRelation T c) (newComparison T c) (newQuery T c) (heldLength (projectStart T q)) (query (T .queries) q)) (queryCount T))
       (T .kinds)

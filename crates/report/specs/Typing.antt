@@ -123,9 +123,9 @@ module _ (T : Tables) (c : ℕ) where
 
   -- ---- the set of a query form
 
-  -- The typing rules give one only where they are kept; there this is that set (proofs/SetLaws). Elsewhere, where
-  -- no answer shows it, an absent relation has no attributes, a project those of its list that its operand has, a union or intersection
-  -- those of its left operand
+  -- The typing rules give one only where they are kept; there this is that set (proofs/SetLaws). Elsewhere the strict reading
+  -- shows none; the filled one has these for a relation and a project: an absent relation has no attributes, a project those of its list that its
+  -- operand has; a union or intersection has those of its left operand
   abbrev pub setRule : (ℕ → ℕ) → ℕ → Query → ℕ
   setRule set q Query.Malformed = 0
   setRule set q Query.Empty = 0

@@ -75,6 +75,13 @@ pub enum Sides {
     Neither,
 }
 
+// How a report is read. Strict: a relation that is absent, or a projected attribute that the operand lacks, is a fault wherever it is reached. Filled: the
+// relation counts as empty there, and the attribute is dropped.
+pub enum Reading {
+    Strict,
+    Filled,
+}
+
 // The limits of tables (docs/FORMAT.md, "Tables"); those of features and attributes stand with `AttributeSet`. SMALL is ours, a matter of time alone.
 pub struct Limits {}
 

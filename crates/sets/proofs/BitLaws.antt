@@ -17,7 +17,7 @@ use borrow.Author.Tests.{lt-ltb, le-ltb, le-leb, leb-true, eq-eqb, ne-eqb}
 use Rattle.sets.specs.declared.Found.{Found}
 use Rattle.sets.specs.Search.{lowest, someBelow, countBelow, foundOr0, First}
 use Rattle.sets.specs.Bits.{bit, digit, bitsOf, difference, subset, lowestMember}
-use Rattle.sets.proofs.SearchLaws.{nothing-lowest, at-lowest, some-at, at-some, count-head, count-same, count-besides}
+use Rattle.sets.proofs.SearchLaws.{nothing-lowest, at-lowest, some-at, at-some, count-head, count-same}
 
 -- ---- one digit
 
@@ -175,6 +175,12 @@ bit-difference a b i = bit-xor a (bitAnd a b) i ∙ ap (xor (bit a i)) (bit-and 
     less true false = unfold xor in refl
     less false q = unfold xor in refl
 
+pub difference-none : (a : ℕ) → difference a 0 ≡ a
+difference-none a = bits-equal (difference a 0) a (λ i. bit-difference a 0 i ∙ ap (λ (t : Bool). bit a i && not t) (bit-none i) ∙ and-true (bit a i))
+
+pub none-difference : (b : ℕ) → difference 0 b ≡ 0
+none-difference b = bits-equal (difference 0 b) 0 (λ i. bit-difference 0 b i ∙ ap (λ (t : Bool). t && not (bit b i)) (bit-none i) ∙ sym (bit-none i))
+
 pub difference-lt : (k a b : ℕ) → a < 2 ^ k → difference a b < 2 ^ k
 difference-lt k a b h = xor-lt k a (bitAnd a b) h (lt-of-le-of-lt (and-le-l a b) h)
 
@@ -241,19 +247,13 @@ or-assoc a b c =
     (λ i. bit-or (bitOr a b) c i ∙ ap (λ (t : Bool). t || bit c i) (bit-or a b i) ∙ or-assoc-bool (bit a i) (bit b i) (bit c i)
     ∙ ap (λ (t : Bool). bit a i || t) (sym (bit-or b c i)) ∙ sym (bit-or a (bitOr b c) i))
 
--- a set with attribute a: if a is in it, the set itself; if not, it has one member more
+-- a set with an attribute that is in it is the set itself
 pub or-member : (x a : ℕ) → bit x a ≡ true → bitOr x (2 ^ a) ≡ x
 or-member x a e = bits-equal (bitOr x (2 ^ a)) x (λ i. bit-or x (2 ^ a) i ∙ ap (λ (t : Bool). bit x i || t) (bit-pow a i) ∙ go i (ℕ-discrete i a))
   where
     go : (i : ℕ) → Dec (i ≡ a) → (bit x i || eqb i a) ≡ bit x i
     go i (yes s) = rw (s, e) refl
     go i (no s) = rw (ne-eqb i a s) (or-false (bit x i))
-
-pub or-count : (k x a : ℕ) → a < k → bit x a ≡ false → countBelow (bit (bitOr x (2 ^ a))) k ≡ suc (countBelow (bit x) k)
-or-count k x a h e =
-    count-besides (bit x) (bit (bitOr x (2 ^ a))) a k h e
-    (bit-or x (2 ^ a) a ∙ ap₂ _||_ e (bit-pow a a ∙ eq-eqb a a refl))
-    (λ i s. bit-or x (2 ^ a) i ∙ ap (λ (t : Bool). bit x i || t) (bit-pow a i ∙ ne-eqb i a s) ∙ or-false (bit x i))
 
 -- sets are equal exactly where their symmetric difference is empty
 pub xor-same : (x y : ℕ) → bitXor x y ≡ 0 → x ≡ y

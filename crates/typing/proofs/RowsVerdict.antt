@@ -13,11 +13,12 @@ use Rattle.sets.proofs.SearchLaws.{lowest-nothing, lowest-at, some-none, some-a
 use Rattle.sets.proofs.RowLaws.{empty-rowOf, lowest-rowOf}
 use Rattle.report.specs.Tables.{Tables, queryCount}
 use Rattle.report.specs.Expressions.{configurations, permitted}
-use Rattle.report.specs.Typing.{fails}
+use Rattle.report.specs.Readings.{failsBy}
 use Rattle.report.specs.Checks.{faultRefusal, typingCheck}
 use Rattle.report.specs.Formed.{Formed}
 use Rattle.report.specs.TypingFaults.{TypingFault}
 use Rattle.report.specs.declared.Verdict.{Verdict}
+use Rattle.report.specs.declared.Reading.{Reading}
 use Rattle.report.proofs.TypingLaws.{fails-permitted, typing-accepted, typing-refused}
 use Rattle.fault_rows.specs.FaultRows.{failsAt, failingRow}
 use Rattle.typing_at.specs.TypingAt.{typingHere}
@@ -25,67 +26,67 @@ use Rattle.typing_at.proofs.AnswerLaws.{fault-here}
 use Rattle.typing.specs.Typed.{rowed}
 
 -- Form q fails at c in this phase, at no configuration in an earlier one, and at none lower in this
-record Failing (T : Tables) (q c : ℕ) : Type 0 where
+record Failing (T : Tables) (R : Reading) (q c : ℕ) : Type 0 where
   phase : ℕ
   isPhase : phase < 2
-  lowest-in : First (λ d. fails T d phase q) 1024 c
-  earlier : (p d : ℕ) → p < phase → d < configurations T → fails T d p q ≡ false
+  lowest-in : First (λ d. failsBy T R d phase q) 1024 c
+  earlier : (p d : ℕ) → p < phase → d < configurations T → failsBy T R d p q ≡ false
 
-module _ (T : Tables) (q : ℕ) where
+module _ (T : Tables) (R : Reading) (q : ℕ) where
   -- a form that fails at no configuration in its first phase that fails at any, fails in none
-  none-fails : someBelow (failsAt T q) 1024 ≡ false → configurations T ≤ 1024 → (phase c : ℕ) → phase < 2 → c < configurations T
-      → fails T c phase q ≡ false
-  none-fails e few = go (someBelow (λ d. fails T d 0 q) (configurations T)) refl
+  none-fails : someBelow (failsAt T R q) 1024 ≡ false → configurations T ≤ 1024 → (phase c : ℕ) → phase < 2 → c < configurations T
+      → failsBy T R c phase q ≡ false
+  none-fails e few = go (someBelow (λ d. failsBy T R d 0 q) (configurations T)) refl
     where
-      go : (t : Bool) → someBelow (λ d. fails T d 0 q) (configurations T) ≡ t → (phase c : ℕ) → phase < 2 → c < configurations T
-          → fails T c phase q ≡ false
+      go : (t : Bool) → someBelow (λ d. failsBy T R d 0 q) (configurations T) ≡ t → (phase c : ℕ) → phase < 2 → c < configurations T
+          → failsBy T R c phase q ≡ false
       go true s phase c n h =
-          let f = some-at (λ d. fails T d 0 q) (configurations T) s in
+          let f = some-at (λ d. failsBy T R d 0 q) (configurations T) s in
           absurd
           (false≢true
-          (sym (some-none (failsAt T q) 1024 e (f .0) (omega (arith, f .1)))
-          ∙ ap (λ (t : Bool). cond t (fails T (f .0) 0 q) (fails T (f .0) 1 q)) s ∙ f .2))
-      go false s zero c n h = some-none (λ d. fails T d 0 q) (configurations T) s c h
+          (sym (some-none (failsAt T R q) 1024 e (f .0) (omega (arith, f .1)))
+          ∙ ap (λ (t : Bool). cond t (failsBy T R (f .0) 0 q) (failsBy T R (f .0) 1 q)) s ∙ f .2))
+      go false s zero c n h = some-none (λ d. failsBy T R d 0 q) (configurations T) s c h
       go false s (suc zero) c n h =
-          sym (ap (λ (t : Bool). cond t (fails T c 0 q) (fails T c 1 q)) s) ∙ some-none (failsAt T q) 1024 e c (omega arith)
+          sym (ap (λ (t : Bool). cond t (failsBy T R c 0 q) (failsBy T R c 1 q)) s) ∙ some-none (failsAt T R q) 1024 e c (omega arith)
       go false s (suc (suc phase)) c n h = absurd (omega arith)
 
   -- where it fails at some, the lowest is that of one phase
-  some-fails : {c : ℕ} → First (failsAt T q) 1024 c → Failing T q c
-  some-fails {c} f = go (someBelow (λ d. fails T d 0 q) (configurations T)) refl
+  some-fails : {c : ℕ} → First (failsAt T R q) 1024 c → Failing T R q c
+  some-fails {c} f = go (someBelow (λ d. failsBy T R d 0 q) (configurations T)) refl
     where
-      here : (phase : ℕ) → ((d : ℕ) → failsAt T q d ≡ fails T d phase q) → First (λ d. fails T d phase q) 1024 c
+      here : (phase : ℕ) → ((d : ℕ) → failsAt T R q d ≡ failsBy T R d phase q) → First (λ d. failsBy T R d phase q) 1024 c
       here phase same = record { below = f .below; holds = sym (same c) ∙ f .holds; before = λ d l. sym (same d) ∙ f .before d l }
 
-      go : (t : Bool) → someBelow (λ d. fails T d 0 q) (configurations T) ≡ t → Failing T q c
+      go : (t : Bool) → someBelow (λ d. failsBy T R d 0 q) (configurations T) ≡ t → Failing T R q c
       go true s = record {
         phase = 0;
         isPhase = omega arith;
-        lowest-in = here 0 (λ d. ap (λ (t : Bool). cond t (fails T d 0 q) (fails T d 1 q)) s);
+        lowest-in = here 0 (λ d. ap (λ (t : Bool). cond t (failsBy T R d 0 q) (failsBy T R d 1 q)) s);
         earlier = λ p d n. absurd (omega arith);
       }
       go false s = record {
         phase = 1;
         isPhase = omega arith;
-        lowest-in = here 1 (λ d. ap (λ (t : Bool). cond t (fails T d 0 q) (fails T d 1 q)) s);
-        earlier = λ p d n h. ap (λ (i : ℕ). fails T d i q) (omega arith) ∙ some-none (λ d. fails T d 0 q) (configurations T) s d h;
+        lowest-in = here 1 (λ d. ap (λ (t : Bool). cond t (failsBy T R d 0 q) (failsBy T R d 1 q)) s);
+        earlier = λ p d n h. ap (λ (i : ℕ). failsBy T R d i q) (omega arith) ∙ some-none (λ d. failsBy T R d 0 q) (configurations T) s d h;
       }
 
-module _ {T : Tables} (F : Formed T) {rows : List ℕ} (R : RowsAre 16 (queryCount T) (failingRow T) rows) where
+module _ {T : Tables} (F : Formed T) (R : Reading) {rows : List ℕ} (A : RowsAre 16 (queryCount T) (failingRow T R) rows) where
   -- a row is not empty where its form fails at some configuration
-  rowed-fails : (q : ℕ) → q < queryCount T → rowed rows q ≡ someBelow (failsAt T q) 1024
+  rowed-fails : (q : ℕ) → q < queryCount T → rowed rows q ≡ someBelow (failsAt T R q) 1024
   rowed-fails q h =
-      ap (λ (r : List ℕ). not (rowIsEmpty 16 r)) (R .each q h) ∙ ap not (empty-rowOf 16 (failsAt T q))
-      ∙ Bool·not-not (someBelow (failsAt T q) 1024)
+      ap (λ (r : List ℕ). not (rowIsEmpty 16 r)) (A .each q h) ∙ ap not (empty-rowOf 16 (failsAt T R q))
+      ∙ Bool·not-not (someBelow (failsAt T R q) 1024)
 
   -- a form whose row is empty fails at none
-  empty-keeps : (q phase c : ℕ) → q < queryCount T → rowed rows q ≡ false → phase < 2 → c < configurations T → fails T c phase q ≡ false
-  empty-keeps q phase c h e = none-fails T q (sym (rowed-fails q h) ∙ e) (pow-mono {j = 10} (F .few)) phase c
+  empty-keeps : (q phase c : ℕ) → q < queryCount T → rowed rows q ≡ false → phase < 2 → c < configurations T → failsBy T R c phase q ≡ false
+  empty-keeps q phase c h e = none-fails T R q (sym (rowed-fails q h) ∙ e) (pow-mono {j = 10} (F .few)) phase c
 
   -- where every row is empty the check accepts
-  pub rows-accepted : lowest (rowed rows) (queryCount T) ≡ Found.Nothing → typingCheck T ≡ Verdict.Accepted
+  pub rows-accepted : lowest (rowed rows) (queryCount T) ≡ Found.Nothing → typingCheck T R ≡ Verdict.Accepted
   rows-accepted e =
-      typing-accepted T .1 (λ c q phase l h n. empty-keeps q phase c h (lowest-nothing (rowed rows) (queryCount T) e q h) n l)
+      typing-accepted T R .1 (λ c q phase l h n. empty-keeps q phase c h (lowest-nothing (rowed rows) (queryCount T) e q h) n l)
 
   module _ {q : ℕ} (e : lowest (rowed rows) (queryCount T) ≡ Found.At q) where
     lowest-form : First (rowed rows) (queryCount T) q
@@ -95,8 +96,8 @@ module _ {T : Tables} (F : Formed T) {rows : List ℕ} (R : RowsAre 16 (queryCou
     form-in = lowest-form .below
 
     -- the configurations of the lowest row that is not empty are those at which its form fails
-    row-lowest : rowLowest 16 (rowIn 16 rows q) ≡ lowest (failsAt T q) 1024
-    row-lowest = ap (rowLowest 16) (R .each q form-in) ∙ lowest-rowOf 16 (failsAt T q)
+    row-lowest : rowLowest 16 (rowIn 16 rows q) ≡ lowest (failsAt T R q) 1024
+    row-lowest = ap (rowLowest 16) (A .each q form-in) ∙ lowest-rowOf 16 (failsAt T R q)
 
     -- it has a lowest configuration
     pub row-some : rowLowest 16 (rowIn 16 rows q) ≡ Found.Nothing → ⊥
@@ -106,14 +107,14 @@ module _ {T : Tables} (F : Formed T) {rows : List ℕ} (R : RowsAre 16 (queryCou
         omega arith
 
     module _ {c : ℕ} (f : rowLowest 16 (rowIn 16 rows q) ≡ Found.At c) where
-      failing : Failing T q c
-      failing = some-fails T q (lowest-at (failsAt T q) 1024 c (sym row-lowest ∙ f))
+      failing : Failing T R q c
+      failing = some-fails T R q (lowest-at (failsAt T R q) 1024 c (sym row-lowest ∙ f))
 
       pub configuration-permitted : permitted T c ≡ true
-      configuration-permitted = fails-permitted T c (failing .phase) q (failing .lowest-in .holds)
+      configuration-permitted = fails-permitted T R c (failing .phase) q (failing .lowest-in .holds)
 
       -- this form and this configuration are those that the check names
-      rows-fault : TypingFault T (faultRefusal T q (failing .phase) c)
+      rows-fault : TypingFault T R (faultRefusal T R q (failing .phase) c)
       rows-fault = record {
         inside = form-in;
         permits = configuration-permitted;
@@ -128,5 +129,5 @@ module _ {T : Tables} (F : Formed T) {rows : List ℕ} (R : RowsAre 16 (queryCou
       }
 
       -- so its answer is that at this configuration
-      pub rows-refused : typingHere T c ≡ typingCheck T
-      rows-refused = fault-here rows-fault ∙ sym (typing-refused T (faultRefusal T q (failing .phase) c) .1 rows-fault)
+      pub rows-refused : typingHere T R c ≡ typingCheck T R
+      rows-refused = fault-here rows-fault ∙ sym (typing-refused T R (faultRefusal T R q (failing .phase) c) .1 rows-fault)

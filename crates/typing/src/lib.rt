@@ -21,6 +21,7 @@ ghost use Rattle.sets.specs.Lists.{concat};
 ghost use Rattle.report.specs.Tables.{Tables, queryCount};
 ghost use Rattle.report.specs.Configuring.{written};
 ghost use Rattle.report.specs.Checks.{typingCheck};
+ghost use Rattle.report.specs.declared.Reading.{Reading};
 ghost use Rattle.expression_rows.specs.TypingReads.{TypingReads, TypingReadable, Checked};
 ghost use Rattle.fault_rows.specs.FaultRows.{failingRow};
 ghost use Rattle.typing.specs.Typed.{rowed, RowsReads, RowsReadable, SecondReads, SecondReadable};
@@ -52,15 +53,17 @@ fn check_rows(
     queries: &[u16],
     kinds: &[u16],
     reach: &[u64],
+    spared_sets: &[u64],
     fault_rows: &[u64],
 ) -> Verdict
     requires { ⌜ RowsReadable (now «expression_rows») (now «relation_entries») (now «project_entries») (now relations) (now comparisons) (now queries)
-        (now kinds) (now reach) (now «fault_rows») ⌝ }
+        (now kinds) (now reach) (now «spared_sets») (now «fault_rows») ⌝ }
     ensures { λ v.
-        ⌜ ((T : Tables)
-        → RowsReads T (now («expression_rows» .entry)) (now («relation_entries» .entry)) (now («project_entries» .entry)) (now (relations .entry))
-        (now (comparisons .entry)) (now (queries .entry)) (now (kinds .entry)) (now (reach .entry)) (now («fault_rows» .entry))
-        → v ≡ typingCheck T) ⌝ }
+        ⌜ ((T : Tables) (R : Reading)
+        → RowsReads T R (now («expression_rows» .entry)) (now («relation_entries» .entry)) (now («project_entries» .entry)) (now (relations .entry))
+        (now (comparisons .entry)) (now (queries .entry)) (now (kinds .entry)) (now (reach .entry)) (now («spared_sets» .entry))
+        (now («fault_rows» .entry))
+        → v ≡ typingCheck T R) ⌝ }
 {
     let form = lowest_row(queries.len() / 4, fault_rows);
     let Found::At(q) = form else {
@@ -80,6 +83,7 @@ fn check_rows(
         queries,
         kinds,
         reach,
+        spared_sets,
     );
     here.verdict
 }
@@ -97,10 +101,10 @@ fn add_second_phase(
 )
     requires { ⌜ SecondReadable (full .words) (now «expression_rows») (now comparisons) (now queries) (now kinds) (now reach) (now «fault_rows») ⌝ }
     ensures { λ _.
-        ⌜ ((T : Tables)
-        → SecondReads T (full .words) (now («expression_rows» .entry)) (now (comparisons .entry)) (now (queries .entry)) (now (kinds .entry))
+        ⌜ ((T : Tables) (R : Reading)
+        → SecondReads T R (full .words) (now («expression_rows» .entry)) (now (comparisons .entry)) (now (queries .entry)) (now (kinds .entry))
         (now (reach .entry)) (now («fault_rows» .entry))
-        → now («fault_rows» .exit) ≡ written (concat (queryCount T) (failingRow T)) (now («fault_rows» .entry))) ⌝ }
+        → now («fault_rows» .exit) ≡ written (concat (queryCount T) (failingRow T R)) (now («fault_rows» .entry))) ⌝ }
 {
     let mut clash_rows = [0; Limits::MOST_COMPARISONS * Row::WORDS];
     // a row of clashes is not of one attribute: 0 stands for any
@@ -135,9 +139,10 @@ fn check_by_rows(
         ⌜ ((T : Tables)
         → TypingReads T scope (now («expression_rows» .entry)) (now («relation_entries» .entry)) (now («project_entries» .entry))
         (now (relations .entry)) (now (comparisons .entry)) (now (queries .entry)) (now (kinds .entry)) (now (reach .entry))
-        → Checked T v (now (columns .exit))) ⌝ }
+        → Checked T (scope .reading) v (now (columns .exit))) ⌝ }
 {
     let mut fault_rows = [0; Limits::MOST_QUERIES * Row::WORDS];
+    let mut spared_sets = [0; Limits::MOST_QUERIES];
     fill_faults(
         scope,
         expression_rows,
@@ -149,6 +154,7 @@ fn check_by_rows(
         kinds,
         reach,
         &mut fault_rows,
+        &mut spared_sets,
         columns,
     );
     add_second_phase(
@@ -169,6 +175,7 @@ fn check_by_rows(
         queries,
         kinds,
         reach,
+        &spared_sets,
         &fault_rows,
     )
 }
@@ -193,7 +200,7 @@ pub fn check_typing(
         ⌜ ((T : Tables)
         → TypingReads T scope (now («expression_rows» .entry)) (now («relation_entries» .entry)) (now («project_entries» .entry))
         (now (relations .entry)) (now (comparisons .entry)) (now (queries .entry)) (now (kinds .entry)) (now (reach .entry))
-        → Checked T v (now (columns .exit))) ⌝ }
+        → Checked T (scope .reading) v (now (columns .exit))) ⌝ }
 {
     if scope.permitted.count() <= FEW {
         return check_each(

@@ -3,21 +3,23 @@ use Prim.Native.Nat.{ℕ, _<_, _≤_}
 use mathlib.Core.Path.{_≡_}
 use mathlib.Core.List.{List}
 use lib.ListN.{length}
-use Rattle.sets.specs.Lists.{table}
+use Rattle.sets.specs.Lists.{table, NumbersAre}
 use Rattle.report.specs.Tables.{Tables, comparisonCount, queryCount, report}
 use Rattle.report.specs.Expressions.{configurations}
-use Rattle.report.specs.Typing.{phases, names, clashes, fails, setOf}
+use Rattle.report.specs.Typing.{phases, names, clashes, setOf}
+use Rattle.report.specs.Readings.{spared, failsBy}
 use Rattle.report.specs.Configuring.{written}
 use Rattle.report.specs.Verdicts.{refuseIf, firstFrom}
 use Rattle.report.specs.Checks.{faultRefusal}
 use Rattle.report.specs.declared.Verdict.{Verdict}
+use Rattle.report.specs.declared.Reading.{Reading}
 use Rattle.expression_rows.specs.TypingReads.{ReportReads}
 use Rattle.typing_at.specs.declared.Here.{Here}
 
-module _ (T : Tables) (c : ℕ) where
+module _ (T : Tables) (R : Reading) (c : ℕ) where
   -- one phase of form q at c alone
   abbrev pub phaseHere : ℕ → ℕ → Verdict
-  phaseHere q phase = refuseIf (fails T c phase q) (faultRefusal T q phase c)
+  phaseHere q phase = refuseIf (failsBy T R c phase q) (faultRefusal T R q phase c)
 
   -- 15 to 19 of form q at c alone, and 25 only if they find nothing there
   abbrev pub formHere : ℕ → Verdict
@@ -29,20 +31,22 @@ module _ (T : Tables) (c : ℕ) where
 
 -- ---- what the typing check reads and answers at configuration c alone
 
--- the prepared tables, the kind table and the reach rows
-pub record HereReads (T : Tables) (c : ℕ)
-    (expressionRows relationEntries projectEntries relations comparisons queries kinds reach : List ℕ) : Type 0 where
+-- the prepared tables, the kind table, the reach rows, and what the reading does not hold against each form
+pub record HereReads (T : Tables) (R : Reading) (c : ℕ)
+    (expressionRows relationEntries projectEntries relations comparisons queries kinds reach sparedSets : List ℕ) : Type 0 where
   pub inside : c < configurations T
   pub report : ReportReads T expressionRows relationEntries projectEntries relations comparisons queries kinds reach
+  pub sparing : NumbersAre (queryCount T) (spared T R) sparedSets
 
--- there are such tables
-pub record HereReadable (c : ℕ) (expressionRows relationEntries projectEntries relations comparisons queries kinds reach : List ℕ) : Type 0 where
+-- there are such tables, and such a reading
+pub record HereReadable (c : ℕ) (expressionRows relationEntries projectEntries relations comparisons queries kinds reach sparedSets : List ℕ) : Type 0 where
   pub tables : Tables
-  pub reads : HereReads tables c expressionRows relationEntries projectEntries relations comparisons queries kinds reach
+  pub reading : Reading
+  pub reads : HereReads tables reading c expressionRows relationEntries projectEntries relations comparisons queries kinds reach sparedSets
 
 -- the answer there, and the report's set
-pub record HereChecked (T : Tables) (c : ℕ) (here : Here) : Type 0 where
-  pub answers : here .verdict ≡ typingHere T c
+pub record HereChecked (T : Tables) (R : Reading) (c : ℕ) (here : Here) : Type 0 where
+  pub answers : here .verdict ≡ typingHere T R c
   pub shows : here .set .bits ≡ setOf T c (report T)
 
 -- ---- with words lent for the sets
@@ -55,14 +59,14 @@ pub record SetsLent (T : Tables) (namedSets clashSets formSets : List ℕ) : Typ
 
 -- there are such tables, and words are lent for the sets
 pub record HereFillable (c : ℕ)
-    (expressionRows relationEntries projectEntries relations comparisons queries kinds reach namedSets clashSets formSets : List ℕ) : Type 0 where
-  pub readable : HereReadable c expressionRows relationEntries projectEntries relations comparisons queries kinds reach
+    (expressionRows relationEntries projectEntries relations comparisons queries kinds reach sparedSets namedSets clashSets formSets : List ℕ) : Type 0 where
+  pub readable : HereReadable c expressionRows relationEntries projectEntries relations comparisons queries kinds reach sparedSets
   pub lent : SetsLent (readable .tables) namedSets clashSets formSets
 
 -- the answer, and in these words afterwards the sets at c: what each comparison names, the left attributes that it compares with another kind, and the set of
 -- each query form; the words after them stay
-pub record HereFilled (T : Tables) (c : ℕ) (here : Here) (namedSets clashSets formSets namedSets′ clashSets′ formSets′ : List ℕ) : Type 0 where
-  pub checked : HereChecked T c here
+pub record HereFilled (T : Tables) (R : Reading) (c : ℕ) (here : Here) (namedSets clashSets formSets namedSets′ clashSets′ formSets′ : List ℕ) : Type 0 where
+  pub checked : HereChecked T R c here
   pub compared : namedSets′ ≡ written (table (comparisonCount T) (names T c)) namedSets
   pub clashed : clashSets′ ≡ written (table (comparisonCount T) (clashes T c)) clashSets
   pub formed : formSets′ ≡ written (table (queryCount T) (setOf T c)) formSets

@@ -1,13 +1,13 @@
-// Checks 15 to 19 and 25 at one configuration: the sets of all forms are worked out first, and then each form's faults from them.
+// Checks 15 to 19 and 25 at one configuration, in either reading: the sets of all forms are worked out first, and then each form's faults from them, less
+// what the reading does not hold against it (`spared_sets`).
 use at_configuration::holds_at;
 use comparisons::Gathered;
 use decoders::decode_query;
 use decoders::project_length;
 use faults_at::clashes_in;
 use faults_at::faults_of;
+use faults_at::fill_form_sets;
 use faults_at::fill_gathered;
-use faults_at::fill_relation_sets;
-use faults_at::fill_sets;
 use report::Limits;
 use report::Query;
 use report::Verdict;
@@ -20,8 +20,9 @@ ghost use Rattle.report.specs.Tables.{Tables, queryCount};
 ghost use Rattle.report.specs.Typing.{setOf};
 ghost use Rattle.report.specs.Configuring.{written};
 ghost use Rattle.report.specs.Checks.{ruleNumber};
+ghost use Rattle.report.specs.declared.Reading.{Reading};
 ghost use Rattle.typing_at.specs.TypingAt.{formHere, typingHere, HereReads, HereReadable, HereChecked, HereFillable, HereFilled};
-ghost use Rattle.typing_at.specs.Here.{FormHereReads, FormHereReadable, FormsHereReads, FormsHereReadable, FormSetsReads, FormSetsReadable};
+ghost use Rattle.typing_at.specs.Here.{FormHereReads, FormHereReadable, FormsHereReads, FormsHereReadable};
 
 // The number of a query form's rule, the first that is looked for.
 fn rule_number(x: Query) -> u64
@@ -40,7 +41,7 @@ fn rule_number(x: Query) -> u64
     }
 }
 
-// Both phases of form q, which is x, at c; a project's list starts at `start`.
+// Both phases of form q, which is x, at c, the first without the items that the reading does not hold against it; a project's list starts at `start`.
 fn form_here(
     x: Query,
     q: usize,
@@ -50,17 +51,18 @@ fn form_here(
     project_entries: &[u16],
     relations: &[u16],
     reach: &[u64],
+    spared_sets: &[u64],
     named_sets: &[u64],
     clash_sets: &[u64],
     form_sets: &[u64],
 ) -> Verdict
-    requires { ⌜ FormHereReadable q (now «expression_rows») (now «project_entries») (now relations) (now reach) c (now «named_sets»)
-        (now «clash_sets») (now «form_sets») start x ⌝ }
+    requires { ⌜ FormHereReadable q (now «expression_rows») (now «project_entries») (now relations) (now reach) (now «spared_sets») c
+        (now «named_sets») (now «clash_sets») (now «form_sets») start x ⌝ }
     ensures { λ v.
-        ⌜ ((T : Tables)
-        → FormHereReads T q (now («expression_rows» .entry)) (now («project_entries» .entry)) (now (relations .entry)) (now (reach .entry)) c
-        (now («named_sets» .entry)) (now («clash_sets» .entry)) (now («form_sets» .entry)) start x
-        → v ≡ formHere T c q) ⌝ }
+        ⌜ ((T : Tables) (R : Reading)
+        → FormHereReads T R q (now («expression_rows» .entry)) (now («project_entries» .entry)) (now (relations .entry)) (now (reach .entry))
+        (now («spared_sets» .entry)) c (now («named_sets» .entry)) (now («clash_sets» .entry)) (now («form_sets» .entry)) start x
+        → v ≡ formHere T R c q) ⌝ }
 {
     if !holds_at(reach, q, c) {
         return Verdict::Accepted;
@@ -75,7 +77,8 @@ fn form_here(
         named_sets,
         form_sets,
     );
-    let rule = refuse_items(rule_number(x), q, broken, c);
+    let spared = AttributeSet::of_bits(spared_sets[q]);
+    let rule = refuse_items(rule_number(x), q, broken.minus(spared), c);
     let kinds = refuse_items(25, q, clashes_in(x, clash_sets), c);
     or_else(rule, kinds)
 }
@@ -88,17 +91,18 @@ fn forms_here(
     relations: &[u16],
     queries: &[u16],
     reach: &[u64],
+    spared_sets: &[u64],
     named_sets: &[u64],
     clash_sets: &[u64],
     form_sets: &[u64],
 ) -> Verdict
-    requires { ⌜ FormsHereReadable (now «expression_rows») (now «project_entries») (now relations) (now queries) (now reach) c (now «named_sets»)
-        (now «clash_sets») (now «form_sets») ⌝ }
+    requires { ⌜ FormsHereReadable (now «expression_rows») (now «project_entries») (now relations) (now queries) (now reach) (now «spared_sets») c
+        (now «named_sets») (now «clash_sets») (now «form_sets») ⌝ }
     ensures { λ v.
-        ⌜ ((T : Tables)
-        → FormsHereReads T (now («expression_rows» .entry)) (now («project_entries» .entry)) (now (relations .entry)) (now (queries .entry))
-        (now (reach .entry)) c (now («named_sets» .entry)) (now («clash_sets» .entry)) (now («form_sets» .entry))
-        → v ≡ typingHere T c) ⌝ }
+        ⌜ ((T : Tables) (R : Reading)
+        → FormsHereReads T R (now («expression_rows» .entry)) (now («project_entries» .entry)) (now (relations .entry)) (now (queries .entry))
+        (now (reach .entry)) (now («spared_sets» .entry)) c (now («named_sets» .entry)) (now («clash_sets» .entry)) (now («form_sets» .entry))
+        → v ≡ typingHere T R c) ⌝ }
 {
     let count = queries.len() / 4;
     let mut start = 0;
@@ -114,6 +118,7 @@ fn forms_here(
             project_entries,
             relations,
             reach,
+            spared_sets,
             named_sets,
             clash_sets,
             form_sets,
@@ -133,42 +138,6 @@ pub struct Here {
     pub set: AttributeSet,
 }
 
-// Fills `form_sets` with the sets of all query forms at configuration c. Those of the relations, from which they are worked out, are its own.
-fn fill_form_sets(
-    c: usize,
-    expression_rows: &[u64],
-    relation_entries: &[u16],
-    project_entries: &[u16],
-    relations: &[u16],
-    queries: &[u16],
-    form_sets: &mut [u64],
-)
-    requires { ⌜ FormSetsReadable c (now «expression_rows») (now «relation_entries») (now «project_entries») (now relations) (now queries)
-        (now «form_sets») ⌝ }
-    ensures { λ _.
-        ⌜ ((T : Tables)
-        → FormSetsReads T c (now («expression_rows» .entry)) (now («relation_entries» .entry)) (now («project_entries» .entry)) (now (relations .entry))
-        (now (queries .entry))
-        → now («form_sets» .exit) ≡ written (table (queryCount T) (setOf T c)) (now («form_sets» .entry))) ⌝ }
-{
-    let mut relation_sets = [0; Limits::MOST_RELATIONS];
-    fill_relation_sets(
-        c,
-        expression_rows,
-        relation_entries,
-        relations,
-        &mut relation_sets,
-    );
-    fill_sets(
-        c,
-        expression_rows,
-        project_entries,
-        queries,
-        &relation_sets,
-        form_sets,
-    );
-}
-
 // Fills the words lent with the sets at configuration c, and answers from them.
 pub fn fill_here(
     c: usize,
@@ -180,17 +149,18 @@ pub fn fill_here(
     queries: &[u16],
     kinds: &[u16],
     reach: &[u64],
+    spared_sets: &[u64],
     named_sets: &mut [u64],
     clash_sets: &mut [u64],
     form_sets: &mut [u64],
 ) -> Here
     requires { ⌜ HereFillable c (now «expression_rows») (now «relation_entries») (now «project_entries») (now relations) (now comparisons) (now queries)
-        (now kinds) (now reach) (now «named_sets») (now «clash_sets») (now «form_sets») ⌝ }
+        (now kinds) (now reach) (now «spared_sets») (now «named_sets») (now «clash_sets») (now «form_sets») ⌝ }
     ensures { λ h.
-        ⌜ ((T : Tables)
-        → HereReads T c (now («expression_rows» .entry)) (now («relation_entries» .entry)) (now («project_entries» .entry)) (now (relations .entry))
-        (now (comparisons .entry)) (now (queries .entry)) (now (kinds .entry)) (now (reach .entry))
-        → HereFilled T c h (now («named_sets» .entry)) (now («clash_sets» .entry)) (now («form_sets» .entry)) (now («named_sets» .exit))
+        ⌜ ((T : Tables) (R : Reading)
+        → HereReads T R c (now («expression_rows» .entry)) (now («relation_entries» .entry)) (now («project_entries» .entry)) (now (relations .entry))
+        (now (comparisons .entry)) (now (queries .entry)) (now (kinds .entry)) (now (reach .entry)) (now («spared_sets» .entry))
+        → HereFilled T R c h (now («named_sets» .entry)) (now («clash_sets» .entry)) (now («form_sets» .entry)) (now («named_sets» .exit))
         (now («clash_sets» .exit)) (now («form_sets» .exit))) ⌝ }
 {
     fill_gathered(
@@ -218,20 +188,20 @@ pub fn fill_here(
         queries,
         &mut *form_sets,
     );
-    Here {
-        verdict: forms_here(
-            c,
-            expression_rows,
-            project_entries,
-            relations,
-            queries,
-            reach,
-            &*named_sets,
-            &*clash_sets,
-            &*form_sets,
-        ),
-        set: AttributeSet::of_bits(form_sets[queries.len() / 4 - 1]),
-    }
+    let verdict = forms_here(
+        c,
+        expression_rows,
+        project_entries,
+        relations,
+        queries,
+        reach,
+        spared_sets,
+        &*named_sets,
+        &*clash_sets,
+        &*form_sets,
+    );
+    let set = AttributeSet::of_bits(form_sets[queries.len() / 4 - 1]);
+    Here { verdict, set }
 }
 
 // The same with words of its own.
@@ -245,14 +215,15 @@ pub fn check_here(
     queries: &[u16],
     kinds: &[u16],
     reach: &[u64],
+    spared_sets: &[u64],
 ) -> Here
     requires { ⌜ HereReadable c (now «expression_rows») (now «relation_entries») (now «project_entries») (now relations) (now comparisons)
-        (now queries) (now kinds) (now reach) ⌝ }
+        (now queries) (now kinds) (now reach) (now «spared_sets») ⌝ }
     ensures { λ h.
-        ⌜ ((T : Tables)
-        → HereReads T c (now («expression_rows» .entry)) (now («relation_entries» .entry)) (now («project_entries» .entry))
-        (now (relations .entry)) (now (comparisons .entry)) (now (queries .entry)) (now (kinds .entry)) (now (reach .entry))
-        → HereChecked T c h) ⌝ }
+        ⌜ ((T : Tables) (R : Reading)
+        → HereReads T R c (now («expression_rows» .entry)) (now («relation_entries» .entry)) (now («project_entries» .entry))
+        (now (relations .entry)) (now (comparisons .entry)) (now (queries .entry)) (now (kinds .entry)) (now (reach .entry)) (now («spared_sets» .entry))
+        → HereChecked T R c h) ⌝ }
 {
     let mut named_sets = [0; Limits::MOST_COMPARISONS];
     let mut clash_sets = [0; Limits::MOST_COMPARISONS];
@@ -267,6 +238,7 @@ pub fn check_here(
         queries,
         kinds,
         reach,
+        spared_sets,
         &mut named_sets,
         &mut clash_sets,
         &mut form_sets,

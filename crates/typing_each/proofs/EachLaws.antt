@@ -9,12 +9,14 @@ use borrow.Author.Tests.{ltb-true, ltb-false, lt-ltb, le-ltb, eq-eqb, ne-eqb}
 use lib.Dec.{ltb}
 use Rattle.report.specs.Tables.{Tables, query, queryCount}
 use Rattle.report.specs.Expressions.{configurations, permitted}
-use Rattle.report.specs.Typing.{phases, fails}
+use Rattle.report.specs.Typing.{phases}
+use Rattle.report.specs.Readings.{failsBy}
 use Rattle.report.specs.Verdicts.{refuseIf}
 use Rattle.report.specs.Checks.{ruleNumber, faultNumber, faultRefusal, typingCheck}
 use Rattle.report.specs.declared.Query.{Query}
 use Rattle.report.specs.declared.Refusal.{Refusal}
 use Rattle.report.specs.declared.Verdict.{Verdict}
+use Rattle.report.specs.declared.Reading.{Reading}
 use Rattle.report.proofs.VerdictLaws.{accepted-not-refused, if-accepted, first-refused}
 use Rattle.report.proofs.TypingLaws.{fails-permitted, typing-accepted, typing-refused}
 use Rattle.report.proofs.Refusing.{rule-below}
@@ -30,8 +32,8 @@ abbrev position : ℕ → ℕ → ℕ
 position q phase = q * phases + phase
 
 -- at the configurations from `from` on and below `to`, nothing fails at a position below n
-abbrev NoneBefore : Tables → ℕ → ℕ → ℕ → Type 0
-NoneBefore T from to n = (q phase c : ℕ) → phase < phases → position q phase < n → from ≤ c → c < to → fails T c phase q ≡ false
+abbrev NoneBefore : Tables → Reading → ℕ → ℕ → ℕ → Type 0
+NoneBefore T R from to n = (q phase c : ℕ) → phase < phases → position q phase < n → from ≤ c → c < to → failsBy T R c phase q ≡ false
 
 -- the number of a rule is below that of kinds, so the numbers of form q have the order of its phases
 number-order : (q i phase : ℕ) (y : Query) → i < phases → phase < phases
@@ -43,11 +45,11 @@ number-order q (suc i) zero y h n =
 number-order q (suc i) (suc phase) y h n = sym (le-ltb (position q (suc i)) (position q (suc phase)) (omega arith))
 
 -- a refusal precedes another exactly where its position is lower
-precedes-order : (T : Tables) (p i d q phase c : ℕ) → i < phases → phase < phases
-    → precedes (faultRefusal T p i d) (faultRefusal T q phase c) ≡ ltb (position p i) (position q phase)
-precedes-order T p i d q phase c h n = go (decLt p q) (ℕ-discrete p q)
+precedes-order : (T : Tables) (R : Reading) (p i d q phase c : ℕ) → i < phases → phase < phases
+    → precedes (faultRefusal T R p i d) (faultRefusal T R q phase c) ≡ ltb (position p i) (position q phase)
+precedes-order T R p i d q phase c h n = go (decLt p q) (ℕ-discrete p q)
   where
-    go : Dec (p < q) → Dec (p ≡ q) → precedes (faultRefusal T p i d) (faultRefusal T q phase c) ≡ ltb (position p i) (position q phase)
+    go : Dec (p < q) → Dec (p ≡ q) → precedes (faultRefusal T R p i d) (faultRefusal T R q phase c) ≡ ltb (position p i) (position q phase)
     go (yes l) s = rw (lt-ltb p q l) (sym (lt-ltb (position p i) (position q phase) (omega arith)))
     go (no l) (yes s) = rw (s, le-ltb q q (omega arith), eq-eqb q q refl) (number-order q i phase (query (T .queries) q) h n)
     go (no l) (no s) = rw (le-ltb p q (omega arith), ne-eqb p q s) (sym (le-ltb (position p i) (position q phase) (omega arith)))
@@ -55,27 +57,27 @@ precedes-order T p i d q phase c h n = go (decLt p q) (ℕ-discrete p q)
 -- ---- a range of configurations
 
 -- Form q fails at c in this phase. At the configurations from `from` on, nothing fails below `to` at a lower position, and below c at this one either
-record FirstFault (T : Tables) (from to q phase c : ℕ) : Type 0 where
+record FirstFault (T : Tables) (R : Reading) (from to q phase c : ℕ) : Type 0 where
   inside : q < queryCount T
   isPhase : phase < phases
-  failing : fails T c phase q ≡ true
-  earlier : NoneBefore T from to (position q phase)
-  lower : NoneBefore T from c (suc (position q phase))
+  failing : failsBy T R c phase q ≡ true
+  earlier : NoneBefore T R from to (position q phase)
+  lower : NoneBefore T R from c (suc (position q phase))
 
 -- the answer from the configurations from `from` on and below `to`: by form, then by phase, then by configuration
-data Answer (T : Tables) (from to : ℕ) : Verdict → Type 0 where
-  none : NoneBefore T from to (queryCount T * phases) → Answer T from to Verdict.Accepted
-  first : {q phase c : ℕ} → FirstFault T from to q phase c → Answer T from to (Verdict.Refused (faultRefusal T q phase c))
+data Answer (T : Tables) (R : Reading) (from to : ℕ) : Verdict → Type 0 where
+  none : NoneBefore T R from to (queryCount T * phases) → Answer T R from to Verdict.Accepted
+  first : {q phase c : ℕ} → FirstFault T R from to q phase c → Answer T R from to (Verdict.Refused (faultRefusal T R q phase c))
 
-module _ (T : Tables) (c : ℕ) where
+module _ (T : Tables) (R : Reading) (c : ℕ) where
   -- the range that is c alone
-  at-one : (n : ℕ) → ((q phase : ℕ) → phase < phases → position q phase < n → fails T c phase q ≡ false) → NoneBefore T c (suc c) n
-  at-one n f q phase d h l a b = ap (λ (x : ℕ). fails T x phase q) (omega arith) ∙ f q phase h l
+  at-one : (n : ℕ) → ((q phase : ℕ) → phase < phases → position q phase < n → failsBy T R c phase q ≡ false) → NoneBefore T R c (suc c) n
+  at-one n f q phase d h l a b = ap (λ (x : ℕ). failsBy T R x phase q) (omega arith) ∙ f q phase h l
 
   -- the first fault there is that of the lowest form that fails, in its first phase that fails
-  first-here : (q phase : ℕ) → q < queryCount T → phase < phases → fails T c phase q ≡ true
-      → ((p : ℕ) → p < q → formHere T c p ≡ Verdict.Accepted) → ((i : ℕ) → i < phase → phaseHere T c q i ≡ Verdict.Accepted)
-      → FirstFault T c (suc c) q phase c
+  first-here : (q phase : ℕ) → q < queryCount T → phase < phases → failsBy T R c phase q ≡ true
+      → ((p : ℕ) → p < q → formHere T R c p ≡ Verdict.Accepted) → ((i : ℕ) → i < phase → phaseHere T R c q i ≡ Verdict.Accepted)
+      → FirstFault T R c (suc c) q phase c
   first-here q phase h n e forms-before phases-before = record {
     inside = h;
     isPhase = n;
@@ -84,27 +86,27 @@ module _ (T : Tables) (c : ℕ) where
     lower = λ p i d k l a b. absurd (omega arith);
   }
     where
-      before : (p i : ℕ) → i < phases → position p i < position q phase → Dec (p < q) → fails T c i p ≡ false
-      before p i k l (yes m) = form-accepted T c p .0 (forms-before p m) i k
+      before : (p i : ℕ) → i < phases → position p i < position q phase → Dec (p < q) → failsBy T R c i p ≡ false
+      before p i k l (yes m) = form-accepted T R c p .0 (forms-before p m) i k
       before p i k l (no m) =
-          ap (fails T c i) (omega arith) ∙ if-accepted (fails T c i q) (faultRefusal T q i c) (phases-before i (omega arith))
+          ap (failsBy T R c i) (omega arith) ∙ if-accepted (failsBy T R c i q) (faultRefusal T R q i c) (phases-before i (omega arith))
 
   -- the answer at c alone
-  here-answer : Answer T c (suc c) (typingHere T c)
+  here-answer : Answer T R c (suc c) (typingHere T R c)
   unfolding typingHere
-  here-answer = go (typingHere T c) refl
+  here-answer = go (typingHere T R c) refl
     where
       refused : (t : Bool) (s : Refusal) {r : Refusal} → refuseIf t s ≡ Verdict.Refused r → (t ≡ true) × (s ≡ r)
       refused true s e = (refl, cc)
       refused false s e = accepted-not-refused e refl
 
-      go : (v : Verdict) → typingHere T c ≡ v → Answer T c (suc c) v
-      go Verdict.Accepted e = Answer.none (at-one (queryCount T * phases) (λ q phase h l. here-accepted T c .0 e q phase (omega arith) h))
+      go : (v : Verdict) → typingHere T R c ≡ v → Answer T R c (suc c) v
+      go Verdict.Accepted e = Answer.none (at-one (queryCount T * phases) (λ q phase h l. here-accepted T R c .0 e q phase (omega arith) h))
       go (Verdict.Refused r) e =
-          let f = first-refused (formHere T c) (queryCount T) 0 r e in
-          let g = first-refused (phaseHere T c (f .at)) phases 0 r (f .gave) in
-          let a = refused (fails T c (g .at) (f .at)) (faultRefusal T (f .at) (g .at) c) (g .gave) in
-          subst (λ (s : Refusal). Answer T c (suc c) (Verdict.Refused s)) (a .1)
+          let f = first-refused (formHere T R c) (queryCount T) 0 r e in
+          let g = first-refused (phaseHere T R c (f .at)) phases 0 r (f .gave) in
+          let a = refused (failsBy T R c (g .at) (f .at)) (faultRefusal T R (f .at) (g .at) c) (g .gave) in
+          subst (λ (s : Refusal). Answer T R c (suc c) (Verdict.Refused s)) (a .1)
           (Answer.first
           (first-here (f .at) (g .at) (omega (arith, f .below)) (omega (arith, g .below)) (a .0) (λ p. f .before p (omega arith))
           (λ i. g .before i (omega arith))))
@@ -112,70 +114,71 @@ module _ (T : Tables) (c : ℕ) where
 -- ---- a range of configurations, and another that starts where it ends
 
 -- where nothing fails in either below a position, nothing does in the two together
-join-none : (T : Tables) (from mid to : ℕ) {n m k : ℕ} → k ≤ n → k ≤ m → NoneBefore T from mid n → NoneBefore T mid to m → NoneBefore T from to k
-join-none T from mid to a b f g q phase c h l u v = go (decLt c mid)
+join-none : (T : Tables) (R : Reading) (from mid to : ℕ) {n m k : ℕ} → k ≤ n → k ≤ m → NoneBefore T R from mid n → NoneBefore T R mid to m
+    → NoneBefore T R from to k
+join-none T R from mid to a b f g q phase c h l u v = go (decLt c mid)
   where
-    go : Dec (c < mid) → fails T c phase q ≡ false
+    go : Dec (c < mid) → failsBy T R c phase q ≡ false
     go (yes w) = f q phase c h (omega arith) u w
     go (no w) = g q phase c h (omega arith) (omega arith) v
 
-module _ (T : Tables) (from mid to : ℕ) where
+module _ (T : Tables) (R : Reading) (from mid to : ℕ) where
   -- the first fault of the one is that of both where nothing fails in the other at a lower position
-  first-lower : {q phase c n : ℕ} → position q phase ≤ n → FirstFault T from mid q phase c → NoneBefore T mid to n → FirstFault T from to q phase c
+  first-lower : {q phase c n : ℕ} → position q phase ≤ n → FirstFault T R from mid q phase c → NoneBefore T R mid to n → FirstFault T R from to q phase c
   first-lower a f g = record {
     inside = f .inside;
     isPhase = f .isPhase;
     failing = f .failing;
-    earlier = join-none T from mid to (omega arith) a (f .earlier) g;
+    earlier = join-none T R from mid to (omega arith) a (f .earlier) g;
     lower = f .lower;
   }
 
   -- that of the other where nothing fails in the one up to its position
-  first-higher : {q phase c n : ℕ} → position q phase < n → NoneBefore T from mid n → FirstFault T mid to q phase c → FirstFault T from to q phase c
+  first-higher : {q phase c n : ℕ} → position q phase < n → NoneBefore T R from mid n → FirstFault T R mid to q phase c → FirstFault T R from to q phase c
   first-higher {c} a f g = record {
     inside = g .inside;
     isPhase = g .isPhase;
     failing = g .failing;
-    earlier = join-none T from mid to (omega arith) (omega arith) f (g .earlier);
-    lower = join-none T from mid c a (omega arith) f (g .lower);
+    earlier = join-none T R from mid to (omega arith) (omega arith) f (g .earlier);
+    lower = join-none T R from mid c a (omega arith) f (g .lower);
   }
 
   -- of two first faults it is the one whose refusal precedes, and otherwise the lower one
-  sooner-fault : {q phase c p i d : ℕ} → FirstFault T from mid q phase c → FirstFault T mid to p i d
-      → Answer T from to (sooner (Verdict.Refused (faultRefusal T q phase c)) (Verdict.Refused (faultRefusal T p i d)))
+  sooner-fault : {q phase c p i d : ℕ} → FirstFault T R from mid q phase c → FirstFault T R mid to p i d
+      → Answer T R from to (sooner (Verdict.Refused (faultRefusal T R q phase c)) (Verdict.Refused (faultRefusal T R p i d)))
   sooner-fault {q} {phase} {c} {p} {i} {d} f g =
-      rw (precedes-order T p i d q phase c (g .isPhase) (f .isPhase)) (go (ltb (position p i) (position q phase)) refl)
+      rw (precedes-order T R p i d q phase c (g .isPhase) (f .isPhase)) (go (ltb (position p i) (position q phase)) refl)
     where
       go : (t : Bool) → ltb (position p i) (position q phase) ≡ t
-          → Answer T from to (cond t (Verdict.Refused (faultRefusal T p i d)) (Verdict.Refused (faultRefusal T q phase c)))
+          → Answer T R from to (cond t (Verdict.Refused (faultRefusal T R p i d)) (Verdict.Refused (faultRefusal T R q phase c)))
       go true e = Answer.first (first-higher (ltb-true (position p i) (position q phase) e) (f .earlier) g)
       go false e = Answer.first (first-lower (ltb-false (position p i) (position q phase) e) f (g .earlier))
 
   -- the answer from both is the sooner of their answers
-  sooner-answer : {v w : Verdict} → Answer T from mid v → Answer T mid to w → Answer T from to (sooner v w)
-  sooner-answer (Answer.none f) (Answer.none g) = Answer.none (join-none T from mid to (omega arith) (omega arith) f g)
+  sooner-answer : {v w : Verdict} → Answer T R from mid v → Answer T R mid to w → Answer T R from to (sooner v w)
+  sooner-answer (Answer.none f) (Answer.none g) = Answer.none (join-none T R from mid to (omega arith) (omega arith) f g)
   sooner-answer (Answer.none f) (Answer.first g) = Answer.first (first-higher (omega arith) f g)
   sooner-answer (Answer.first f) (Answer.none g) = Answer.first (first-lower (omega arith) f g)
   sooner-answer (Answer.first f) (Answer.first g) = sooner-fault f g
 
 -- ---- all configurations
 
-module _ (T : Tables) where
+module _ (T : Tables) (R : Reading) where
   -- the answer from the configurations below k
-  below-answer : (k : ℕ) → Answer T 0 k (typingBelow T k)
+  below-answer : (k : ℕ) → Answer T R 0 k (typingBelow T R k)
   unfolding typingBelow
   below-answer zero = Answer.none (λ q phase c h l a b. absurd (omega arith))
-  below-answer (suc k) = sooner-answer T 0 k (suc k) (below-answer k) (here-answer T k)
+  below-answer (suc k) = sooner-answer T R 0 k (suc k) (below-answer k) (here-answer T R k)
 
   -- the answer from all configurations is the typing check's
-  answer-typing : {k : ℕ} {v : Verdict} → configurations T ≤ k → Answer T 0 k v → typingCheck T ≡ v
+  answer-typing : {k : ℕ} {v : Verdict} → configurations T ≤ k → Answer T R 0 k v → typingCheck T R ≡ v
   answer-typing m (Answer.none f) =
-      typing-accepted T .1 (λ c q phase h l n. f q phase c n (omega arith) (omega arith) (omega arith))
+      typing-accepted T R .1 (λ c q phase h l n. f q phase c n (omega arith) (omega arith) (omega arith))
   answer-typing m (Answer.first {q} {phase} {c} f) =
-      typing-refused T (faultRefusal T q phase c) .1
+      typing-refused T R (faultRefusal T R q phase c) .1
       (record {
         inside = f .inside;
-        permits = fails-permitted T c phase q (f .failing);
+        permits = fails-permitted T R c phase q (f .failing);
         phase = phase;
         isPhase = f .isPhase;
         failing = f .failing;
@@ -187,7 +190,7 @@ module _ (T : Tables) where
       })
 
   -- the answers at each configuration alone, taken together, are the typing check's
-  pub each-typing : (k : ℕ) → configurations T ≤ k → typingBelow T k ≡ typingCheck T
+  pub each-typing : (k : ℕ) → configurations T ≤ k → typingBelow T R k ≡ typingCheck T R
   each-typing k h = sym (answer-typing h (below-answer k))
 
   -- ---- configurations that are not permitted
@@ -197,15 +200,15 @@ module _ (T : Tables) where
   sooner-accepted (Verdict.Refused r) = refl
 
   -- they change nothing
-  pub below-skips : (j k : ℕ) → j ≤ k → ((c : ℕ) → j ≤ c → c < k → permitted T c ≡ false) → typingBelow T k ≡ typingBelow T j
+  pub below-skips : (j k : ℕ) → j ≤ k → ((c : ℕ) → j ≤ c → c < k → permitted T c ≡ false) → typingBelow T R k ≡ typingBelow T R j
   unfolding typingBelow
   below-skips j =
-      le-ind (λ k. ((c : ℕ) → j ≤ c → c < k → permitted T c ≡ false) → typingBelow T k ≡ typingBelow T j) (λ f. refl)
+      le-ind (λ k. ((c : ℕ) → j ≤ c → c < k → permitted T c ≡ false) → typingBelow T R k ≡ typingBelow T R j) (λ f. refl)
       (λ k l ih f.
-      ap (sooner (typingBelow T k)) (nothing-here T k (f k l (omega arith))) ∙ sooner-accepted (typingBelow T k) ∙ ih (λ c a b. f c a (omega arith)))
+      ap (sooner (typingBelow T R k)) (nothing-here T R k (f k l (omega arith))) ∙ sooner-accepted (typingBelow T R k) ∙ ih (λ c a b. f c a (omega arith)))
 
   -- so after them the next configuration adds its own answer
   pub below-more : (j c : ℕ) → j ≤ c → ((d : ℕ) → j ≤ d → d < c → permitted T d ≡ false)
-      → typingBelow T (c + 1) ≡ sooner (typingBelow T j) (typingHere T c)
+      → typingBelow T R (c + 1) ≡ sooner (typingBelow T R j) (typingHere T R c)
   unfolding typingBelow
-  below-more j c h f = ap (typingBelow T) (add-one c) ∙ ap (λ (v : Verdict). sooner v (typingHere T c)) (below-skips j c h f)
+  below-more j c h f = ap (typingBelow T R) (add-one c) ∙ ap (λ (v : Verdict). sooner v (typingHere T R c)) (below-skips j c h f)

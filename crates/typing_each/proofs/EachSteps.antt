@@ -9,24 +9,28 @@ use native.Mathlib.Omega.{arith}
 use lib.ListN.{length, set, replicate, length-replicate}
 use lib.Pow.{pow-mono}
 use Rattle.sets.specs.declared.Found.{Found}
-use Rattle.sets.specs.Search.{seek, countBelow}
-use Rattle.sets.specs.Lists.{concat}
+use Rattle.sets.specs.Search.{countBelow}
+use Rattle.sets.specs.Lists.{concat, table, NumbersAre}
 use Rattle.sets.specs.Rows.{rowOf, rowBit, rowCount, rowLowestFrom}
-use Rattle.sets.proofs.SearchLaws.{Least, seek-nothing, seek-least, count-same, count-yes, count-none, count-lt}
-use Rattle.sets.proofs.ListLaws.{NumbersFilling, filling-none, filling-below, filling-more}
-use Rattle.sets.proofs.RowLaws.{rowBit-rowOf, from-rowOf, rowIn-zeros}
-use Rattle.report.specs.Tables.{Tables, report}
+use Rattle.sets.proofs.SearchLaws.{Least, count-same, count-yes, count-none, count-lt}
+use Rattle.sets.proofs.ListLaws.{numbers-are, NumbersFilling, filling-none, filling-below, filling-more}
+use Rattle.sets.proofs.RowLaws.{rowBit-rowOf, rowIn-zeros}
+use Rattle.report.specs.Tables.{Tables, queryCount, report}
 use Rattle.report.specs.ColumnRows.{columnRow}
 use Rattle.report.specs.Expressions.{configurations, permitted}
 use Rattle.report.specs.Typing.{setOf}
+use Rattle.report.specs.Readings.{spared}
 use Rattle.report.specs.Configuring.{written}
 use Rattle.report.specs.declared.Verdict.{Verdict}
+use Rattle.report.specs.declared.Reading.{Reading}
 use Rattle.report.proofs.FormedFacts.{counts}
 use Rattle.report.proofs.TypingLaws.{permitted-within, permitted-1024}
 use Rattle.verdicts.specs.Sooner.{sooner}
 use Rattle.expression_rows.specs.declared.Scope.{Scope}
+use Rattle.expression_rows.proofs.ScopeLaws.{none-permitted, next-permitted}
 use Rattle.expression_rows.specs.TypingReads.{TypingReads, Checked}
 use Rattle.expression_rows.proofs.ColumnLaws.{columns-shown}
+use Rattle.sparing.specs.Sparing.{SparingReads, SparingReadable}
 use Rattle.typing_at.specs.declared.Here.{Here}
 use Rattle.typing_at.specs.TypingAt.{HereReads, HereChecked, SetsLent, HereFillable}
 use Rattle.typing_at.proofs.HereLaws.{sets-enough}
@@ -58,13 +62,48 @@ module _ {lentNamed lentClashing lentSets named clashing sets : List ℕ} (K : S
     forms = rw (K .formed) (L .forms);
   }
 
+-- what is read to work out what is spared
+sparing-reads : {T : Tables} {scope : Scope} {expressionRows relationEntries projectEntries relations comparisons queries kinds reach : List ℕ}
+    → TypingReads T scope expressionRows relationEntries projectEntries relations comparisons queries kinds reach
+    → SparingReads T scope expressionRows relationEntries projectEntries relations queries reach
+sparing-reads R =
+    let P = R .report .prepared in
+    record {
+      scoped = R .scoped;
+      formed = P .formed;
+      filled = P .filled;
+      relationEntriesAre = P .relationEntriesAre;
+      projectEntriesAre = P .projectEntriesAre;
+      relationsAre = P .relationsAre;
+      queriesAre = P .queriesAre;
+      reaching = R .report .reaching;
+    }
+
 module _ {scope : Scope} {expressionRows relationEntries projectEntries relations comparisons queries kinds reach columns : List ℕ} where
-  pub size-enough : (most : ℕ) → SizeReadable most scope expressionRows relationEntries projectEntries relations comparisons queries kinds reach columns
-      → EachFillable scope expressionRows relationEntries projectEntries relations comparisons queries kinds reach columns (replicate most 0)
-      (replicate most 0) (replicate most 0)
-  size-enough most A =
-      let P = A .each .readable .reads .report .prepared in
-      record { each = A .each; lent = sets-enough most (rw (P .comparisonsAre) at (A .comparisonsFew)) (rw (P .queriesAre) at (A .formsFew)) }
+  module _ (most : ℕ) (A : SizeReadable most scope expressionRows relationEntries projectEntries relations comparisons queries kinds reach columns) where
+    forms-few : queryCount (A .each .readable .tables) ≤ most
+    forms-few = rw (A .each .readable .reads .report .prepared .queriesAre) at (A .formsFew)
+
+    pub sparing-readable : SparingReadable scope expressionRows relationEntries projectEntries relations queries reach (replicate most 0)
+    sparing-readable = record {
+      tables = A .each .readable .tables;
+      reads = sparing-reads (A .each .readable .reads);
+      words = most;
+      clear = refl;
+      room = forms-few;
+    }
+
+    -- it was worked out
+    pub size-enough : {spares : List ℕ}
+        → ((T : Tables) → SparingReads T scope expressionRows relationEntries projectEntries relations queries reach
+        → spares ≡ written (table (queryCount T) (spared T (scope .reading))) (replicate most 0))
+        → EachFillable scope expressionRows relationEntries projectEntries relations comparisons queries kinds reach spares columns (replicate most 0)
+        (replicate most 0) (replicate most 0)
+    size-enough filled = record {
+      each = A .each;
+      sparing = λ T R. numbers-are (queryCount T) (spared T (scope .reading)) _ (filled T (sparing-reads R));
+      lent = sets-enough most (rw (A .each .readable .reads .report .prepared .comparisonsAre) at (A .comparisonsFew)) forms-few;
+    }
 
   pub any-size : EachReadable scope expressionRows relationEntries projectEntries relations comparisons queries kinds reach columns
       → SizeReadable 256 scope expressionRows relationEntries projectEntries relations comparisons queries kinds reach columns
@@ -82,7 +121,7 @@ pub record EachPassed (scope : Scope) (expressionRows relationEntries projectEnt
   pub within : (T : Tables) → TypingReads T scope expressionRows relationEntries projectEntries relations comparisons queries kinds reach
       → from ≤ configurations T
   pub told : (T : Tables) → TypingReads T scope expressionRows relationEntries projectEntries relations comparisons queries kinds reach
-      → answer ≡ typingBelow T from
+      → answer ≡ typingBelow T (scope .reading) from
   pub counted : (T : Tables) → TypingReads T scope expressionRows relationEntries projectEntries relations comparisons queries kinds reach
       → count ≡ countBelow (permitted T) from
   pub permits : NumbersFilling (λ T. TypingReads T scope expressionRows relationEntries projectEntries relations comparisons queries kinds reach)
@@ -115,15 +154,11 @@ module _ {scope : Scope} {expressionRows relationEntries projectEntries relation
   module _ {numbers sets : List ℕ} {count : ℕ} {answer : Verdict} {from : ℕ}
       (S : EachPassed scope expressionRows relationEntries projectEntries relations comparisons queries kinds reach numbers sets count answer from)
       {next : Found} (found : next ≡ rowLowestFrom 16 (scope .permitted .words) from) where
-    seeks : {T : Tables} → TypingReads T scope expressionRows relationEntries projectEntries relations comparisons queries kinds reach
-        → next ≡ seek (permitted T) (1024 - from) from
-    seeks {T} R = found ∙ ap (λ (r : List ℕ). rowLowestFrom 16 r from) (R .scoped .permitting) ∙ from-rowOf 16 (permitted T) from
-
     -- none is left
     module _ (e : next ≡ Found.Nothing) where
       none : {T : Tables} → TypingReads T scope expressionRows relationEntries projectEntries relations comparisons queries kinds reach
           → (d : ℕ) → from ≤ d → d < 1024 → permitted T d ≡ false
-      none {T} R d l h = seek-nothing (permitted T) (1024 - from) from (sym (seeks R) ∙ e) d l (let m = S .most in omega arith)
+      none R = none-permitted (R .scoped) from found e
 
       gathered : {T : Tables} → TypingReads T scope expressionRows relationEntries projectEntries relations comparisons queries kinds reach
           → SetsGathered T count numbers sets
@@ -149,12 +184,12 @@ module _ {scope : Scope} {expressionRows relationEntries projectEntries relation
       pub each-all : {columns : List ℕ}
           → ((T : Tables) → SetsGathered T count numbers sets → columns ≡ written (concat (scope .items) (columnRow T)) lent)
           → (T : Tables) → TypingReads T scope expressionRows relationEntries projectEntries relations comparisons queries kinds reach
-          → Checked T answer columns
+          → Checked T (scope .reading) answer columns
       each-all stored T R =
           let few : configurations T ≤ 1024 = pow-mono {j = 10} (R .report .prepared .formed .few) in
           record {
-            answers = S .told T R ∙ sym (below-skips T from (configurations T) (S .within T R) (λ d l h. none R d l (lt-of-lt-of-le h few)))
-                ∙ each-typing T (configurations T) (le-refl (configurations T));
+            answers = S .told T R ∙ sym (below-skips T (scope .reading) from (configurations T) (S .within T R) (λ d l h. none R d l (lt-of-lt-of-le h few)))
+                ∙ each-typing T (scope .reading) (configurations T) (le-refl (configurations T));
             shows =
                 columns-shown (R .report .prepared .formed) (R .scoped .bounded)
                 (stored T (gathered R) ∙ ap (written (concat (scope .items) (columnRow T))) (A .readable .clear));
@@ -164,15 +199,7 @@ module _ {scope : Scope} {expressionRows relationEntries projectEntries relation
     module _ {c : ℕ} (e : next ≡ Found.At c) where
       least : {T : Tables} → TypingReads T scope expressionRows relationEntries projectEntries relations comparisons queries kinds reach
           → Least (permitted T) from (1024 - from) c
-      least {T} R = seek-least (permitted T) (1024 - from) from c (sym (seeks R) ∙ e)
-
-      here-reads : {T : Tables} → TypingReads T scope expressionRows relationEntries projectEntries relations comparisons queries kinds reach
-          → HereReads T c expressionRows relationEntries projectEntries relations comparisons queries kinds reach
-      here-reads {T} R = record { inside = permitted-within T c (least R .holds); report = R .report }
-
-      pub each-here : {named clashing sets : List ℕ} → SetsLent (A .readable .tables) named clashing sets
-          → HereFillable c expressionRows relationEntries projectEntries relations comparisons queries kinds reach named clashing sets
-      each-here L = record { readable = record { tables = A .readable .tables; reads = here-reads (A .readable .reads) }; lent = L }
+      least R = next-permitted (R .scoped) from found e
 
       inside : {T : Tables} → TypingReads T scope expressionRows relationEntries projectEntries relations comparisons queries kinds reach → c < 1024
       inside R = permitted-1024 (R .report .prepared .formed) c (least R .holds)
@@ -196,26 +223,43 @@ module _ {scope : Scope} {expressionRows relationEntries projectEntries relation
           subst (λ (n : ℕ). n < 64) (sym (ranked R))
           (lt-of-lt-of-le (count-lt (permitted (A .readable .tables)) c 1024 (inside R) (least R .holds)) (few-permitted R))
 
-      -- this was worked out at c
-      pub each-more : {here : Here} {after : Verdict}
-          → ((T : Tables) → HereReads T c expressionRows relationEntries projectEntries relations comparisons queries kinds reach
-          → HereChecked T c here)
-          → after ≡ sooner answer (here .verdict)
-          → EachPassed scope expressionRows relationEntries projectEntries relations comparisons queries kinds reach (set numbers count c)
-          (set sets count (here .set .bits)) (count + 1) after (c + 1)
-      each-more checked told =
-          let z = length-replicate {A = ℕ} 64 0 in
-          record {
-            most = let l = each-between .1 in omega arith;
-            within = λ T R. let l = permitted-within T c (least R .holds) in omega arith;
-            told = λ T R.
-                let L = least R in
-                told ∙ ap₂ sooner (S .told T R) (checked T (here-reads R) .answers) ∙ sym (below-more T from c (L .within .0) (L .before));
-            counted = λ T R.
-                add-one count ∙ ap suc (ranked R) ∙ sym (count-yes (permitted T) c (least R .holds))
-                ∙ ap (countBelow (permitted T)) (sym (add-one c));
-            permits = filling-more (S .permits) (omega arith) each-room (λ T R. sym (numbered R));
-            shown =
-                filling-more (S .shown) (omega arith) each-room
-                (λ T R. checked T (here-reads R) .shows ∙ ap (λ (d : ℕ). setOf T d (report T)) (sym (numbered R)));
+      -- with what the reading does not hold against each form
+      module _ {spares : List ℕ}
+          (sparing : (T : Tables) → TypingReads T scope expressionRows relationEntries projectEntries relations comparisons queries kinds reach
+          → NumbersAre (queryCount T) (spared T (scope .reading)) spares)
+        where
+          here-reads : {T : Tables} → TypingReads T scope expressionRows relationEntries projectEntries relations comparisons queries kinds reach
+              → HereReads T (scope .reading) c expressionRows relationEntries projectEntries relations comparisons queries kinds reach spares
+          here-reads {T} R = record { inside = permitted-within T c (least R .holds); report = R .report; sparing = sparing T R }
+
+          pub each-here : {named clashing sets : List ℕ} → SetsLent (A .readable .tables) named clashing sets
+              → HereFillable c expressionRows relationEntries projectEntries relations comparisons queries kinds reach spares named clashing sets
+          each-here L = record {
+            readable = record { tables = A .readable .tables; reading = scope .reading; reads = here-reads (A .readable .reads) };
+            lent = L;
           }
+
+          -- this was worked out at c
+          pub each-more : {here : Here} {after : Verdict}
+              → ((T : Tables) (R : Reading)
+              → HereReads T R c expressionRows relationEntries projectEntries relations comparisons queries kinds reach spares → HereChecked T R c here)
+              → after ≡ sooner answer (here .verdict)
+              → EachPassed scope expressionRows relationEntries projectEntries relations comparisons queries kinds reach (set numbers count c)
+              (set sets count (here .set .bits)) (count + 1) after (c + 1)
+          each-more checked told =
+              let z = length-replicate {A = ℕ} 64 0 in
+              record {
+                most = let l = each-between .1 in omega arith;
+                within = λ T R. let l = permitted-within T c (least R .holds) in omega arith;
+                told = λ T R.
+                    let L = least R in
+                    told ∙ ap₂ sooner (S .told T R) (checked T (scope .reading) (here-reads R) .answers)
+                    ∙ sym (below-more T (scope .reading) from c (L .within .0) (L .before));
+                counted = λ T R.
+                    add-one count ∙ ap suc (ranked R) ∙ sym (count-yes (permitted T) c (least R .holds))
+                    ∙ ap (countBelow (permitted T)) (sym (add-one c));
+                permits = filling-more (S .permits) (omega arith) each-room (λ T R. sym (numbered R));
+                shown =
+                    filling-more (S .shown) (omega arith) each-room
+                    (λ T R. checked T (scope .reading) (here-reads R) .shows ∙ ap (λ (d : ℕ). setOf T d (report T)) (sym (numbered R)));
+              }

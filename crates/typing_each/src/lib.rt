@@ -5,6 +5,7 @@ use expression_rows::Scope;
 use report::Limits;
 use report::Verdict;
 use sets::Found;
+use sparing::fill_spared;
 use typing_at::fill_here;
 use verdicts::sooner_of;
 ghost use Rattle.report.specs.Tables.{Tables};
@@ -15,8 +16,8 @@ ghost use Rattle.typing_each.specs.TypingEach.{EachReadable, EachFillabl
 // one takes less time than the rows of all do (docs/changes/06-big-schema.md).
 pub const FEW: usize = 64;
 
-// The answer at each permitted configuration, ascending, and the column rows; in the words lent, the sets at one configuration after another. The
-// report's sets are kept, and the column rows made of them at the end.
+// The answer at each permitted configuration, ascending, and the column rows; in the words lent, the sets at one configuration after another, and in
+// `spared_sets` what the reading does not hold against each form. The report's sets are kept, and the column rows made of them at the end.
 fn check_with(
     scope: Scope,
     expression_rows: &[u64],
@@ -27,19 +28,20 @@ fn check_with(
     queries: &[u16],
     kinds: &[u16],
     reach: &[u64],
+    spared_sets: &[u64],
     columns: &mut [u64],
     named_sets: &mut [u64],
     clash_sets: &mut [u64],
     form_sets: &mut [u64],
 ) -> Verdict
     requires { ⌜ EachFillable scope (now «expression_rows») (now «relation_entries») (now «project_entries») (now relations) (now comparisons)
-        (now queries) (now kinds) (now reach) (now columns)
+        (now queries) (now kinds) (now reach) (now «spared_sets») (now columns)
         (now «named_sets») (now «clash_sets») (now «form_sets») ⌝ }
     ensures { λ v.
         ⌜ ((T : Tables)
         → TypingReads T scope (now («expression_rows» .entry)) (now («relation_entries» .entry)) (now («project_entries» .entry))
         (now (relations .entry)) (now (comparisons .entry)) (now (queries .entry)) (now (kinds .entry)) (now (reach .entry))
-        → Checked T v (now (columns .exit))) ⌝ }
+        → Checked T (scope .reading) v (now (columns .exit))) ⌝ }
 {
     let permitted = scope.permitted;
     let mut configurations = [0; FEW];
@@ -62,6 +64,7 @@ fn check_with(
             queries,
             kinds,
             reach,
+            spared_sets,
             &mut *named_sets,
             &mut *clash_sets,
             &mut *form_sets,
@@ -78,7 +81,7 @@ fn check_with(
     answer
 }
 
-// The same with words of its own, of small tables.
+// The same with words of its own, and with what is spared worked out first, of small tables.
 fn check_small(
     scope: Scope,
     expression_rows: &[u64],
@@ -97,8 +100,19 @@ fn check_small(
         ⌜ ((T : Tables)
         → TypingReads T scope (now («expression_rows» .entry)) (now («relation_entries» .entry)) (now («project_entries» .entry))
         (now (relations .entry)) (now (comparisons .entry)) (now (queries .entry)) (now (kinds .entry)) (now (reach .entry))
-        → Checked T v (now (columns .exit))) ⌝ }
+        → Checked T (scope .reading) v (now (columns .exit))) ⌝ }
 {
+    let mut spared_sets = [0; Limits::SMALL];
+    fill_spared(
+        scope,
+        expression_rows,
+        relation_entries,
+        project_entries,
+        relations,
+        queries,
+        reach,
+        &mut spared_sets,
+    );
     let mut named_sets = [0; Limits::SMALL];
     let mut clash_sets = [0; Limits::SMALL];
     let mut form_sets = [0; Limits::SMALL];
@@ -112,6 +126,7 @@ fn check_small(
         queries,
         kinds,
         reach,
+        &spared_sets,
         columns,
         &mut named_sets,
         &mut clash_sets,
@@ -138,8 +153,19 @@ fn check_large(
         ⌜ ((T : Tables)
         → TypingReads T scope (now («expression_rows» .entry)) (now («relation_entries» .entry)) (now («project_entries» .entry))
         (now (relations .entry)) (now (comparisons .entry)) (now (queries .entry)) (now (kinds .entry)) (now (reach .entry))
-        → Checked T v (now (columns .exit))) ⌝ }
+        → Checked T (scope .reading) v (now (columns .exit))) ⌝ }
 {
+    let mut spared_sets = [0; Limits::MOST_QUERIES];
+    fill_spared(
+        scope,
+        expression_rows,
+        relation_entries,
+        project_entries,
+        relations,
+        queries,
+        reach,
+        &mut spared_sets,
+    );
     let mut named_sets = [0; Limits::MOST_COMPARISONS];
     let mut clash_sets = [0; Limits::MOST_COMPARISONS];
     let mut form_sets = [0; Limits::MOST_QUERIES];
@@ -153,6 +179,7 @@ fn check_large(
         queries,
         kinds,
         reach,
+        &spared_sets,
         columns,
         &mut named_sets,
         &mut clash_sets,
@@ -179,7 +206,7 @@ pub fn check_each(
         ⌜ ((T : Tables)
         → TypingReads T scope (now («expression_rows» .entry)) (now («relation_entries» .entry)) (now («project_entries» .entry))
         (now (relations .entry)) (now (comparisons .entry)) (now (queries .entry)) (now (kinds .entry)) (now (reach .entry))
-        → Checked T v (now (columns .exit))) ⌝ }
+        → Checked T (scope .reading) v (now (columns .exit))) ⌝ }
 {
     if comparisons.len() / 5 <= Limits::SMALL && queries.len() / 4 <= Limits::SMALL {
         return check_small(

@@ -21,6 +21,7 @@ use Rattle.report.specs.Calls.{answer}
 use Rattle.report.specs.Formed.{Formed}
 use Rattle.report.specs.declared.Refusal.{Refusal}
 use Rattle.report.specs.declared.Verdict.{Verdict}
+use Rattle.report.specs.declared.Reading.{Reading}
 use Rattle.report.proofs.VerdictLaws.{if-accepted}
 use Rattle.report.proofs.FirstFault.{first-none, first-one}
 use Rattle.report.proofs.TypingLaws.{rows-length}
@@ -78,18 +79,18 @@ page-length {T} F = page-bytes F ∙ ap (λ (k : ℕ). k * 73) (sym (line-count 
 pub refused-left : {v : Verdict} {r : Refusal} (new lent : List ℕ) → v ≡ Verdict.Refused r → lent ≡ after v new lent
 refused-left new lent f = ap (λ (x : Verdict). after x new lent) (sym f)
 
-module _ (T : Tables) {checked : Verdict} (before : checked ≡ reportCheck T) (lent : List ℕ) where
+module _ (T : Tables) (R : Reading) {checked : Verdict} (before : checked ≡ reportCheck T R) (lent : List ℕ) where
   -- what is promised, where the call's answer is known
-  answered : {v : Verdict} → v ≡ answer T (writingPage (length lent)) → {r : PageAnswer} {now : List ℕ} → r ≡ pageAnswer v (lineCount T)
-      → now ≡ after v (written (page T) lent) lent → PageWritten T lent r now
+  answered : {v : Verdict} → v ≡ answer T R (writingPage (length lent)) → {r : PageAnswer} {now : List ℕ} → r ≡ pageAnswer v (lineCount T)
+      → now ≡ after v (written (page T) lent) lent → PageWritten T R lent r now
   answered e f g = record {
     answers = f ∙ ap (λ (x : Verdict). pageAnswer x (lineCount T)) e;
     stored = g ∙ ap (λ (x : Verdict). after x (written (page T) lent) lent) e;
   }
 
   -- a check of the report refuses
-  pub refused-answers : {r : Refusal} → checked ≡ Verdict.Refused r → PageWritten T lent (PageAnswer.Refused r) lent
-  refused-answers f = answered (call-refused T (writingPage (length lent)) first-none before f) refl refl
+  pub refused-answers : {r : Refusal} → checked ≡ Verdict.Refused r → PageWritten T R lent (PageAnswer.Refused r) lent
+  refused-answers f = answered (call-refused T R (writingPage (length lent)) first-none before f) refl refl
 
   module _ (passed : checked ≡ Verdict.Accepted) {permits columns : List ℕ} (C : Columns T permits columns) {lines : ℕ}
       (counted : lines ≡ permittedCount permits ((1 * 2 ^ T .features) % 2 ^ 64)) where
@@ -101,14 +102,14 @@ module _ (T : Tables) {checked : Verdict} (before : checked ≡ reportCheck T) (
         counted ∙ ap (permittedCount permits) all ∙ rows-count (C .formed) (C .permitting) (C .shows) ∙ sym (line-count T)
 
     module _ {late : Verdict} (own : late ≡ refuseIf (ltb (length lent) (73 * lines)) (refusal 23 0 0 0)) where
-      verdict : late ≡ answer T (writingPage (length lent))
+      verdict : late ≡ answer T R (writingPage (length lent))
       verdict =
           own ∙ ap (λ (k : ℕ). refuseIf (ltb (length lent) (73 * k)) (refusal 23 0 0 0)) lines-are
           ∙ sym (first-one (ltb (length lent) (73 * lineCount T)) (refusal 23 0 0 0))
-          ∙ call-late T (writingPage (length lent)) first-none before passed
+          ∙ call-late T R (writingPage (length lent)) first-none before passed
 
       -- the answer, where the bytes are what the verdict leaves
-      pub late-answers : {r : PageAnswer} {now : List ℕ} → r ≡ pageAnswer late lines → now ≡ after late (written (page T) lent) lent → PageWritten T lent r now
+      pub late-answers : {r : PageAnswer} {now : List ℕ} → r ≡ pageAnswer late lines → now ≡ after late (written (page T) lent) lent → PageWritten T R lent r now
       late-answers e g = answered verdict (e ∙ ap (pageAnswer late) lines-are) g
 
       module _ (f : late ≡ Verdict.Accepted) where

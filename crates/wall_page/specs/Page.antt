@@ -13,6 +13,7 @@ use Rattle.report.specs.Verdicts.{refusal, after, Condition, _gives_}
 use Rattle.report.specs.Checks.{isTypingFault}
 use Rattle.report.specs.Calls.{Call, answer}
 use Rattle.report.specs.declared.Verdict.{Verdict}
+use Rattle.report.specs.declared.Reading.{Reading}
 use Rattle.printing.specs.Page.{page}
 use Rattle.wall_page.specs.declared.PageAnswer.{PageAnswer}
 
@@ -33,19 +34,19 @@ abbrev pub pageAnswer : Verdict → ℕ → PageAnswer
 pageAnswer Verdict.Accepted lines = PageAnswer.Lines lines
 pageAnswer (Verdict.Refused r) lines = PageAnswer.Refused r
 
-module _ (T : Tables) (lent : List ℕ) where
+module _ (T : Tables) (R : Reading) (lent : List ℕ) where
   -- what the call answers, with these bytes lent
   abbrev pub pageGives : PageAnswer
-  pageGives = pageAnswer (answer T (writingPage (length lent))) (lineCount T)
+  pageGives = pageAnswer (answer T R (writingPage (length lent))) (lineCount T)
 
   -- the bytes afterwards: the page and what stood after it, or unchanged
   abbrev pub pageAfter : List ℕ
-  pageAfter = after (answer T (writingPage (length lent))) (written (page T) lent) lent
+  pageAfter = after (answer T R (writingPage (length lent))) (written (page T) lent) lent
 
 -- the promise of `write_page`
-pub record PageWritten (T : Tables) (lent : List ℕ) (r : PageAnswer) (bytes : List ℕ) : Type 0 where
-  pub answers : r ≡ pageGives T lent
-  pub stored : bytes ≡ pageAfter T lent
+pub record PageWritten (T : Tables) (R : Reading) (lent : List ℕ) (r : PageAnswer) (bytes : List ℕ) : Type 0 where
+  pub answers : r ≡ pageGives T R lent
+  pub stored : bytes ≡ pageAfter T R lent
 
 -- an answer that is a typing fault
 abbrev pub isPageFault : PageAnswer → Bool

@@ -3,6 +3,7 @@ use judging::COLUMN_WORDS;
 use judging::check_into_columns;
 use printing::put_page;
 use report::Head;
+use report::Reading;
 use report::Refusal;
 use report::Verdict;
 use sets::Row;
@@ -48,9 +49,10 @@ fn page_answer(verdict: Verdict, lines: usize) -> PageAnswer
     }
 }
 
-// Writes the page of the report of these tables to the start of `page`.
+// Writes the page of the report of these tables, in the reading, to the start of `page`.
 pub fn write_page(
     head: Head,
+    reading: Reading,
     expressions: &[u16],
     entries: &[u16],
     relations: &[u16],
@@ -62,11 +64,12 @@ pub fn write_page(
     ensures { λ r.
         ⌜ PageWritten
         (tablesUnder head (now (expressions .entry)) (now (entries .entry)) (now (relations .entry)) (now (comparisons .entry))
-        (now (queries .entry)) (now (kinds .entry))) (now (page .entry)) r (now (page .exit)) ⌝ }
+        (now (queries .entry)) (now (kinds .entry))) reading (now (page .entry)) r (now (page .exit)) ⌝ }
 {
     let mut columns = [0; COLUMN_WORDS];
     let judged = check_into_columns(
         head,
+        reading,
         expressions,
         entries,
         relations,

@@ -8,7 +8,7 @@ use Rattle.finding.specs.Finding.{finding, lowestWanted, foundAnswer}
 use Rattle.worked_examples.specs.FindExamples.{FindExample, findExamples}
 
 abbrev found : FindExample → FindAnswer
-found e = foundAnswer (answer (e .of) (finding (e .wanted))) (lowestWanted (e .of) (e .wanted))
+found e = foundAnswer (answer (e .of) (e .reading) (finding (e .wanted))) (lowestWanted (e .of) (e .wanted))
 
 pub find-examples-hold : map found findExamples ≡ map (λ (e : FindExample). e .gives) findExamples
 unfolding computed lowestWanted

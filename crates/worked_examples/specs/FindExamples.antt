@@ -1,22 +1,27 @@
--- docs/FORMAT.md, "Finding in H1" and cases more, as one list: one or more for each sentence of Wish 1 (docs/ARCHITECTURE.md). Their theorem is
+-- docs/FORMAT.md, "Finding in H1" and cases more, as one list: one or more for each sentence of Wish 1, and the reading of Wish 7 (docs/ARCHITECTURE.md). Their theorem is
 -- proofs/FindExamplesHold. H1 and its parts: crate report, specs/Examples.
 use Prim.Native.Nat.{ℕ, _-_, _^_}
 use mathlib.Core.List.{List, [], _∷_}
 use Rattle.report.specs.Tables.{Tables}
 use Rattle.report.specs.Expressions.{tablesOf}
 use Rattle.report.specs.Verdicts.{refusal}
-use Rattle.report.specs.Examples.{moments, harbour, h1Expressions, h1Entries, h1Queries, h1}
+use Rattle.report.specs.Examples.{moments, harbour, h1Expressions, h1Entries, h1Queries, h1, h10}
+use Rattle.report.specs.declared.Reading.{Reading}
 use Rattle.finding.specs.declared.FindAnswer.{FindAnswer}
 use Rattle.worked_examples.specs.Harbours.{modelled, plain}
 
--- tables, the wanted set, and the answer
+-- tables, the reading, the wanted set, and the answer
 pub record FindExample : Type 0 where
   pub of : Tables
+  pub reading : Reading
   pub wanted : ℕ
   pub gives : FindAnswer
 
 abbrev example : Tables → ℕ → FindAnswer → FindExample
-example T wanted answer = record { of = T; wanted = wanted; gives = answer }
+example T wanted answer = record { of = T; reading = Reading.Strict; wanted = wanted; gives = answer }
+
+abbrev filled : Tables → ℕ → FindAnswer → FindExample
+filled T wanted answer = record { of = T; reading = Reading.Filled; wanted = wanted; gives = answer }
 
 -- one relation: attribute 0 where feature 0 is on, attribute 1 where it is off
 abbrev apart : Tables
@@ -54,4 +59,9 @@ findExamples =
     -- H9 with 10 features
     ∷ example (h1 10) 5 (FindAnswer.At 2)
     ∷ example (h1 10) 2 FindAnswer.None
+    -- told the reading (Wish 7): H10 has vessel and ramp at 2 and 3, and nothing elsewhere; strictly it is refused
+    ∷ example h10 1 (FindAnswer.Refused (refusal 17 3 0 0))
+    ∷ filled h10 5 (FindAnswer.At 2)
+    ∷ filled h10 2 FindAnswer.None
+    ∷ filled h10 8 (FindAnswer.Refused (refusal 22 0 0 0))
     ∷ []

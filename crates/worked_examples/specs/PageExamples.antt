@@ -1,4 +1,4 @@
--- docs/FORMAT.md, "The page of H1" and cases more, as lists: one or more for each sentence of Wish 3 (docs/ARCHITECTURE.md). Their theorems are
+-- docs/FORMAT.md, "The page of H1" and cases more, as lists: one or more for each sentence of Wish 3, and the reading of Wish 7 (docs/ARCHITECTURE.md). Their theorems are
 -- proofs/PageExamplesHold. H1 and its parts: crate report, specs/Examples.
 use Prim.Native.Nat.{ℕ, _-_, _^_}
 use Prim.Native.String.{String}
@@ -8,7 +8,8 @@ use Rattle.report.specs.Tables.{Tables}
 use Rattle.report.specs.Expressions.{tablesOf}
 use Rattle.report.specs.Text.{bytes}
 use Rattle.report.specs.Verdicts.{refusal}
-use Rattle.report.specs.Examples.{moments, harbour, h1Expressions, h1Entries, h1Queries, h1}
+use Rattle.report.specs.Examples.{moments, harbour, h1Expressions, h1Entries, h1Queries, h1, h10}
+use Rattle.report.specs.declared.Reading.{Reading}
 use Rattle.wall_page.specs.declared.PageAnswer.{PageAnswer}
 use Rattle.worked_examples.specs.Harbours.{modelled, plain}
 
@@ -45,14 +46,18 @@ lineExamples =
 
 -- ---- answers
 
--- tables, the number of bytes lent, and the answer
+-- tables, the reading, the number of bytes lent, and the answer
 pub record AnswerExample : Type 0 where
   pub of : Tables
+  pub reading : Reading
   pub room : ℕ
   pub gives : PageAnswer
 
 abbrev example : Tables → ℕ → PageAnswer → AnswerExample
-example T room answer = record { of = T; room = room; gives = answer }
+example T room answer = record { of = T; reading = Reading.Strict; room = room; gives = answer }
+
+abbrev filled : Tables → ℕ → PageAnswer → AnswerExample
+filled T room answer = record { of = T; reading = Reading.Filled; room = room; gives = answer }
 
 abbrev pub answerExamples : List AnswerExample
 answerExamples =
@@ -73,6 +78,10 @@ answerExamples =
     -- H9 with 10 features: 1,024 lines
     ∷ example (h1 10) 74752 (PageAnswer.Lines 1024)
     ∷ example (h1 10) 74751 (PageAnswer.Refused (refusal 23 0 0 0))
+    -- told the reading (Wish 7): H10, which is refused strictly
+    ∷ example h10 292 (PageAnswer.Refused (refusal 17 3 0 0))
+    ∷ filled h10 292 (PageAnswer.Lines 4)
+    ∷ filled h10 291 (PageAnswer.Refused (refusal 23 0 0 0))
     ∷ []
 
 -- ---- what stands in the bytes lent afterwards

@@ -1,11 +1,12 @@
--- Accepted reports with all words of their column rows, as one list: W1 of docs/FORMAT.md, "Worked examples", and cases of document 02's second, fourth
--- and fifth wish. Their theorem is proofs/RowExamplesHold. H1 to H10, what is refused, configured or printed, and the tables that cases are made of: crate
+-- Accepted reports with all words of their column rows, as one list: W1 of docs/FORMAT.md, "Worked examples", and cases of document 02's second,
+-- fourth, fifth and seventh wish. Their theorem is proofs/RowExamplesHold. H1 to H10, what is refused, configured or printed, and the tables that cases are made of: crate
 -- report, specs/Examples.
 use mathlib.Core.List.{List, [], _∷_, _++_}
 use lib.ListN.{replicate}
 use Rattle.report.specs.Tables.{Tables}
 use Rattle.report.specs.Expressions.{tablesOf}
-use Rattle.report.specs.Examples.{Outcome, Example, _gives_, checked, moments, h1Expressions, h1Entries, h1Queries, guarded}
+use Rattle.report.specs.Examples.{Outcome, Example, _gives_, checked, checkedFilled, moments, harbour, h1, h1Expressions, h1Entries, h1Queries, guarded}
+use Rattle.report.specs.Examples.{swapsAlone, swapsWhere, rampListed}
 use Rattle.report.specs.Examples.{ramps, rampTwice, rampProjected, quay}
 use Rattle.report.specs.Examples.{arrivals, kinds012, arrivalByCount, arrivalBy, passengersBy, alwaysWords}
 
@@ -60,4 +61,13 @@ rowExamples =
     -- a report with no comparisons is judged as before
     ∷ (checked (tablesOf 2 3 0 h1Expressions (h1Entries 2) (0 ∷ 3 ∷ []) [] h1Queries kinds012)
     gives Outcome.rows (15 ∷ replicate 31 0 ++ 12 ∷ replicate 991 0))
+    -- The seventh wish. An absent relation counts as empty: the berth where swaps are on. One that is reached nowhere
+    ∷ (checkedFilled (swapsAlone (1 ∷ 0 ∷ 0 ∷ 0 ∷ [])) gives Outcome.rows (10 ∷ replicate 1023 0))
+    ∷ (checkedFilled (swapsWhere 5) gives Outcome.rows (replicate 1024 0))
+    -- a projected attribute is dropped where its operand lacks it; so is one that is listed twice, and found for one reason only
+    ∷ (checkedFilled (rampListed 1 (1 ∷ 0 ∷ []) 1) gives Outcome.rows (replicate 16 0 ++ 10 ∷ replicate 1007 0))
+    ∷ (checkedFilled (rampListed 1 (1 ∷ 1 ∷ 1 ∷ 3 ∷ []) 2) gives Outcome.rows (replicate 16 0 ++ 10 ∷ replicate 1007 0))
+    -- H2, which is refused strictly; H1, with equal rows
+    ∷ (checkedFilled (harbour 2 h1Expressions (h1Entries 1) h1Queries) gives Outcome.rows (15 ∷ replicate 31 0 ++ 8 ∷ replicate 991 0))
+    ∷ (checkedFilled (h1 2) gives Outcome.rows (15 ∷ replicate 31 0 ++ 12 ∷ replicate 991 0))
     ∷ []

@@ -1,5 +1,5 @@
 //! Writes a harbour file: arguments are a seed and a family (accepted, fault,
-//! several, full, small, repeats, wall, compared, few, any, damaged).
+//! several, full, small, repeats, wall, compared, few, filled, any, damaged).
 
 use std::io::{self, Write};
 use std::process::ExitCode;
@@ -7,7 +7,7 @@ use std::process::ExitCode;
 use reference::generate;
 
 const USAGE: &str =
-    "usage: generate SEED accepted|fault|several|full|small|repeats|wall|compared|few|any|damaged";
+    "usage: generate SEED accepted|fault|several|full|small|repeats|wall|compared|few|filled|any|damaged";
 
 fn main() -> ExitCode {
     let arguments: Vec<String> = std::env::args().skip(1).collect();

@@ -11,7 +11,7 @@ fn main() -> ExitCode {
     let arguments: Vec<String> = std::env::args().skip(1).collect();
     let [folder] = &arguments[..] else {
         eprintln!("usage: hand_cases FOLDER");
-        eprintln!("FOLDER is reference/cases. Writes NAME.txt and NAME.notes there, for find, repeats, page, exactly-one, kinds and few.");
+        eprintln!("FOLDER is reference/cases. Writes NAME.txt and NAME.notes there, for find, repeats, page, exactly-one, kinds, few and filled.");
         return ExitCode::FAILURE;
     };
     match write_all(Path::new(folder)) {

@@ -16,7 +16,7 @@ fn main() -> ExitCode {
         eprintln!("usage: make_vectors ROOT");
         eprintln!("ROOT is the repository. Writes crates/vectors/args, data/ and stdout there, from the seed {SEED},");
         eprintln!(
-            "and beside each file of examples/ its print and its page, NAME.print and NAME.page."
+            "and beside each file of examples/ its print and its page, NAME.print and NAME.page; of examples/email/ the print alone."
         );
         return ExitCode::FAILURE;
     };
@@ -34,10 +34,13 @@ fn main() -> ExitCode {
 
 fn write_all(root: &Path) -> io::Result<usize> {
     let examples = vectors::examples(root)?;
-    for Vector { name, text } in &examples {
+    for example in &examples {
+        let Vector { name, text } = example;
         let beside = |end: &str| root.join("examples").join(format!("{name}.{end}"));
         fs::write(beside("print"), print_file(text))?;
-        fs::write(beside("page"), page_file(text))?;
+        if example.has_page() {
+            fs::write(beside("page"), page_file(text))?;
+        }
     }
     let cases = vectors::all(&examples);
     let folder = root.join("crates/vectors");

@@ -5,6 +5,7 @@
 use super::page::lines;
 use super::{aimed, check, configure, find, page, set, Aimed};
 use crate::check::ROWS;
+use crate::reading::Reading;
 use crate::small::Case;
 use crate::tables::{Tables, COUNT, MOMENT};
 use crate::tables::{CHOICE, EMPTY, PRODUCT, PROJECT, RELATION, SELECT, UNION};
@@ -993,10 +994,7 @@ fn paging() -> Vec<Aimed> {
         aimed(
             "3 to 7 permitted, form 1 fails at 7 and form 2 at 3, rows of 1,023 words",
             "refused 11 0 0 0",
-            Case::Check {
-                tables: stacked(&[(17, 7), (16, 3)]),
-                room: ROWS - 1,
-            },
+            Case::check(stacked(&[(17, 7), (16, 3)]), Reading::Strict, ROWS - 1),
         ),
     ]
 }

@@ -2,7 +2,10 @@
 //! `tests/kinds.rs` says which wrong program is told by which case.
 
 use super::page::lines;
-use super::{aimed, asking, check, configure, find, harbour, page, set, under, Aimed};
+use super::{
+    aimed, asking, check, configure, configure_with, find, harbour, page, set, under, Aimed,
+};
+use crate::reading::Reading;
 use crate::small::{Case, H1};
 use crate::tables::{Tables, COUNT, MOMENT, NAME};
 
@@ -103,7 +106,7 @@ pub fn with_kinds(kinds: &[u16], tables: Tables) -> Tables {
 
 /// A check with so many words of rows.
 fn check_with(note: &'static str, answer: &'static str, tables: Tables, room: usize) -> Aimed {
-    aimed(note, answer, Case::Check { tables, room })
+    aimed(note, answer, Case::check(tables, Reading::Strict, room))
 }
 
 /// A text, and what is printed for it.
@@ -763,7 +766,7 @@ fn configured() -> Vec<Aimed> {
 fn refused_configuring() -> Vec<Aimed> {
     let at_9 = |note, answer, tables| {
         let room = [0; 4];
-        aimed(note, answer, Case::Configure { tables, c: 9, room })
+        configure_with(note, answer, tables, 9, room)
     };
     vec![
         at_9(

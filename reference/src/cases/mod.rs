@@ -7,6 +7,7 @@
 
 pub(crate) mod exactly_one;
 mod few;
+mod filled;
 mod find;
 pub(crate) mod kinds;
 pub(crate) mod page;
@@ -14,6 +15,7 @@ mod repeats;
 
 use crate::check::ROWS;
 use crate::file;
+use crate::reading::Reading;
 use crate::small::{self, Case, H1};
 use crate::tables::Tables;
 
@@ -28,7 +30,7 @@ pub struct File {
 }
 
 /// All files.
-pub const FILES: [File; 6] = [
+pub const FILES: [File; 7] = [
     File {
         name: "find",
         first: 1001,
@@ -58,6 +60,11 @@ pub const FILES: [File; 6] = [
         name: "few",
         first: 6001,
         cases: few::cases,
+    },
+    File {
+        name: "filled",
+        first: 7001,
+        cases: filled::cases,
     },
 ];
 
@@ -110,21 +117,47 @@ fn aimed(note: impl Into<String>, answer: impl Into<String>, case: Case) -> Aime
 }
 
 fn check(note: impl Into<String>, answer: impl Into<String>, tables: Tables) -> Aimed {
-    aimed(note, answer, Case::Check { tables, room: ROWS })
+    aimed(note, answer, Case::check(tables, Reading::Strict, ROWS))
 }
 
 /// With as much room as the source has.
 fn configure(note: &'static str, answer: &'static str, tables: Tables, c: u64) -> Aimed {
     let room = [1, 2, 3, 4].map(|table| tables.words(table).len());
-    aimed(note, answer, Case::Configure { tables, c, room })
+    configure_with(note, answer, tables, c, room)
+}
+
+fn configure_with(
+    note: &'static str,
+    answer: &'static str,
+    tables: Tables,
+    c: u64,
+    room: [usize; 4],
+) -> Aimed {
+    let case = Case::Configure {
+        tables,
+        reading: Reading::Strict,
+        c,
+        room,
+    };
+    aimed(note, answer, case)
 }
 
 fn find(note: &'static str, answer: &'static str, tables: Tables, wanted: u64) -> Aimed {
-    aimed(note, answer, Case::Find { tables, wanted })
+    let case = Case::Find {
+        tables,
+        reading: Reading::Strict,
+        wanted,
+    };
+    aimed(note, answer, case)
 }
 
 fn page(note: &'static str, answer: impl Into<String>, tables: Tables, room: usize) -> Aimed {
-    aimed(note, answer, Case::Page { tables, room })
+    let case = Case::Page {
+        tables,
+        reading: Reading::Strict,
+        room,
+    };
+    aimed(note, answer, case)
 }
 
 // Steps

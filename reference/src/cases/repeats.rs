@@ -1,6 +1,7 @@
 //! The cases of `cases/repeats.txt`: an attribute more than once in a list.
 
 use super::{aimed, asking, check, configure, find, harbour, set, under, Aimed};
+use crate::reading::Reading;
 use crate::small::Case;
 use crate::tables::Tables;
 
@@ -437,6 +438,7 @@ fn configured_lists() -> Vec<Aimed> {
     let twice = yard(&[[0, TRUE], [0, TRUE]]);
     let short = Case::Configure {
         tables: twice,
+        reading: Reading::Strict,
         c: 0,
         room: [2, 2, 0, 4],
     };

@@ -8,6 +8,7 @@ use crate::check::{self, ROWS};
 use crate::expression;
 use crate::form;
 use crate::random::Random;
+use crate::reading::Reading;
 use crate::refusal::is_of_typing;
 use crate::tables::{self, Tables, EXACTLY_ONE, MOMENT, RANGES, WIDTHS, WITH_CONSTANT};
 use crate::typing;
@@ -89,7 +90,7 @@ fn apply_of_typing(limit: &Limit) -> fn(&mut Random, &mut Tables) -> Option<()> 
 /// Is the configuration that typing names another than the first that fails?
 pub fn is_crossed(tables: &Tables) -> bool {
     let mut rows = [0; ROWS];
-    let Err(refusal) = check::check(tables, &mut rows) else {
+    let Err(refusal) = check::check(tables, Reading::Strict, &mut rows) else {
         return false;
     };
     if !is_of_typing(refusal.number) {
@@ -154,10 +155,15 @@ fn gets_to_typing(tables: &Tables) -> bool {
     number == 0 || is_of_typing(number)
 }
 
-/// The number of the refusal when checking, 0 when accepted.
+/// The number of the refusal when checking strictly, 0 when accepted.
 pub fn outcome(tables: &Tables) -> u64 {
+    outcome_in(tables, Reading::Strict)
+}
+
+/// The same in either reading.
+pub fn outcome_in(tables: &Tables, reading: Reading) -> u64 {
     let mut rows = [0; ROWS];
-    match check::check(tables, &mut rows) {
+    match check::check(tables, reading, &mut rows) {
         Ok(()) => 0,
         Err(refusal) => refusal.number,
     }

@@ -3,12 +3,14 @@
 //! and at the first, the last or another permitted configuration.
 
 mod conditions;
+mod filled;
 mod steps;
 
 use super::kinds;
 use crate::random::Random;
 use crate::refusal::TYPING;
 use crate::tables::{Tables, CHOICE, PROJECT, SELECT};
+pub use filled::{filled, small_filled};
 
 /// Numbers of permitted configurations: 2^n − 1, 2^n and 2^n + 1.
 pub const COUNTS: [u64; 27] = [

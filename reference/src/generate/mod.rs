@@ -6,6 +6,7 @@ mod damage;
 mod fault;
 mod feature_ranges;
 mod few;
+mod filled;
 mod kinds;
 mod mutate;
 mod repeat;
@@ -15,7 +16,9 @@ mod wanted;
 
 pub use build::Size;
 pub use damage::{damage, lengthened};
-pub use fault::{is_crossed, lengths_are_sound, more_comparisons, outcome, Limit, LIMITS};
+pub use fault::{
+    is_crossed, lengths_are_sound, more_comparisons, outcome, outcome_in, Limit, LIMITS,
+};
 pub use few::{COUNTS, FORMS};
 pub use mutate::mutate;
 pub use repeat::{delay, has_repeat, most_often, without_repeats, Kept};
@@ -51,6 +54,9 @@ pub enum Family {
     /// Exactly so many permitted configurations and forms, few or many; accepted or with
     /// typing faults.
     Few,
+    /// Reports without some of the schema's conditions: what the filled reading fills in,
+    /// and what it refuses.
+    Filled,
 }
 
 /// The family of a name.
@@ -65,6 +71,7 @@ pub fn family_of(name: &str) -> Option<Family> {
         "wall" => Some(Family::Wall),
         "compared" => Some(Family::Compared),
         "few" => Some(Family::Few),
+        "filled" => Some(Family::Filled),
         _ => None,
     }
 }
@@ -80,7 +87,8 @@ pub fn text_of(seed: u64, tables: &Tables) -> Vec<u8> {
 
 /// A case of a family chosen by the seed.
 pub fn case(seed: u64) -> Tables {
-    let family = match Random::new(!seed).below(100) {
+    let mut random = Random::new(!seed);
+    let family = match random.below(100) {
         0..=47 => Family::Accepted,
         48..=50 => Family::Few,
         51..=53 => Family::Compared,
@@ -91,7 +99,12 @@ pub fn case(seed: u64) -> Tables {
         91..=92 => Family::Repeats,
         _ => Family::Small,
     };
-    of_family(family, seed)
+    // By a draw of its own: all other seeds give what they gave before there was this
+    // family.
+    match random.chance(1, 20) {
+        true => filled(seed),
+        false => of_family(family, seed),
+    }
 }
 
 /// A case of the given family.
@@ -106,6 +119,7 @@ pub fn of_family(family: Family, seed: u64) -> Tables {
         Family::Wall => wall(seed),
         Family::Compared => compared(seed),
         Family::Few => few(seed),
+        Family::Filled => filled(seed),
     }
 }
 
@@ -194,6 +208,12 @@ pub fn few(seed: u64) -> Tables {
     few::tables(&mut Random::new(seed))
 }
 
+/// Tables without some of the schema's conditions. They get as far as typing; each reading
+/// accepts or refuses them.
+pub fn filled(seed: u64) -> Tables {
+    filled::tables(&mut Random::new(seed))
+}
+
 /// Tables with columns of more than one kind, as far as some tries give it, accepted or
 /// with a fault that has to do with kinds.
 pub fn compared(seed: u64) -> Tables {
@@ -277,6 +297,12 @@ pub fn small_limit(random: &mut Random, limit: &Limit) -> Tables {
         }
     }
     small_refused(random, limit.number)
+}
+
+/// Small tables that the filled reading refuses by the number of a typing fault, or, by 0,
+/// accepts, as far as some tries give it. Most are judged otherwise by the strict one.
+pub fn small_filled(random: &mut Random, number: u64) -> Tables {
+    filled::small(random, number)
 }
 
 /// The bounds of a small case. Heads may be over, when 1 or 4 is the matter.

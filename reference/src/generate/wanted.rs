@@ -4,6 +4,7 @@ use super::build::{below, bits};
 use crate::check::{self, Accepted};
 use crate::expression::{self, Permitted};
 use crate::random::Random;
+use crate::reading::Reading;
 use crate::tables::{Tables, MOST_ATTRIBUTES};
 use crate::typing::{self, Set};
 
@@ -56,11 +57,11 @@ const SHARES: [Answer; 11] = [
     Answer::Open,
 ];
 
-/// A wanted set for the tables. The answer is chosen before the aim, so that no
+/// A wanted set for the tables in a reading. The answer is chosen before the aim, so that no
 /// answer is rare; refused tables get sets of which nothing but m is known, many
 /// of them with a bit at or above m.
-pub fn wanted(random: &mut Random, tables: &Tables) -> u64 {
-    let report = Report::of(tables);
+pub fn wanted(random: &mut Random, tables: &Tables, reading: Reading) -> u64 {
+    let report = Report::of(tables, reading);
     loop {
         let answer = random.pick(&SHARES);
         let mut aims: Vec<&Aim> = AIMS.iter().filter(|aim| aim.answer == answer).collect();
@@ -73,8 +74,8 @@ pub fn wanted(random: &mut Random, tables: &Tables) -> u64 {
 }
 
 /// A wanted set of the given sort; none when the tables give no occasion.
-pub fn wanted_by(random: &mut Random, tables: &Tables, aim: &Aim) -> Option<u64> {
-    (aim.set)(random, &Report::of(tables))
+pub fn wanted_by(random: &mut Random, tables: &Tables, reading: Reading, aim: &Aim) -> Option<u64> {
+    (aim.set)(random, &Report::of(tables, reading))
 }
 
 /// All sorts of wanted sets. Columns are those that the report has.
@@ -155,8 +156,8 @@ struct Report<'a> {
 }
 
 impl Report<'_> {
-    fn of(tables: &Tables) -> Report<'_> {
-        let accepted = check::accepted(tables).ok();
+    fn of(tables: &Tables, reading: Reading) -> Report<'_> {
+        let accepted = check::accepted(tables, reading).ok();
         Report { tables, accepted }
     }
 

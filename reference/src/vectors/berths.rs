@@ -4,6 +4,7 @@
 use super::Vector;
 use crate::configure;
 use crate::file::{read_file, write_file};
+use crate::reading::Reading;
 use crate::small::H1;
 use crate::tables::{Tables, WIDTHS};
 
@@ -80,8 +81,13 @@ fn schema_with(queries: &[[u16; 4]]) -> Tables {
 fn h4() -> Tables {
     let source = h1();
     let mut out = [1, 2, 3, 4].map(|table| vec![0; source.words(table).len()]);
-    let counts = configure(&source, 0, out.each_mut().map(Vec::as_mut_slice))
-        .expect("H1 is accepted, and 0 is permitted");
+    let counts = configure(
+        &source,
+        Reading::Strict,
+        0,
+        out.each_mut().map(Vec::as_mut_slice),
+    )
+    .expect("H1 is accepted, and 0 is permitted");
     for (table, words) in out.iter_mut().enumerate() {
         words.truncate(counts[table] * WIDTHS[table + 1]);
     }

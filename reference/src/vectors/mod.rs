@@ -24,6 +24,9 @@ pub use reports::REFUSALS;
 /// The seed of all generated cases.
 pub const SEED: u64 = 5_048_055;
 
+/// The folder of the email product line among the examples.
+const EMAIL: &str = "email/";
+
 /// A harbour file, right or wrong, and its name.
 #[derive(Clone, Debug, PartialEq, Eq)]
 pub struct Vector {
@@ -37,6 +40,12 @@ impl Vector {
             name: name.to_string(),
             text: text.into(),
         }
+    }
+
+    /// Does its page stand beside an example? Those of the email product line, of 256 lines
+    /// each, are left out.
+    pub fn has_page(&self) -> bool {
+        !self.name.starts_with(EMAIL)
     }
 }
 
@@ -53,22 +62,28 @@ pub fn all(examples: &[Vector]) -> Vec<Vector> {
     cases.extend(reports::cases());
     cases.extend(examples.iter().cloned());
     for (number, case) in cases.iter_mut().enumerate() {
-        case.name = format!("{:03}-{}.harbour", number + 1, case.name);
+        let name = case.name.replace('/', "-");
+        case.name = format!("{:03}-{name}.harbour", number + 1);
     }
     cases
 }
 
-/// The harbour files of the repository's folder `examples`, by name.
+/// The harbour files of the repository's folder `examples`, by name, and then those of the
+/// folder `email` in it, whose names begin with `email/`.
 pub fn examples(root: &Path) -> io::Result<Vec<Vector>> {
     let mut examples = Vec::new();
-    for file in fs::read_dir(root.join("examples"))? {
-        let path = file?.path();
-        let name = path.file_name().and_then(|name| name.to_str());
-        if let Some(name) = name.and_then(|name| name.strip_suffix(".harbour")) {
-            examples.push(Vector::new(name, fs::read(&path)?));
+    for folder in ["", EMAIL] {
+        let mut files = Vec::new();
+        for file in fs::read_dir(root.join("examples").join(folder))? {
+            let path = file?.path();
+            let name = path.file_name().and_then(|name| name.to_str());
+            if let Some(name) = name.and_then(|name| name.strip_suffix(".harbour")) {
+                files.push(Vector::new(&format!("{folder}{name}"), fs::read(&path)?));
+            }
         }
+        files.sort_unstable_by(|one, other| one.name.cmp(&other.name));
+        examples.append(&mut files);
     }
-    examples.sort_unstable_by(|one, other| one.name.cmp(&other.name));
     Ok(examples)
 }
 

@@ -25,6 +25,11 @@ pub fn few(seed: u64) -> Tables {
     once(&MADE, generate::few, seed)
 }
 
+pub fn filled(seed: u64) -> Tables {
+    static MADE: Made = NONE;
+    once(&MADE, generate::filled, seed)
+}
+
 pub fn full(seed: u64) -> Tables {
     static MADE: Made = NONE;
     once(&MADE, generate::full, seed)

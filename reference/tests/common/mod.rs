@@ -1,6 +1,7 @@
 //! Steps that several tests share.
 
 pub mod few_readings;
+pub mod filled_trees;
 pub mod kind_readings;
 pub mod made;
 pub mod readings;
@@ -9,7 +10,9 @@ use reference::check::ROWS;
 use reference::file::read_file;
 use reference::page::LINE;
 use reference::small::H1;
-use reference::{check, configure, expression, form, page, plain, tables, Refusal, Tables};
+use reference::{
+    check, configure, expression, form, page, plain, tables, Reading, Refusal, Tables,
+};
 
 /// A word that no answer holds by chance.
 pub const LENT_ROW: u64 = 0xA5A5_5A5A_0FF0_1234;
@@ -34,26 +37,49 @@ pub fn checked(tables: &Tables) -> Result<Vec<u64>, Refusal> {
     checked_with(tables, ROWS)
 }
 
+/// The same in either reading; what names no reading here is strict.
+pub fn checked_in(tables: &Tables, reading: Reading) -> Result<Vec<u64>, Refusal> {
+    lent_rows(tables, reading, ROWS)
+}
+
 /// Checks with rows of any length; a refused call must leave them.
 pub fn checked_with(tables: &Tables, room: usize) -> Result<Vec<u64>, Refusal> {
+    lent_rows(tables, Reading::Strict, room)
+}
+
+fn lent_rows(tables: &Tables, reading: Reading, room: usize) -> Result<Vec<u64>, Refusal> {
     let mut rows = vec![LENT_ROW; room];
-    let answer = check(tables, &mut rows);
+    let answer = check(tables, reading, &mut rows);
     if answer.is_err() {
         assert!(rows.iter().all(|&word| word == LENT_ROW));
     }
     answer.map(|()| rows)
 }
 
+/// The counts and the lent tables.
+type Configured = ([usize; 4], [Vec<u16>; 4]);
+
 /// Configures with the given room; a refused call must leave all words. The
 /// answer is the counts and the lent tables.
-pub fn configured_with(
+pub fn configured_with(tables: &Tables, c: u64, room: [usize; 4]) -> Result<Configured, Refusal> {
+    configured_in(tables, Reading::Strict, c, room)
+}
+
+/// The same in either reading.
+pub fn configured_in(
     tables: &Tables,
+    reading: Reading,
     c: u64,
     room: [usize; 4],
-) -> Result<([usize; 4], [Vec<u16>; 4]), Refusal> {
+) -> Result<Configured, Refusal> {
     let mut out = room.map(|words| vec![LENT_WORD; words]);
     let [entries, relations, comparisons, queries] = &mut out;
-    let answer = configure(tables, c, [entries, relations, comparisons, queries]);
+    let answer = configure(
+        tables,
+        reading,
+        c,
+        [entries, relations, comparisons, queries],
+    );
     if answer.is_err() {
         assert!(out.iter().flatten().all(|&word| word == LENT_WORD));
     }
@@ -62,7 +88,7 @@ pub fn configured_with(
 
 /// The plain tables that configuring wrote, with their fixed head and expression. The
 /// words after them must be left.
-pub fn written(tables: &Tables, (counts, out): ([usize; 4], [Vec<u16>; 4])) -> Tables {
+pub fn written(tables: &Tables, (counts, out): Configured) -> Tables {
     let words = |table: usize| {
         let (words, rest) = out[table - 1].split_at(counts[table - 1] * tables::WIDTHS[table]);
         assert!(rest.iter().all(|&word| word == LENT_WORD));
@@ -85,11 +111,16 @@ pub fn written(tables: &Tables, (counts, out): ([usize; 4], [Vec<u16>; 4])) -> T
 /// any call those after the lines. The answer is the bytes of the lines.
 pub fn paged_with(tables: &Tables, room: usize) -> Result<Vec<u8>, Refusal> {
     let mut lent = vec![LENT_BYTE; room];
-    let answer = page(tables, &mut lent);
+    let answer = page(tables, Reading::Strict, &mut lent);
     let written = answer.map_or(0, |lines| LINE * lines);
     assert!(lent[written..].iter().all(|&byte| byte == LENT_BYTE));
     lent.truncate(written);
     answer.map(|_| lent)
+}
+
+/// Finds a configuration with the wanted attributes.
+pub fn find(tables: &Tables, wanted: u64) -> Result<Option<u64>, Refusal> {
+    reference::find(tables, Reading::Strict, wanted)
 }
 
 /// The words of tables 1 to 4.

@@ -6,12 +6,12 @@ use Rattle.checking.proofs.check.Statement.{statement}
 use Rattle.checking.proofs.check.Tie as tie
 
 returns : tie.Need-returns
-returns c = forms-refuse _ _ (c .before .before .check-forms .ensures) (c .enum-told .given .1)
+returns c = forms-refuse _ _ _ (c .before .before .check-forms .ensures) (c .enum-told .given .1)
 
 returns-2 : tie.Need-returns-2
 returns-2 c =
     let t = c .before .before in
-    rows-refuse _ _ (t .before .before .check-forms .ensures) (t .enum-told2 .given .1) (c .refuse .ensures) (c .before .if1 .taken)
+    rows-refuse _ _ _ (t .before .before .check-forms .ensures) (t .enum-told2 .given .1) (c .refuse .ensures) (c .before .if1 .taken)
 
 check-meaning-requires : tie.Need-check-meaning-requires
 check-meaning-requires c κs =
@@ -24,7 +24,7 @@ returns-3 c =
     let m = c .before .before in
     let i = m .before .before in
     let t = i .before in
-    meaning-answers _ _ (t .before .before .check-forms .ensures) (t .enum-told2 .given .1) (i .if1 .left) (m .check-meaning .ensures)
+    meaning-answers _ _ _ (t .before .before .check-forms .ensures) (t .enum-told2 .given .1) (i .if1 .left) (m .check-meaning .ensures)
 
 pub check-spec : {M : Type 1} → statement M
 check-spec =

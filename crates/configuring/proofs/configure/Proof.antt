@@ -32,7 +32,7 @@ returns : tie.Need-returns
 returns c =
     let y = refused c in
     let a = start y .args in
-    report-refuses (tables y) (a .c) (a .new-entries .now) (a .new-relations .now) (a .new-comparisons .now) (a .new-queries .now)
+    report-refuses (tables y) (a .reading) (a .c) (a .new-entries .now) (a .new-relations .now) (a .new-comparisons .now) (a .new-queries .now)
     (y .check-into-rows .ensures .answers) (c .before .checked .given .1)
 
 configure-judged-requires : tie.Need-configure-judged-requires
@@ -47,7 +47,7 @@ returns-2 c =
     let t = told (j .before) in
     let y = checks t in
     let a = start y .args in
-    late-answers (tables y) (a .c) (a .new-entries .now) (a .new-relations .now) (a .new-comparisons .now) (a .new-queries .now)
+    late-answers (tables y) (a .reading) (a .c) (a .new-entries .now) (a .new-relations .now) (a .new-comparisons .now) (a .new-queries .now)
     (y .check-into-rows .ensures .answers) (t .enum-told .given .1)
     (j .configure-judged .ensures (tables y)
     (judged-reads (own-rows (y .check-into-rows .ensures) (t .enum-told .given .1))))

@@ -5,7 +5,7 @@ use Rattle.configuring.proofs.write_entries.Tie as tie
 
 -- places of the code that the needs look back to
 abbrev first : tie.After-write-relation-lists-arg → tie.Start
-first p = p .before .before .before .before .before .before .before .before
+first p = p .before .before .before .before .before .before .before .before .before
 
 abbrev start : tie.After-write-relation-lists → tie.Start
 start l = first (l .before)

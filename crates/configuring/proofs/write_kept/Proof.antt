@@ -1,89 +1,42 @@
 use borrow.Author.Needs.{needs}
 use native.Mathlib.Nat.{le-refl}
-use Rattle.configuring.proofs.WriteLaws.{lists-read, entries-reads, comparisons-read, query-reads, comparison-form-reads, form-reads}
-use Rattle.configuring.proofs.WriteLaws.{entries-writable, relations-writable, comparisons-numberable, comparisons-writable}
-use Rattle.configuring.proofs.WriteLaws.{queries-numberable, queries-writable, same-rooms, tables-left}
+use Rattle.configuring.proofs.WriteLaws.{sets-reads, typed-reads, sets-readable, typed-writable}
 use Rattle.configuring.proofs.write_kept.Statement.{statement}
 use Rattle.configuring.proofs.write_kept.Tie as tie
 
--- from each call back to the one before it
-abbrev first : tie.After-write-entries-arg → tie.Start
+-- places of the code that the needs look back to
+abbrev first : tie.After-form-sets → tie.Start
 first p = p .before .before .before .before .before .before .before .before .before .before .before .before
 
-abbrev start : tie.After-write-entries → tie.Start
-start l = first (l .before)
+abbrev start : tie.After-fill-form-sets → tie.Start
+start p = first (p .before)
 
-abbrev entries : tie.After-write-relation-forms → tie.After-write-entries
-entries r = r .before .before .before .before
+abbrev filled : tie.After-write-with-arg4 → tie.After-fill-form-sets
+filled p = p .before .before .before .before .before .before
 
-abbrev forms : tie.After-number-comparisons → tie.After-write-relation-forms
-forms n = n .before .before .before .before
+abbrev kept : tie.After-slice-known8 → tie.After-write-with
+kept p = p .before .before .before .before .before .before .before .before
 
-abbrev numbers : tie.After-write-comparisons → tie.After-number-comparisons
-numbers w = w .before .before .before .before
-
-abbrev compared : tie.After-number-queries → tie.After-write-comparisons
-compared n = n .before .before .before .before
-
-abbrev number-queries : tie.After-write-queries-arg → tie.After-number-queries
-number-queries p = p .before .before .before .before
-
-abbrev counted : tie.After-write-queries → tie.After-number-queries
-counted w = number-queries (w .before)
-
-write-relation-forms-requires : tie.Need-write-relation-forms-requires
-write-relation-forms-requires c κs = relations-writable (start (c .before .before .before) .pre)
-
-number-comparisons-requires : tie.Need-number-comparisons-requires
-number-comparisons-requires c κs = comparisons-numberable (start (entries (c .before .before .before)) .pre) (le-refl 256)
-
-write-comparisons-requires : tie.Need-write-comparisons-requires
-write-comparisons-requires c κs =
-    let n = c .before .before .before in
-    let W = start (entries (forms n)) .pre in
-    comparisons-writable W (n .number-comparisons .ensures (W .tables) (comparisons-read (W .reads)))
-
-number-queries-requires : tie.Need-number-queries-requires
-number-queries-requires c κs = queries-numberable (start (entries (forms (numbers (c .before .before .before)))) .pre) (le-refl 256)
-
-write-queries-requires : tie.Need-write-queries-requires
-write-queries-requires c κs =
-    let q = number-queries c in
-    let n = numbers (compared q) in
-    let W = start (entries (forms n)) .pre in
-    queries-writable W (n .number-comparisons .ensures (W .tables) (comparisons-read (W .reads)))
-    (q .number-queries .ensures (W .tables) (query-reads (W .reads)))
+write-with-requires : tie.Need-write-with-requires
+write-with-requires c κs =
+    let f = filled c in
+    let W = start f .pre in
+    typed-writable W (f .fill-form-sets .ensures (W .tables) (sets-reads (W .reads)))
 
 returns : tie.Need-returns
 returns c T R =
-    let w = c .before .before in
-    let q = counted w in
-    let k = compared q in
-    let n = numbers k in
-    let r = forms n in
-    let l = entries r in
-    let W = start l .pre in
-    let first-numbers = n .number-comparisons .ensures T (comparisons-read R) in
-    tables-left (R .prepared .formed) (start l .args .c) (same-rooms (W .reads) R (W .rooms)) (l .write-entries .ensures T (entries-reads R))
-    (r .write-relation-forms .ensures T (lists-read R))
-    (k .write-comparisons .ensures T (start l .args .c) (comparison-form-reads R first-numbers))
-    (w .write-queries .ensures T (form-reads R first-numbers (q .number-queries .ensures T (query-reads R))))
+    let w = kept c in
+    let f = filled (w .before) in
+    w .write-with .ensures T (typed-reads R (f .fill-form-sets .ensures T (sets-reads R)))
 
 pub write-kept-spec : {M : Type 1} → statement M
 write-kept-spec =
     tie.close
     (tie.spec
-    (λ c κs. entries-writable (first c .pre))
-    write-relation-forms-requires
     (λ c. search needs)
-    number-comparisons-requires
+    (λ c κs. sets-readable (first c .pre) (le-refl 256))
     (λ c. search needs)
-    write-comparisons-requires
-    (λ c. search needs)
-    number-queries-requires
-    (λ c. search needs)
-    (λ c. search needs)
-    write-queries-requires
+    write-with-requires
     (λ c. search needs)
     (λ c. search needs)
     (λ c. search needs)

@@ -1,8 +1,8 @@
 use borrow.Author.Needs.{needs}
 use Prim.Native.Nat.{_/_, _-_}
 use lib.ListN.{length}
-use Rattle.expression_rows.proofs.RowsFilling.{filling-none}
-use Rattle.fault_rows.proofs.ClashLaws.{ClashesAdding, adding-reach, adding-faults, adding-clash, adding-more, adding-all}
+use Rattle.fault_rows.proofs.ClashLaws.{ClashesAdding, adding-none, adding-length, adding-reach, adding-faults, adding-clash}
+use Rattle.fault_rows.proofs.ClashLaws.{adding-more, adding-all}
 use Rattle.fault_rows.proofs.add_clashes.Statement.{statement}
 use Rattle.fault_rows.proofs.add_clashes.Tie as tie
 
@@ -59,7 +59,7 @@ add-clashes-spec =
     (tie.spec
     Inv-loop
     μ-loop
-    (λ c. filling-none)
+    (λ c. adding-none)
     (λ c κs. search needs)
     load-requires
     clash-row-requires
@@ -69,5 +69,5 @@ add-clashes-spec =
     (λ c. search needs)
     (λ c. search needs)
     loop-again
-    (λ c. c .before .loop .inv .size)
+    (λ c. adding-length (c .before .loop .inv))
     (λ c. adding-all (c .before .loop .inv) (c .loop-test .left)))

@@ -7,45 +7,48 @@ use Rattle.fault_rows.proofs.fill_faults.Statement.{statement}
 use Rattle.fault_rows.proofs.fill_faults.Tie as tie
 
 abbrev Inv-loop : tie.InvT-loop
-Inv-loop scope expressionRows relationEntries projectEntries relations comparisons queries kinds reach faultRows₀ columns₀ items namedRows₀
-    relationRows₀ formRows₀ a₀ faultRows columns namedRows relationRows formRows a =
+Inv-loop scope expressionRows relationEntries projectEntries relations comparisons queries kinds reach faultRows₀ sparedSets₀ columns₀
+    reading namedRows₀ relationRows₀ formRows₀ a₀ faultRows sparedSets columns namedRows relationRows formRows a =
     Arrays namedRows relationRows formRows
-    × Failing scope expressionRows relationEntries projectEntries relations comparisons queries kinds reach faultRows₀ columns₀ faultRows columns a
+    × Failing scope expressionRows relationEntries projectEntries relations comparisons queries kinds reach faultRows₀ sparedSets₀ columns₀ faultRows
+    sparedSets columns a
 
 abbrev μ-loop : tie.MeasureT-loop
-μ-loop scope expressionRows relationEntries projectEntries relations comparisons queries kinds reach faultRows₀ columns₀ items namedRows₀
-    relationRows₀ formRows₀ a₀ faultRows columns namedRows relationRows formRows a =
-    items - a
+μ-loop scope expressionRows relationEntries projectEntries relations comparisons queries kinds reach faultRows₀ sparedSets₀ columns₀
+    reading namedRows₀ relationRows₀ formRows₀ a₀ faultRows sparedSets columns namedRows relationRows formRows a =
+    scope .items - a
 
 -- places of the code that the needs look back to
-abbrev start : tie.After-slice-known2 Inv-loop μ-loop → tie.Start Inv-loop μ-loop
-start p = p .before .before .before .before .before .before .before .before .before .before
+abbrev start : tie.After-slice-known3 Inv-loop μ-loop → tie.Start Inv-loop μ-loop
+start p = p .before .before .before .before .before .before .before .before .before .before .before
 
-abbrev turn : tie.After-fill-relation-rows Inv-loop μ-loop → tie.In-loop Inv-loop μ-loop
+abbrev turn : tie.After-fill-relation-rows Inv-loop μ-loop → tie.Then1 Inv-loop μ-loop
 turn p = p .before .before .before .before .before
 
-abbrev fill-relation-rows : tie.After-type-forms-arg Inv-loop μ-loop → tie.After-fill-relation-rows Inv-loop μ-loop
-fill-relation-rows p = p .before .before .before .before .before
+abbrev fill-relation-rows : tie.After-type-forms-arg2 Inv-loop μ-loop → tie.After-fill-relation-rows Inv-loop μ-loop
+fill-relation-rows p = p .before .before .before .before .before .before
 
 abbrev type-forms : tie.After-store-column-arg Inv-loop μ-loop → tie.After-type-forms Inv-loop μ-loop
-type-forms p = p .before .before .before .before .before
+type-forms p = p .before .before .before .before .before .before .before
 
 fill-gathered-rows-requires : tie.Need-fill-gathered-rows-requires Inv-loop μ-loop
 fill-gathered-rows-requires c κs =
-    let l = c .before .before in
+    let l = c .before .before .before in
     arrays-named (start (l .before) .pre .reads) (l .loop .inv .0)
 
 fill-relation-rows-requires : tie.Need-fill-relation-rows-requires Inv-loop μ-loop
 fill-relation-rows-requires c κs =
-    let l = c .before .before .before .before .before in
+    let l = c .before .before .before .before .before .before in
     arrays-relations (start (l .before) .pre .reads) (l .loop .inv .0)
 
 type-forms-requires : tie.Need-type-forms-requires Inv-loop μ-loop
 type-forms-requires c κs =
     let r = fill-relation-rows c in
     let n = r .before .before .before in
-    let l = turn r .before in
+    let i = turn r in
+    let l = i .before .before in
     failing-forms (start (l .before) .pre) (l .loop .inv .1) (l .loop .inv .0) (n .fill-gathered-rows .ensures) (r .fill-relation-rows .ensures)
+    (i .if1 .taken)
 
 store-column-requires : tie.Need-store-column-requires Inv-loop μ-loop
 store-column-requires c κs =
@@ -53,15 +56,15 @@ store-column-requires c κs =
     let r = fill-relation-rows (t .before) in
     let n = r .before .before .before in
     let i = turn r in
-    let l = i .before in
+    let l = i .before .before in
     failing-column (start (l .before) .pre) (l .loop .inv .1) (l .loop .inv .0) (n .fill-gathered-rows .ensures) (r .fill-relation-rows .ensures)
-    (t .type-forms .ensures) (i .loop-test .taken)
+    (i .if1 .taken) (t .type-forms .ensures)
 
 add-a : tie.Need-add-a Inv-loop μ-loop
 add-a c =
     let i = turn (fill-relation-rows (type-forms (c .before .before .before) .before)) in
-    let m = start (i .before .before) .pre .reads .scoped .bounded .most in
-    let l = i .loop-test .taken in
+    let m = start (i .before .before .before) .pre .reads .scoped .bounded .most in
+    let l = i .if1 .taken in
     omega arith
 
 loop-again : tie.Need-loop-again Inv-loop μ-loop
@@ -71,19 +74,19 @@ loop-again c =
     let r = fill-relation-rows (t .before) in
     let n = r .before .before .before in
     let i = turn r in
-    let l = i .before in (
+    let l = i .before .before in (
       arrays-kept (l .loop .inv .0) (n .fill-gathered-rows .kept .1 .1 .1 .1 .1 .1 .0) (r .fill-relation-rows .kept .1 .1 .1 .1 .0)
-          (t .type-forms .kept .1 .1 .1 .1 .1 .1 .1 .1 .0),
+          (t .type-forms .kept .1 .1 .1 .1 .1 .1 .1 .1 .1 .0),
       failing-more (start (l .before) .pre) (l .loop .inv .1) (l .loop .inv .0) (n .fill-gathered-rows .ensures) (r .fill-relation-rows .ensures)
-          (t .type-forms .ensures) (i .loop-test .taken)
-          (t .type-forms .kept .1 .1 .1 .1 .1 .1 .1 .1 .1 .0)
+          (i .if1 .taken) (t .type-forms .ensures) (t .type-forms .kept .1 .1 .1 .1 .1 .1 .1 .1 .1 .1 .0)
+          (t .type-forms .kept .1 .1 .1 .1 .1 .1 .1 .1 .1 .1 .1 .0)
           (s .store-column .kept .1 .1 .1 .1 .0) (s .store-column .ensures),
     )
 
 returns : tie.Need-returns Inv-loop μ-loop
 returns c =
-    let l = c .before in
-    failing-all (start (l .before) .pre) (l .loop .inv .1) (c .loop-test .left)
+    let l = c .before .before in
+    failing-all (start (l .before) .pre) (l .loop .inv .1) (c .if1 .left)
 
 pub fill-faults-spec : {M : Type 1} → statement M
 fill-faults-spec =
@@ -105,6 +108,7 @@ fill-faults-spec =
     add-a
     (λ c. search needs)
     loop-again
-    (λ c. c .before .loop .inv .1 .size)
-    (λ c. c .before .loop .inv .1 .shown .size)
+    (λ c. c .before .before .loop .inv .1 .size)
+    (λ c. c .before .before .loop .inv .1 .setSize)
+    (λ c. c .before .before .loop .inv .1 .shown .size)
     returns)

@@ -7,48 +7,48 @@ absent-row-requires : tie.Need-absent-row-requires
 absent-row-requires c κs =
     let start = c .before .before .before .before .before .before .before in
     let b = start .pre in
-    b .related _ (rw (c .before .x .given .1) at (b .lower))
+    b .read .related _ (rw (c .before .x .given .1) at (b .read .lower))
 
 load-requires : tie.Need-load-requires
 load-requires c κs =
     let start = c .before .before .before .before .before .before .before in
     let b = start .pre in
-    let l = rw (c .before .x2 .given .1) at (b .lower) in
+    let l = rw (c .before .x2 .given .1) at (b .read .lower) in
     omega arith
 
 missing-row-requires : tie.Need-missing-row-requires
 missing-row-requires c κs =
     let start = c .before .before .before .before .before .before .before .before in
     let b = start .pre in
-    let l = rw (c .before .before .x2 .given .1) at (b .lower) in
+    let l = rw (c .before .before .x2 .given .1) at (b .read .lower) in
     omega arith
 
 missing-row-requires-2 : tie.Need-missing-row-requires-2
 missing-row-requires-2 c κs =
     let start = c .before .before .before .before .before .before .before in
     let b = start .pre in
-    let l = rw (c .before .x3 .given .1) at (b .lower) in
+    let l = rw (c .before .x3 .given .1) at (b .read .lower) in
     omega arith
 
 common-row-requires : tie.Need-common-row-requires
 common-row-requires c κs =
     let start = c .before .before .before .before .before .before .before in
     let b = start .pre in
-    let l = rw (c .before .x4 .given .1) at (b .lower) in
+    let l = rw (c .before .x4 .given .1) at (b .read .lower) in
     omega arith
 
 unequal-row-requires : tie.Need-unequal-row-requires
 unequal-row-requires c κs =
     let start = c .before .before .before .before .before .before .before in
     let b = start .pre in
-    let l = rw (c .before .x5 .given .1) at (b .lower) in
+    let l = rw (c .before .x5 .given .1) at (b .read .lower) in
     omega arith
 
 unequal-row-requires-2 : tie.Need-unequal-row-requires-2
 unequal-row-requires-2 c κs =
     let start = c .before .before .before .before .before .before .before in
     let b = start .pre in
-    let l = rw (c .before .x6 .given .1) at (b .lower) in
+    let l = rw (c .before .x6 .given .1) at (b .read .lower) in
     omega arith
 
 pub form-faults-spec : {M : Type 1} → statement M

@@ -2,36 +2,37 @@ use borrow.Author.Needs.{needs}
 use Prim.Native.Nat.{_/_, _-_}
 use native.Mathlib.Omega.{arith}
 use lib.ListN.{length}
-use Rattle.fault_rows.proofs.TypeLaws.{FormsTyping, typing-none, typing-list, typing-reach, typing-fault, typing-faults, typing-set}
-use Rattle.fault_rows.proofs.TypeLaws.{typing-sets, typing-more, typing-all}
+use Rattle.fault_rows.proofs.TypeLaws.{FormsTyping, typing-none, typing-list, typing-reach, typing-item, typing-set, typing-sets}
+use Rattle.fault_rows.proofs.TypeLaws.{typing-more, typing-all}
 use Rattle.fault_rows.proofs.type_forms.Statement.{statement}
 use Rattle.fault_rows.proofs.type_forms.Tie as tie
 
 abbrev Inv-loop : tie.InvT-loop
-Inv-loop a expressionRows projectEntries relations queries reach namedRows relationRows formRows₀ faultRows₀ count start₀ q₀
-    formRows faultRows start q =
-    FormsTyping expressionRows projectEntries relations queries reach namedRows relationRows a formRows₀ formRows faultRows₀ faultRows q start
+Inv-loop reading a expressionRows projectEntries relations queries reach namedRows relationRows formRows₀ faultRows₀ sparedSets₀ count start₀ q₀
+    formRows faultRows sparedSets start q =
+    FormsTyping reading expressionRows projectEntries relations queries reach namedRows relationRows a formRows₀ formRows faultRows₀ faultRows
+    sparedSets₀ sparedSets q start
 
 abbrev μ-loop : tie.MeasureT-loop
-μ-loop a expressionRows projectEntries relations queries reach namedRows relationRows formRows₀ faultRows₀ count start₀ q₀
-    formRows faultRows start q =
+μ-loop reading a expressionRows projectEntries relations queries reach namedRows relationRows formRows₀ faultRows₀ sparedSets₀ count start₀ q₀
+    formRows faultRows sparedSets start q =
     length queries / 4 - q
 
 -- places of the code that the needs look back to
 abbrev start : tie.In-loop Inv-loop μ-loop → tie.Start Inv-loop μ-loop
-start p = p .before .before .before .before .before .before .before .before .before .before .before
+start p = p .before .before .before .before .before .before .before .before .before .before .before .before
 
-abbrev decoded : tie.After-fault-row-arg Inv-loop μ-loop → tie.After-decode-query Inv-loop μ-loop
-decoded p = p .before .before .before .before
+abbrev decoded : tie.After-judge-item-arg3 Inv-loop μ-loop → tie.After-decode-query Inv-loop μ-loop
+decoded p = p .before .before .before .before .before .before
 
-abbrev fault-row-arg : tie.After-set-row-arg Inv-loop μ-loop → tie.After-fault-row-arg Inv-loop μ-loop
-fault-row-arg p = p .before .before .before .before .before .before
+abbrev judge-item-arg : tie.After-set-row-arg Inv-loop μ-loop → tie.After-judge-item-arg3 Inv-loop μ-loop
+judge-item-arg p = p .before .before .before .before .before .before
 
-abbrev set-row-arg : tie.After-slice-known4 Inv-loop μ-loop → tie.After-set-row-arg Inv-loop μ-loop
+abbrev set-row-arg : tie.After-slice-known6 Inv-loop μ-loop → tie.After-set-row-arg Inv-loop μ-loop
 set-row-arg p = p .before .before .before .before .before
 
-abbrev turn : tie.After-slice-known4 Inv-loop μ-loop → tie.In-loop Inv-loop μ-loop
-turn p = decoded (fault-row-arg (set-row-arg p)) .before
+abbrev turn : tie.After-slice-known6 Inv-loop μ-loop → tie.In-loop Inv-loop μ-loop
+turn p = decoded (judge-item-arg (set-row-arg p)) .before
 
 list-row-requires : tie.Need-list-row-requires Inv-loop μ-loop
 list-row-requires c κs =
@@ -44,31 +45,26 @@ load-requires c κs =
     let i = c .before .before .before in
     typing-reach (i .before .loop .inv) (i .loop-test .taken) (start i .pre)
 
-fault-row-requires : tie.Need-fault-row-requires Inv-loop μ-loop
-fault-row-requires c κs =
+judge-item-requires : tie.Need-judge-item-requires Inv-loop μ-loop
+judge-item-requires c κs =
     let x = decoded c in
     let i = x .before in
-    typing-fault (i .before .loop .inv) (i .loop-test .taken) (x .decode-query .ensures) (start i .pre)
-
-join-fault-requires : tie.Need-join-fault-requires Inv-loop μ-loop
-join-fault-requires c κs =
-    let i = decoded (c .before .before) .before in
-    typing-faults (i .before .loop .inv) (i .loop-test .taken) (start i .pre)
+    typing-item (i .before .loop .inv) (i .loop-test .taken) (x .decode-query .ensures) (start i .pre)
 
 set-row-requires : tie.Need-set-row-requires Inv-loop μ-loop
 set-row-requires c κs =
-    let x = decoded (fault-row-arg c) in
+    let x = decoded (judge-item-arg c) in
     let i = x .before in
     typing-set (i .before .loop .inv) (i .loop-test .taken) (x .decode-query .ensures) (start i .pre)
 
 store-requires : tie.Need-store-requires Inv-loop μ-loop
 store-requires c κs =
-    let i = decoded (fault-row-arg (c .before .before)) .before in
+    let i = decoded (judge-item-arg (c .before .before)) .before in
     typing-sets (i .before .loop .inv) (i .loop-test .taken) (start i .pre)
 
 add-start : tie.Need-add-start Inv-loop μ-loop
 add-start c =
-    let n = fault-row-arg (set-row-arg c) .before .before .before in
+    let n = judge-item-arg (set-row-arg c) .before .before .before .before .before in
     let x = n .before in
     let i = x .before in
     let s = start i in
@@ -87,17 +83,15 @@ loop-less c = let l = turn c .loop-test .taken in omega arith
 
 loop-again : tie.Need-loop-again Inv-loop μ-loop
 loop-again c =
-    let s = set-row-arg c in
     let store = c .before .before in
-    let join = s .before .before .before in
-    let f = fault-row-arg s in
-    let r = f .before in
+    let judged = set-row-arg c .before .before .before .before .before in
+    let r = judged .before .before .before .before in
     let l = r .before in
     let n = l .before in
     let x = n .before in
     let i = x .before in
     typing-more (i .before .loop .inv) (i .loop-test .taken) (x .decode-query .ensures) (n .project-length .ensures) (l .list-row .ensures)
-    (r .load .ensures) (join .before .before .fault-row .ensures) (join .join-fault .kept .1 .1 .0) (join .join-fault .ensures)
+    (start i .pre) (r .load .ensures) (judged .judge-item .ensures) (judged .judge-item .kept .1 .1 .1 .1 .1 .1 .1 .1 .1 .1 .0)
     (store .before .before .set-row .ensures) (store .store .kept .1 .0) (store .store .ensures)
 
 pub type-forms-spec : {M : Type 1} → statement M
@@ -111,8 +105,7 @@ type-forms-spec =
     (λ c κs. search needs)
     list-row-requires
     load-requires
-    fault-row-requires
-    join-fault-requires
+    judge-item-requires
     set-row-requires
     store-requires
     add-start
@@ -121,4 +114,5 @@ type-forms-spec =
     loop-again
     (λ c. c .before .loop .inv .shaped .size)
     (λ c. c .before .loop .inv .joined .size)
+    (λ c. c .before .loop .inv .sparing .size)
     (λ c. typing-all (c .before .loop .inv) (c .loop-test .left)))

@@ -40,17 +40,17 @@ returns : tie.Need-returns
 returns c =
     let j = c .before .before .before in
     let y = prelude j in
-    refused-answers (tables y) (set y .of-bits .ensures) (y .check-into-columns .ensures .answers) (has-from j .has-from .ensures)
+    refused-answers (tables y) (start y .args .reading) (set y .of-bits .ensures) (y .check-into-columns .ensures .answers) (has-from j .has-from .ensures)
     (j .before .refuse-if .ensures) (j .or-else .ensures) (c .before .verdict .given .1)
 
 answered : (p : tie.After-lowest-with)
     → let y = prelude (joined (p .before .before)) in
-    Finds (tables y) (start y .args .wanted) (foundAnswer Verdict.Accepted (p .lowest-with .result))
+    Finds (tables y) (start y .args .reading) (start y .args .wanted) (foundAnswer Verdict.Accepted (p .lowest-with .result))
 answered p =
     let t = p .before .before in
     let j = joined t in
     let y = prelude j in
-    found-answers (tables y) (set y .of-bits .ensures) (y .check-into-columns .ensures .answers) (has-from j .has-from .ensures)
+    found-answers (tables y) (start y .args .reading) (set y .of-bits .ensures) (y .check-into-columns .ensures .answers) (has-from j .has-from .ensures)
     (j .before .refuse-if .ensures) (j .or-else .ensures) (t .enum-told .given .1) (own-columns (y .check-into-columns .ensures) (passed t))
     (p .lowest-with .ensures)
 

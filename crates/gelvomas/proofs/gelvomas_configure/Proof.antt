@@ -8,7 +8,10 @@ use Rattle.gelvomas.proofs.gelvomas_configure.Tie as tie
 
 -- from where the report is configured, back to the start
 abbrev start : tie.After-configure → tie.Start
-start k = k .before .before .before .before .before .before .before .before .before .before .before .before .before .before .before
+start k = k .before .before .before .before .before .before .before .before .before .before .before .before .before .before .before .before
+
+abbrev reading : tie.After-configure → tie.After-reading-told
+reading k = k .before .before .before .before .before
 
 abbrev tables : tie.After-configure → Tables
 tables k =
@@ -21,7 +24,7 @@ returns c =
     let m = c .before .before in
     let k = m .before .before .before .before .before .before .before .before .before .before in
     let a = start k .args in
-    configure-answered (tables k) (a .c) (a .new-entries .now) (a .new-relations .now) (a .new-comparisons .now) (a .new-queries .now)
+    configure-answered (tables k) (reading k .reading-told .ensures) (a .c) (a .new-entries .now) (a .new-relations .now) (a .new-comparisons .now) (a .new-queries .now)
     (rw (m .made .given .1) at (k .configure .ensures)) refl refl
 
 returns-2 : tie.Need-returns-2
@@ -29,13 +32,14 @@ returns-2 c =
     let m = c .before .before .before in
     let k = m .before .before .before .before .before .before .before .before .before .before in
     let a = start k .args in
-    configure-answered (tables k) (a .c) (a .new-entries .now) (a .new-relations .now) (a .new-comparisons .now) (a .new-queries .now)
+    configure-answered (tables k) (reading k .reading-told .ensures) (a .c) (a .new-entries .now) (a .new-relations .now) (a .new-comparisons .now) (a .new-queries .now)
     (rw (m .made2 .given .1) at (k .configure .ensures)) (c .tell-refusal .ensures .0) (c .tell-refusal .ensures .1)
 
 pub gelvomas-configure-spec : {M : Type 1} → statement M
 gelvomas-configure-spec =
     tie.close
     (tie.spec
+    (λ c κs. search needs)
     (λ c κs. search needs)
     (λ c. search needs)
     (λ c. search needs)

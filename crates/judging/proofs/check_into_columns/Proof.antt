@@ -11,7 +11,7 @@ start p = p .before .before .before .before .before .before .before .before
 
 returns : tie.Need-returns
 returns c =
-    let t = c .before in columns-refuse (t .before .before .check-forms .ensures) (t .enum-told .given .1) (c .empty .ensures)
+    let t = c .before in columns-refuse _ (t .before .before .check-forms .ensures) (t .enum-told .given .1) (c .empty .ensures)
 
 judge-tables-into-columns-requires : tie.Need-judge-tables-into-columns-requires
 judge-tables-into-columns-requires c κs =
@@ -23,7 +23,7 @@ returns-2 : tie.Need-returns-2
 returns-2 c =
     let j = c .before .before in
     let t = j .before .before in
-    columns-answer (t .before .before .check-forms .ensures) (t .enum-told2 .given .1) (j .judge-tables-into-columns .ensures)
+    columns-answer _ (t .before .before .check-forms .ensures) (t .enum-told2 .given .1) (j .judge-tables-into-columns .ensures)
 
 pub check-into-columns-spec : {M : Type 1} → statement M
 check-into-columns-spec =

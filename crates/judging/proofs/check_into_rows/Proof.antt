@@ -74,7 +74,7 @@ returns-2 c =
     let e = relations-end (j .before) in
     let f = fill-expression-rows e in
     let t = told f in
-    judging-answers (checked t .check-forms .ensures) (t .enum-told2 .given .1) (f .fill-expression-rows .ensures)
+    judging-answers _ (checked t .check-forms .ensures) (t .enum-told2 .given .1) (f .fill-expression-rows .ensures)
     (j .judge-into-rows .ensures (tables (first f)) (tables-read (passed t) (e .relations-end .ensures) (truth-filled f) refl refl refl))
 
 pub check-into-rows-spec : {M : Type 1} → statement M
@@ -83,7 +83,7 @@ check-into-rows-spec =
     (tie.spec
     (λ c κs. search needs)
     (λ c. search needs)
-    (λ c. forms-refuse (c .before .before .check-forms .ensures) (c .enum-told .given .1))
+    (λ c. forms-refuse _ (c .before .before .check-forms .ensures) (c .enum-told .given .1))
     (λ c. search needs)
     fill-expression-rows-requires
     (λ c κs. let m = counts (passed (told (c .before .before))) .most2 in omega arith)

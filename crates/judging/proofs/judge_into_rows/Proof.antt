@@ -30,7 +30,7 @@ check-model-and-schema-requires c κs = let p = start c .pre in record { tables 
 returns : tie.Need-returns
 returns c =
     let m = c .before .before in
-    λ T R. early-refuses (m .check-model-and-schema .ensures T (schema-reads R (m .before .load .ensures))) _ _ (c .enum-told .given .1)
+    λ T R. early-refuses _ (m .check-model-and-schema .ensures T (schema-reads R (m .before .load .ensures))) _ _ (c .enum-told .given .1)
 
 fill-reach-requires : tie.Need-fill-reach-requires
 fill-reach-requires c κs =
@@ -63,7 +63,7 @@ returns-2 c =
     let l = m .before in
     λ T R.
     let filled = f .fill-reach .ensures T (reach-reads R (l .load .ensures)) in
-    typing-answers (m .check-model-and-schema .ensures T (schema-reads R (l .load .ensures))) _ _ (t .enum-told2 .given .1) filled
+    typing-answers _ (m .check-model-and-schema .ensures T (schema-reads R (l .load .ensures))) _ _ (t .enum-told2 .given .1) filled
     (y .check-typing .ensures T
     (typing-reads R (l .load .ensures) (reach-room (start l .pre) R) filled (u .full .ensures) (g .larger .ensures) refl refl refl))
 

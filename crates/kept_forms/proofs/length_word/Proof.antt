@@ -1,19 +1,26 @@
-use Prim.Native.Nat.{_+_}
+use Prim.Native.Nat.{ℕ, _≤_}
+use mathlib.Core.Path.{_≡_, ap, _∙_}
 use native.Mathlib.Omega.{arith}
 use borrow.Author.Needs.{needs}
+use Rattle.sets.specs.Bits.{bit, memberCount}
 use Rattle.sets.proofs.SearchLaws.{count-le}
-use Rattle.report.specs.Configuring.{entryKept}
-use Rattle.at_configuration.proofs.ListLaws.{list-small}
 use Rattle.kept_forms.proofs.length_word.Statement.{statement}
 use Rattle.kept_forms.proofs.length_word.Tie as tie
 
+-- a set has at most 64 attributes
+few : (x : ℕ) {n : ℕ} → n ≡ memberCount x → n ≤ 64
+few x e = rw e (count-le (bit x) 64)
+
 cast-result : tie.Need-cast-result
-cast-result c =
-    let s = c .before .before .before in
-    let A = s .pre in
-    let e = c .kept-length .ensures (A .tables) (A .offset) (A .reads) in
-    let l = list-small (A .reads) in
-    omega (arith, count-le (entryKept (A .tables) (s .args .c) (A .offset + s .args .start)) (s .args .count))
+cast-result c = let l = few (c .before .of-bits .result .bits) (c .count .ensures) in omega arith
 
 pub length-word-spec : {M : Type 1} → statement M
-length-word-spec = tie.close (tie.spec (λ c κs. search needs) cast-result (λ c. c .kept-length .ensures))
+length-word-spec =
+    tie.close
+    (tie.spec
+    (λ c. search needs)
+    (λ c. search needs)
+    (λ c κs. search needs)
+    (λ c κs. search needs)
+    cast-result
+    (λ c. c .count .ensures ∙ ap memberCount (c .before .of-bits .ensures)))

@@ -1,8 +1,7 @@
 use native.Mathlib.Omega.{arith}
 use borrow.Author.Needs.{needs}
-use Rattle.sets.proofs.WritingLaws.{none-written}
-use Rattle.at_configuration.proofs.ListLaws.{form-lower}
-use Rattle.kept_forms.proofs.QueryLaws.{relation-reads, project-reads, relation-readable, project-readable, same-second}
+use Rattle.sets.proofs.WritingLaws.{none-written, same-written}
+use Rattle.kept_forms.proofs.QueryLaws.{relation-words, relation-writable, same-second}
 use Rattle.kept_forms.proofs.write_query.Statement.{statement}
 use Rattle.kept_forms.proofs.write_query.Tie as tie
 
@@ -11,24 +10,18 @@ put-query-requires c κs =
     let start = c .before .before .before .before .before .before .before .before .before in
     rw (c .before .enum-told2 .given .1) at (start .pre .room)
 
-relation-word-requires : tie.Need-relation-word-requires
-relation-word-requires c κs =
+put-relation-requires : tie.Need-put-relation-requires
+put-relation-requires c κs =
     let k = c .before .before in
     let start = k .before .before .before .before .before .before .before .before in
-    relation-readable (start .pre) (k .x .given .1)
-
-put-query-requires-2 : tie.Need-put-query-requires-2
-put-query-requires-2 c κs =
-    let k = c .before .before .before in
-    let start = k .before .before .before .before .before .before .before .before in
-    record { fits = (rw (k .x .given .1) at (start .pre .room)) .fits }
+    relation-writable (start .pre) (k .x .given .1)
 
 mul-put-over : tie.Need-mul-put-over
 mul-put-over c =
     let k = c .before .before in
     let start = k .before .before .before .before .before .before .before .before in
     let A = start .pre in
-    let l = rw (k .x2 .given .1) at (form-lower (A .reads .at)) in
+    let l = rw (k .x2 .given .1) at (A .lower) in
     omega arith
 
 shared-slice-read-put-over : tie.Need-shared-slice-read-put-over
@@ -36,7 +29,7 @@ shared-slice-read-put-over c =
     let k = c .before .before .before in
     let start = k .before .before .before .before .before .before .before .before in
     let A = start .pre in
-    let l = rw (k .x2 .given .1) at (form-lower (A .reads .at)) in
+    let l = rw (k .x2 .given .1) at (A .lower) in
     omega arith
 
 put-over-requires : tie.Need-put-over-requires
@@ -44,21 +37,21 @@ put-over-requires c κs =
     let k = c .before .before .before in
     let start = k .before .before .before .before .before .before .before .before in
     let A = start .pre in
-    let l = rw (k .x2 .given .1) at (form-lower (A .reads .at)) in
+    let l = rw (k .x2 .given .1) at (A .lower) in
     record { second = omega arith; room = rw (k .x2 .given .1) at (A .room) }
 
 length-word-requires : tie.Need-length-word-requires
 length-word-requires c κs =
-    let k = c .before in
+    let k = c .before .before in
     let start = k .before .before .before .before .before .before .before .before in
-    project-readable (start .pre) (k .x3 .given .1)
+    start .pre .typed
 
 put-over-requires-2 : tie.Need-put-over-requires-2
 put-over-requires-2 c κs =
     let k = c .before .before .before in
     let start = k .before .before .before .before .before .before .before .before in
     let A = start .pre in
-    let l = rw (k .x3 .given .1) at (form-lower (A .reads .at)) in
+    let l = rw (k .x3 .given .1) at (A .lower) in
     record { second = omega arith; room = record { fits = (rw (k .x3 .given .1) at (A .room)) .fits } }
 
 put-pair-requires : tie.Need-put-pair-requires
@@ -66,7 +59,7 @@ put-pair-requires c κs =
     let k = c .before .before in
     let start = k .before .before .before .before .before .before .before .before in
     let A = start .pre in
-    let l = rw (k .x4 .given .1) at (form-lower (A .reads .at)) in
+    let l = rw (k .x4 .given .1) at (A .lower) in
     record { first = omega arith; second = omega arith; room = rw (k .x4 .given .1) at (A .room) }
 
 put-pair-requires-2 : tie.Need-put-pair-requires-2
@@ -74,7 +67,7 @@ put-pair-requires-2 c κs =
     let k = c .before .before in
     let start = k .before .before .before .before .before .before .before .before in
     let A = start .pre in
-    let l = rw (k .x5 .given .1) at (form-lower (A .reads .at)) in
+    let l = rw (k .x5 .given .1) at (A .lower) in
     record { first = omega arith; second = omega arith; room = rw (k .x5 .given .1) at (A .room) }
 
 put-pair-requires-3 : tie.Need-put-pair-requires-3
@@ -82,21 +75,19 @@ put-pair-requires-3 c κs =
     let k = c .before .before in
     let start = k .before .before .before .before .before .before .before .before in
     let A = start .pre in
-    let l = rw (k .x6 .given .1) at (form-lower (A .reads .at)) in
+    let l = rw (k .x6 .given .1) at (A .lower) in
     record { first = omega arith; second = omega arith; room = rw (k .x6 .given .1) at (A .room) }
 
 returns-3 : tie.Need-returns-3
-returns-3 c = λ T q A.
+returns-3 c = λ T R.
     let put = c .before .before in
-    let r = put .before in
-    rw (r .before .before .before .x .given .1) (same-second (r .relation-word .ensures T (relation-reads A)) (put .put-query2 .ensures))
+    rw (put .before .before .before .x .given .1) (same-written (relation-words T _ _ _ _ _) (put .put-relation .ensures T R))
 
 returns-5 : tie.Need-returns-5
-returns-5 c = λ T q A.
+returns-5 c = λ T R.
     let put = c .before .before in
-    let n = put .before .before in
-    let e = n .before .before .x3 .given .1 in
-    rw e (same-second (n .length-word .ensures T _ (project-reads A e)) (put .put-over2 .ensures))
+    let n = put .before in
+    rw (n .before .before .before .x3 .given .1) (same-second (n .length-word .ensures) (put .put-over2 .ensures))
 
 pub write-query-spec : {M : Type 1} → statement M
 write-query-spec =
@@ -106,8 +97,7 @@ write-query-spec =
     (λ c. search needs)
     put-query-requires
     (λ c. search needs)
-    relation-word-requires
-    put-query-requires-2
+    put-relation-requires
     (λ c. search needs)
     mul-put-over
     shared-slice-read-put-over
@@ -122,19 +112,19 @@ write-query-spec =
     put-pair-requires-2
     (λ c. search needs)
     put-pair-requires-3
-    (λ c. λ T q A. rw (c .enum-told .given .1) (none-written _ _))
+    (λ c. λ T R. rw (c .enum-told .given .1) (none-written _ _))
     (λ c. search needs)
-    (λ c. let arm = c .before .before .before .before in λ T q A. rw (arm .enum-told2 .given .1) (c .before .before .put-query .ensures))
+    (λ c. let arm = c .before .before .before .before in λ T R. rw (arm .enum-told2 .given .1) (c .before .before .put-query .ensures))
     (λ c. search needs)
     returns-3
     (λ c. search needs)
-    (λ c. let arm = c .before .before .before .before .before .before in λ T q A. rw (arm .x2 .given .1) (c .before .before .put-over .ensures))
+    (λ c. let arm = c .before .before .before .before .before .before in λ T R. rw (arm .x2 .given .1) (c .before .before .put-over .ensures))
     (λ c. search needs)
     returns-5
-    (λ c. λ T q A. rw (c .enum-told3 .given .1) (none-written _ _))
+    (λ c. λ T R. rw (c .enum-told3 .given .1) (none-written _ _))
     (λ c. search needs)
-    (λ c. let arm = c .before .before .before .before .before in λ T q A. rw (arm .x4 .given .1) (c .before .before .put-pair .ensures))
+    (λ c. let arm = c .before .before .before .before .before in λ T R. rw (arm .x4 .given .1) (c .before .before .put-pair .ensures))
     (λ c. search needs)
-    (λ c. let arm = c .before .before .before .before .before in λ T q A. rw (arm .x5 .given .1) (c .before .before .put-pair2 .ensures))
+    (λ c. let arm = c .before .before .before .before .before in λ T R. rw (arm .x5 .given .1) (c .before .before .put-pair2 .ensures))
     (λ c. search needs)
-    (λ c. let arm = c .before .before .before .before .before in λ T q A. rw (arm .x6 .given .1) (c .before .before .put-pair3 .ensures)))
+    (λ c. let arm = c .before .before .before .before .before in λ T R. rw (arm .x6 .given .1) (c .before .before .put-pair3 .ensures)))

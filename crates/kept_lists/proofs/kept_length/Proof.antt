@@ -2,7 +2,7 @@ use native.Mathlib.Omega.{arith}
 use mathlib.Core.Path.{ap, sym, _∙_}
 use borrow.Author.Needs.{needs}
 use Rattle.sets.specs.Bits.{memberCount}
-use Rattle.report.proofs.KeptLists.{kept-count}
+use Rattle.report.proofs.StayLaws.{kept-count}
 use Rattle.kept_lists.proofs.kept_length.Statement.{statement}
 use Rattle.kept_lists.proofs.kept_length.Tie as tie
 

@@ -6,17 +6,17 @@ use Rattle.kept_lists.proofs.write_list.Statement.{statement}
 use Rattle.kept_lists.proofs.write_list.Tie as tie
 
 abbrev Inv-loop : tie.InvT-loop
-Inv-loop c start count expressionRows entries out₀ at kept₀ p₀ i₀ out kept p i =
-    EntriesWriting expressionRows entries c start count out₀ at out (kept .bits) i p
+Inv-loop c start count stays expressionRows entries out₀ at kept₀ p₀ i₀ out kept p i =
+    EntriesWriting expressionRows entries c start count (stays .bits) out₀ at out (kept .bits) i p
 
 abbrev μ-loop : tie.MeasureT-loop
-μ-loop c start count expressionRows entries out₀ at kept₀ p₀ i₀ out kept p i = count - i
+μ-loop c start count stays expressionRows entries out₀ at kept₀ p₀ i₀ out kept p i = count - i
 
 -- places of the code that the needs look back to
 abbrev start-of-loop : tie.At-loop Inv-loop μ-loop → tie.Start Inv-loop μ-loop
 start-of-loop p = p .before .before .before .before .before
 
-abbrev before-write : tie.After-slice-known2 Inv-loop μ-loop → tie.After-has Inv-loop μ-loop
+abbrev before-write : tie.After-slice-known2 Inv-loop μ-loop → tie.After-has2 Inv-loop μ-loop
 before-write p = p .before .before .before .before
 
 entry-holds-requires : tie.Need-entry-holds-requires Inv-loop μ-loop
@@ -33,22 +33,24 @@ has-requires c κs =
 
 write-pair-requires : tie.Need-write-pair-requires Inv-loop μ-loop
 write-pair-requires c κs =
-    let t = c .before in
+    let s = c .before in
+    let t = s .before in
     let h = t .before in
     let e = h .before in
     let i = e .before in
     listing-room (i .before .loop .inv) (i .loop-test .taken) (e .entry-attribute .ensures) (h .entry-holds .ensures) (t .has .ensures)
-    (start-of-loop (i .before) .pre)
+    (s .has2 .ensures) (start-of-loop (i .before) .pre)
 
 loop-again : tie.Need-loop-again Inv-loop μ-loop
 loop-again c =
     let w = c .before .before .before in
-    let t = before-write (c .before) in
+    let s = before-write (c .before) in
+    let t = s .before in
     let h = t .before in
     let e = h .before in
     let i = e .before in
     listing-more (i .before .loop .inv) (i .loop-test .taken) (e .entry-attribute .ensures) (h .entry-holds .ensures) (t .has .ensures)
-    (w .write-pair .ensures) (c .with-if .ensures)
+    (s .has2 .ensures) (w .write-pair .ensures) (c .with-if .ensures)
 
 same-size : tie.Need-same-length Inv-loop μ-loop
 same-size c = let A = start-of-loop (c .before) .pre in keeping-length (c .before .loop .inv .written (A .offset)) (A .reads)
@@ -65,8 +67,9 @@ write-list-spec =
     (λ c κs. search needs)
     entry-holds-requires
     has-requires
+    (λ c κs. has-requires (c .before) κs)
     write-pair-requires
-    (λ c κs. has-requires (before-write c .before) κs)
+    (λ c κs. has-requires (before-write c .before .before) κs)
     (λ c. search needs)
     (λ c. search needs)
     loop-again

@@ -1,6 +1,7 @@
 use Prim.Native.Nat.{_+_}
 use denote.Ref.{now}
 use Rattle.sets.proofs.WritingLaws.{same-length, kept-room, kept-written, dropped-written}
+use Rattle.sets.specs.Bits.{bit}
 use Rattle.report.specs.Configuring.{keptList}
 use Rattle.kept_lists.proofs.write_list_if.Statement.{statement}
 use Rattle.kept_lists.proofs.write_list_if.Tie as tie
@@ -17,7 +18,7 @@ write-list-requires c κs =
       tables = s .pre .tables;
       offset = s .pre .offset;
       reads = s .pre .reads;
-      room = kept-room (keptList (s .pre .tables) (a .c) (s .pre .offset + a .start) (a .count)) (c .before .if1 .taken) (s .pre .room);
+      room = kept-room (keptList (s .pre .tables) (a .c) (bit (a .stays .bits)) (s .pre .offset + a .start) (a .count)) (c .before .if1 .taken) (s .pre .room);
     }
 
 same-size : tie.Need-same-length
@@ -31,12 +32,12 @@ returns c = λ T offset R.
     let w = c .before .before in
     let i = w .before .before in
     let a = start (i .before) .args in
-    kept-written (keptList T (a .c) (offset + a .start) (a .count)) (i .if1 .taken) (w .write-list .ensures T offset R)
+    kept-written (keptList T (a .c) (bit (a .stays .bits)) (offset + a .start) (a .count)) (i .if1 .taken) (w .write-list .ensures T offset R)
 
 returns-2 : tie.Need-returns-2
 returns-2 c = λ T offset R.
     let a = start (c .before) .args in
-    dropped-written (keptList T (a .c) (offset + a .start) (a .count)) (now (a .out)) (a .at) (c .if1 .left)
+    dropped-written (keptList T (a .c) (bit (a .stays .bits)) (offset + a .start) (a .count)) (now (a .out)) (a .at) (c .if1 .left)
 
 pub write-list-if-spec : {M : Type 1} → statement M
 write-list-if-spec = tie.close (tie.spec write-list-requires same-size returns returns-2)

@@ -9,15 +9,15 @@ use Rattle.kept_lists.proofs.write_relation_lists.Statement.{statement}
 use Rattle.kept_lists.proofs.write_relation_lists.Tie as tie
 
 abbrev Inv-loop : tie.InvT-loop
-Inv-loop c expressionRows relationEntries relations out₀ count start₀ p₀ r₀ out start p r =
+Inv-loop c expressionRows relationEntries relations out₀ all count start₀ p₀ r₀ out start p r =
     Relating relationListAt expressionRows relationEntries relations c out₀ out r start p
 
 abbrev μ-loop : tie.MeasureT-loop
-μ-loop c expressionRows relationEntries relations out₀ count start₀ p₀ r₀ out start p r = length relations / 2 - r
+μ-loop c expressionRows relationEntries relations out₀ all count start₀ p₀ r₀ out start p r = length relations / 2 - r
 
 -- places of the code that the needs look back to
 abbrev start-of-loop : tie.At-loop Inv-loop μ-loop → tie.Start Inv-loop μ-loop
-start-of-loop p = p .before .before .before .before .before
+start-of-loop p = p .before .before .before .before .before .before
 
 abbrev relation-length : tie.After-slice-known2 Inv-loop μ-loop → tie.After-relation-length Inv-loop μ-loop
 relation-length p = p .before .before .before .before .before
@@ -31,7 +31,7 @@ write-list-if-requires c κs =
     let n = b .before in
     let i = n .before in
     lists-room (i .loop-test .taken) (n .relation-length .ensures) (b .is-present .ensures) (i .before .loop .inv)
-    (start-of-loop (i .before) .pre)
+    (i .before .before .of-bits .ensures) (start-of-loop (i .before) .pre)
 
 add-start : tie.Need-add-start Inv-loop μ-loop
 add-start c =
@@ -48,7 +48,8 @@ loop-again c =
     let b = w .before .before in
     let n = b .before in
     let i = n .before in
-    lists-more (i .loop-test .taken) (n .relation-length .ensures) (b .is-present .ensures) (i .before .loop .inv) (w .write-list-if .ensures)
+    lists-more (i .loop-test .taken) (n .relation-length .ensures) (b .is-present .ensures) (i .before .loop .inv)
+    (i .before .before .of-bits .ensures) (w .write-list-if .ensures)
 
 pub write-relation-lists-spec : {M : Type 1} → statement M
 write-relation-lists-spec =
@@ -56,6 +57,7 @@ write-relation-lists-spec =
     (tie.spec
     Inv-loop
     μ-loop
+    (λ c κs. search needs)
     (λ c. relating-none)
     (λ c κs. search needs)
     is-present-requires

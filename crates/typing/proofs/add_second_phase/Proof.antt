@@ -16,12 +16,12 @@ add-clashes-requires : tie.Need-add-clashes-requires
 add-clashes-requires c κs =
     let g = clashing c in
     let A = start (g .before) .pre in
-    record { tables = A .tables; reads = clash-reads (A .reads) (replicate {A = ℕ} 4096 0) (g .fill-gathered-rows .ensures) }
+    record { tables = A .tables; reading = A .reading; reads = clash-reads (A .reads) (replicate {A = ℕ} 4096 0) (g .fill-gathered-rows .ensures) }
 
 returns : tie.Need-returns
 returns c =
     let a = c .before .before in
-    λ T R. a .add-clashes .ensures T (clash-reads R (replicate {A = ℕ} 4096 0) (clashing (a .before) .fill-gathered-rows .ensures))
+    λ T R A. a .add-clashes .ensures T R (clash-reads A (replicate {A = ℕ} 4096 0) (clashing (a .before) .fill-gathered-rows .ensures))
 
 pub add-second-phase-spec : {M : Type 1} → statement M
 add-second-phase-spec =

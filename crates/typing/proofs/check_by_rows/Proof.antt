@@ -5,26 +5,26 @@ use Rattle.typing.proofs.check_by_rows.Tie as tie
 
 -- places of the code that the needs look back to
 abbrev start : tie.After-fill-faults-arg → tie.Start
-start p = p .before .before .before .before .before .before .before .before .before .before .before
+start p = p .before .before .before .before .before .before .before .before .before .before .before .before
 
 abbrev faulty : tie.After-fault-rows3 → tie.After-fill-faults
-faulty p = p .before .before .before .before
+faulty p = p .before .before .before .before .before
 
 abbrev added : tie.After-fault-rows5 → tie.After-add-second-phase
-added p = p .before .before
+added p = p .before .before .before
 
 add-second-phase-requires : tie.Need-add-second-phase-requires
 add-second-phase-requires c κs =
     let f = faulty c in
     let A = start (f .before) .pre in
-    record { tables = A .tables; reads = second-reads (A .reads) (f .fill-faults .ensures) }
+    record { tables = A .tables; reading = _; reads = second-reads (A .reads) (f .fill-faults .ensures) }
 
 check-rows-requires : tie.Need-check-rows-requires
 check-rows-requires c κs =
     let a = added c in
     let f = faulty (a .before) in
     let A = start (f .before) .pre in
-    record { tables = A .tables; reads = rows-read (A .reads) (f .fill-faults .ensures) (a .add-second-phase .ensures) }
+    record { tables = A .tables; reading = _; reads = rows-read (A .reads) (f .fill-faults .ensures) (a .add-second-phase .ensures) }
 
 returns : tie.Need-returns
 returns c =
@@ -37,9 +37,11 @@ check-by-rows-spec =
     tie.close
     (tie.spec
     (λ c. search needs)
+    (λ c. search needs)
     (λ c κs. fails-readable (start c .pre))
     (λ c. search needs)
     add-second-phase-requires
+    (λ c. search needs)
     (λ c. search needs)
     check-rows-requires
     (λ c. search needs)

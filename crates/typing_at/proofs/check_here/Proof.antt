@@ -5,7 +5,7 @@ use Rattle.typing_at.proofs.check_here.Tie as tie
 
 -- places of the code that the needs look back to
 abbrev start : tie.After-form-sets → tie.Start
-start p = p .before .before .before .before .before .before .before .before .before .before .before
+start p = p .before .before .before .before .before .before .before .before .before .before .before .before
 
 pub check-here-spec : {M : Type 1} → statement M
 check-here-spec =
@@ -15,4 +15,4 @@ check-here-spec =
     (λ c. search needs)
     (λ c. search needs)
     (λ c κs. here-fillable (start c .pre))
-    (λ c. λ T R. c .before .before .before .fill-here .ensures T R .checked))
+    (λ c. λ T R H. c .before .before .before .fill-here .ensures T R H .checked))

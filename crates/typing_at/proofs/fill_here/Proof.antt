@@ -7,7 +7,7 @@ use Rattle.typing_at.proofs.fill_here.Tie as tie
 -- ---- places: back from where each part is worked out to the one before
 
 abbrev start : tie.After-fill-gathered → tie.Start
-start p = p .before .before .before .before .before .before .before .before .before .before .before .before .before
+start p = p .before .before .before .before .before .before .before .before .before .before .before .before .before .before
 
 abbrev named : tie.After-fill-gathered-arg2 → tie.After-fill-gathered
 named p = p .before .before .before
@@ -23,7 +23,7 @@ asked p = start (named (clashing (formed (p .before) .before) .before))
 
 fill-gathered-requires : tie.Need-fill-gathered-requires
 fill-gathered-requires c κs =
-    let p = c .before .before .before .before .before .before .before .before .before .before .before .before .pre in
+    let p = c .before .before .before .before .before .before .before .before .before .before .before .before .before .pre in
     gathered-readable (p .readable .reads) (p .lent .comparisons)
 
 fill-gathered-requires-2 : tie.Need-fill-gathered-requires-2
@@ -60,8 +60,8 @@ returns c =
     let f = formed (v .before) in
     let k = clashing (f .before) in
     let n = named (k .before) in
-    λ T R.
-    here-filled R _ _ _ (n .fill-gathered .ensures) (k .fill-gathered2 .ensures) (f .fill-form-sets .ensures) (v .forms-here .ensures)
+    λ T R H.
+    here-filled H _ _ _ (n .fill-gathered .ensures) (k .fill-gathered2 .ensures) (f .fill-form-sets .ensures) (v .forms-here .ensures)
     (c .of-bits .ensures)
 
 pub fill-here-spec : {M : Type 1} → statement M

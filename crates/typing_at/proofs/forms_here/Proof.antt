@@ -6,15 +6,15 @@ use Rattle.typing_at.proofs.forms_here.Statement.{statement}
 use Rattle.typing_at.proofs.forms_here.Tie as tie
 
 abbrev Inv-loop : tie.InvT-loop
-Inv-loop c expressionRows entries relations queries reach named clashing sets count start₀ q₀ start q =
-    FormsPassed expressionRows entries relations queries reach c named clashing sets q start
+Inv-loop c expressionRows entries relations queries reach spared named clashing sets count start₀ q₀ start q =
+    FormsPassed expressionRows entries relations queries reach spared c named clashing sets q start
 
 abbrev μ-loop : tie.MeasureT-loop
-μ-loop c expressionRows entries relations queries reach named clashing sets count start₀ q₀ start q = count - q
+μ-loop c expressionRows entries relations queries reach spared named clashing sets count start₀ q₀ start q = count - q
 
 -- places of the code that the needs look back to
 abbrev start : tie.In-loop Inv-loop μ-loop → tie.Start Inv-loop μ-loop
-start p = p .before .before .before .before .before .before .before .before .before .before
+start p = p .before .before .before .before .before .before .before .before .before .before .before
 
 form-here-requires : tie.Need-form-here-requires Inv-loop μ-loop
 form-here-requires c κs =
@@ -37,6 +37,9 @@ add-start c =
     let l = forms-inside (i .before .loop .inv) (i .loop-test .taken) (x .decode-query .ensures) (f .form-here .ensures) (c .project-length .ensures)
     (s .pre) in
     omega arith
+
+add-q : tie.Need-add-q Inv-loop μ-loop
+add-q c = let s = start (c .before .before .before .before .before) in omega arith
 
 loop-again : tie.Need-loop-again Inv-loop μ-loop
 loop-again c =
@@ -61,7 +64,7 @@ forms-here-spec =
     (λ c. search needs)
     (λ c κs. search needs)
     add-start
-    (λ c. search needs)
+    add-q
     (λ c. search needs)
     loop-again
     (λ c. forms-all (c .before .loop .inv) (c .loop-test .left)))

@@ -9,20 +9,20 @@ use Rattle.typing_each.proofs.check_with.Statement.{statement}
 use Rattle.typing_each.proofs.check_with.Tie as tie
 
 abbrev Inv-loop : tie.InvT-loop
-Inv-loop scope expressionRows relationEntries projectEntries relations comparisons queries kinds reach columns named₀ clashing₀ forms₀
+Inv-loop scope expressionRows relationEntries projectEntries relations comparisons queries kinds reach spares columns named₀ clashing₀ forms₀
     permitted configurations₀ sets₀ count₀ answer₀ from₀ named clashing forms configurations sets count answer from =
     SetsKept named₀ clashing₀ forms₀ named clashing forms
     × EachPassed scope expressionRows relationEntries projectEntries relations comparisons queries kinds reach configurations sets count answer from
 
 abbrev μ-loop : tie.MeasureT-loop
-μ-loop scope expressionRows relationEntries projectEntries relations comparisons queries kinds reach columns named₀ clashing₀ forms₀
+μ-loop scope expressionRows relationEntries projectEntries relations comparisons queries kinds reach spares columns named₀ clashing₀ forms₀
     permitted configurations₀ sets₀ count₀ answer₀ from₀ named clashing forms configurations sets count answer from =
     1024 - from
 
 -- ---- places: back from where each part is worked out to the one before
 
 abbrev first : tie.After-permitted Inv-loop μ-loop → tie.Start Inv-loop μ-loop
-first p = p .before .before .before .before .before .before .before .before .before .before .before .before .before
+first p = p .before .before .before .before .before .before .before .before .before .before .before .before .before .before
 
 abbrev start : tie.At-loop Inv-loop μ-loop → tie.Start Inv-loop μ-loop
 start p = first (p .before)
@@ -64,15 +64,15 @@ fill-here-requires c κs =
     let n = c .before .before .before .before in
     let f = sought n in
     let l = f .before in
-    each-here (start l .pre .each) (l .loop .inv .1) (f .lowest-from .ensures) (n .next .given .1) (lent l)
+    each-here (start l .pre .each) (l .loop .inv .1) (f .lowest-from .ensures) (n .next .given .1) (start l .pre .sparing) (lent l)
 
 -- they are as long as before when the sets are worked out
 kept : (h : tie.After-fill-here Inv-loop μ-loop)
     → let a = start (sought (found h) .before) .args in
-    let x = h .fill-here .last .1 .1 .1 .1 .1 .1 .1 .1 .1 in
+    let x = h .fill-here .last .1 .1 .1 .1 .1 .1 .1 .1 .1 .1 in
     SetsKept (a .named-sets .now) (a .clash-sets .now) (a .form-sets .now) (x .0) (x .1 .0) (x .1 .1 .0)
 kept h =
-    let k = h .fill-here .kept .1 .1 .1 .1 .1 .1 .1 .1 .1 in
+    let k = h .fill-here .kept .1 .1 .1 .1 .1 .1 .1 .1 .1 .1 in
     kept-more (sought (found h) .before .loop .inv .0) (k .0) (k .1 .0) (k .1 .1 .0)
 
 cast-configurations : tie.Need-cast-configurations Inv-loop μ-loop
@@ -100,8 +100,8 @@ loop-again c =
     let f = sought n in
     let l = f .before in (
       kept h,
-      each-more (start l .pre .each) (l .loop .inv .1) (f .lowest-from .ensures) (n .next .given .1)
-          (λ T R. h .fill-here .ensures T R .checked) (c .sooner-of .ensures),
+      each-more (start l .pre .each) (l .loop .inv .1) (f .lowest-from .ensures) (n .next .given .1) (start l .pre .sparing)
+          (λ T R H. h .fill-here .ensures T R H .checked) (c .sooner-of .ensures),
     )
 
 store-columns-requires : tie.Need-store-columns-requires Inv-loop μ-loop

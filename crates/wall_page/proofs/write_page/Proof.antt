@@ -31,11 +31,11 @@ returns : tie.Need-returns
 returns c =
     let k = c .before in
     let y = k .before .before .before in
-    refused-answers (tables y) (y .check-into-columns .ensures .answers) (now (start y .args .page)) (k .checked .given .1)
+    refused-answers (tables y) (start y .args .reading) (y .check-into-columns .ensures .answers) (now (start y .args .page)) (k .checked .given .1)
 
 -- the rows of tables that pass
 rows : (t : tie.After-enum-told)
-    → let y = prelude t .check-into-columns in Columns (tables (prelude t)) (y .result .permitted .words) (y .last .1 .1 .1 .1 .1 .1 .1 .0)
+    → let y = prelude t .check-into-columns in Columns (tables (prelude t)) (y .result .permitted .words) (y .last .1 .1 .1 .1 .1 .1 .1 .1 .0)
 rows t = own-columns (prelude t .check-into-columns .ensures) (t .enum-told .given .1)
 
 shl-count : tie.Need-shl-count
@@ -54,7 +54,7 @@ put-page-requires c κs =
     let p = n .before in
     let t = p .before .before in
     let y = prelude t in
-    page-read (tables y) (y .check-into-columns .ensures .answers) (now (start y .args .page)) (t .enum-told .given .1) (rows t)
+    page-read (tables y) (start y .args .reading) (y .check-into-columns .ensures .answers) (now (start y .args .page)) (t .enum-told .given .1) (rows t)
     (p .permitted-count .ensures) (n .refuse-if .ensures) (k .enum-told2 .given .1)
 
 same-long : tie.Need-same-length
@@ -70,9 +70,9 @@ returns-2 c =
     let lent = now (start y .args .page) in
     let a = y .check-into-columns .ensures .answers in
     let f = t .enum-told .given .1 in
-    late-answers (tables y) a lent f (rows t) (p .permitted-count .ensures) (n .refuse-if .ensures) (c .page-answer .ensures)
+    late-answers (tables y) (start y .args .reading) a lent f (rows t) (p .permitted-count .ensures) (n .refuse-if .ensures) (c .page-answer .ensures)
     (⊎-elim
-    (λ yes. yes .7 ∙ page-left (tables y) a lent f (rows t) (p .permitted-count .ensures) (n .refuse-if .ensures) (yes .1 .given .1) (yes .4 .ensures))
+    (λ yes. yes .7 ∙ page-left (tables y) (start y .args .reading) a lent f (rows t) (p .permitted-count .ensures) (n .refuse-if .ensures) (yes .1 .given .1) (yes .4 .ensures))
     (λ no. no .2 ∙ refused-left _ lent (no .1 .given .1))
     (c .before .match2 .came))
 

@@ -7,6 +7,7 @@ use crate::form;
 use crate::generate::build::bits;
 use crate::generate::kinds;
 use crate::random::Random;
+use crate::reading::Reading;
 use crate::tables::{Tables, COMPARISON_CHOICE, MOMENT, SELECT};
 use crate::tables::{WITH_ATTRIBUTE, WITH_CONSTANT};
 use crate::typing::Set;
@@ -39,7 +40,7 @@ pub fn unknown_kind_of_constant(random: &mut Random, tables: &mut Tables) -> Opt
 
 /// The columns of accepted tables at each permitted configuration.
 fn columns(tables: &Tables) -> Option<Vec<Set>> {
-    check::accepted(tables)
+    check::accepted(tables, Reading::Strict)
         .ok()
         .map(|accepted| accepted.columns)
 }

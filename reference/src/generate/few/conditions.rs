@@ -29,7 +29,7 @@ impl Few<'_> {
         }
     }
 
-    fn negation(&mut self, of: u16) -> u16 {
+    pub(super) fn negation(&mut self, of: u16) -> u16 {
         self.expression([NOT, of, 0])
     }
 
@@ -42,7 +42,7 @@ impl Few<'_> {
     }
 
     /// How many expressions may still come.
-    fn room(&self) -> usize {
+    pub(super) fn room(&self) -> usize {
         let most = match self.expressions {
             0 => 256,
             expressions => expressions,
@@ -51,7 +51,7 @@ impl Few<'_> {
     }
 
     /// Does the expression hold at each permitted configuration?
-    fn values(&self, expression: u16) -> Vec<bool> {
+    pub(super) fn values(&self, expression: u16) -> Vec<bool> {
         let value = |&c: &u64| expression::values(&self.tables, c)[usize::from(expression)];
         self.permitted.iter().map(value).collect()
     }
@@ -183,7 +183,7 @@ impl Few<'_> {
     // Conditions
 
     /// Holds at one configuration alone.
-    fn only(&mut self, c: u64) -> u16 {
+    pub(super) fn only(&mut self, c: u64) -> u16 {
         let mut all = None;
         for feature in 0..self.tables.features as u16 {
             let literal = self.literal((feature, c >> feature & 1 == 1));

@@ -21,7 +21,7 @@ const MOST_RELATIONS: usize = 31;
 impl Few<'_> {
     // Forms
 
-    fn form(&mut self, query: [u16; 4]) -> u16 {
+    pub(super) fn form(&mut self, query: [u16; 4]) -> u16 {
         self.forms.push((query, vec![]));
         self.forms.len() as u16 - 1
     }
@@ -30,19 +30,19 @@ impl Few<'_> {
         self.form([RELATION, self.base, 0, 0])
     }
 
-    fn project(&mut self, list: Vec<Entry>, of: u16) -> u16 {
+    pub(super) fn project(&mut self, list: Vec<Entry>, of: u16) -> u16 {
         let form = self.form([PROJECT, list.len() as u16, of, 0]);
         self.forms[usize::from(form)].1 = list;
         form
     }
 
-    fn has_room_for_lists(&self) -> bool {
+    pub(super) fn has_room_for_lists(&self) -> bool {
         let lists = self.forms.iter().map(|(_, list)| list.len());
         lists.sum::<usize>() < MOST_ENTRIES
     }
 
     /// Two forms, either of which comes first.
-    fn pair(&mut self, kind: u16, one: u16, other: u16) -> u16 {
+    pub(super) fn pair(&mut self, kind: u16, one: u16, other: u16) -> u16 {
         match self.random.chance(1, 2) {
             true => self.form([kind, one, other, 0]),
             false => self.form([kind, other, one, 0]),
@@ -129,7 +129,7 @@ impl Few<'_> {
         }
     }
 
-    fn kind(&self, attribute: u16) -> u16 {
+    pub(super) fn kind(&self, attribute: u16) -> u16 {
         self.tables.kinds[usize::from(attribute)]
     }
 
@@ -197,7 +197,7 @@ impl Few<'_> {
         attributes
     }
 
-    fn relation(&mut self, presence: u16, list: Vec<Entry>) -> Option<u16> {
+    pub(super) fn relation(&mut self, presence: u16, list: Vec<Entry>) -> Option<u16> {
         if self.relations.len() == MOST_RELATIONS {
             return None;
         }

@@ -1,7 +1,7 @@
 use borrow.Author.Needs.{needs}
-use Rattle.typing_at.proofs.HereLaws.{relations-readable, reads-sets, sets-readable}
-use Rattle.typing_at.proofs.fill_form_sets.Statement.{statement}
-use Rattle.typing_at.proofs.fill_form_sets.Tie as tie
+use Rattle.faults_at.proofs.FormSetLaws.{relations-readable, reads-sets, sets-readable}
+use Rattle.faults_at.proofs.fill_form_sets.Statement.{statement}
+use Rattle.faults_at.proofs.fill_form_sets.Tie as tie
 
 -- places of the code that the needs look back to
 abbrev start : tie.After-relation-sets → tie.Start

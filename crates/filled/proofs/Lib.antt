@@ -1,0 +1,5 @@
+pub mod FilledLaws
+pub mod Sentences
+pub mod ReadRulesLaws
+pub mod GivenSentences
+pub mod FilledGuards
