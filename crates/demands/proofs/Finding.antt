@@ -14,6 +14,7 @@ use Rattle.report.specs.Tables.{Tables, kind_of, report}
 use Rattle.report.specs.Expressions.{configurations, permitted}
 use Rattle.report.specs.Typing.{set_of}
 use Rattle.report.specs.ColumnRows.{shown}
+use Rattle.report.specs.Rules.{Rules}
 use Rattle.report.specs.PlainAlgebra.{passes}
 use Rattle.report.specs.ConfiguredReport.{configured_report, configured_schema}
 use Rattle.report.specs.Verdicts.{refusal, refuse_if, ◌gives◌, Foremost}
@@ -29,13 +30,12 @@ use Rattle.report.proofs.FirstFault.{first_none, first_one}
 use Rattle.report.proofs.CallLaws.{given_answer, own_gets}
 use Rattle.report.proofs.RulesMembers.{subset_members}
 use Rattle.report.proofs.ReachLaws.{reached-report}
+use Rattle.report.proofs.RulesLaws.{rules_sets}
 use Rattle.report.proofs.TypingLaws.{permitted_within}
 use Rattle.report.proofs.Refusing.{own_early}
 use Rattle.report.proofs.WrittenAccepted.{called_sound, called_typed, called_formed, called_passes, called_columns}
 use Rattle.checking.specs.Promises.{Checks}
 use Rattle.finding.specs.declared.FindAnswer.{FindAnswer}
-use Rattle.filled.specs.ReadRules.{RulesBy}
-use Rattle.filled.proofs.ReadRulesLaws.{same_sets}
 use Rattle.finding.specs.Finding.{finding, has_wanted, lowest_wanted, found_answer, Finds, is_find_fault}
 use Rattle.demands.specs.FoundConfiguration.{columns_at, HoldsAll, LowestWith, NoneWith}
 use Rattle.demands.proofs.Demands.{call_foremost, found_afterwards, call_refuses, call_names, call_never}
@@ -153,10 +153,10 @@ module _ (T : Tables) (R : Reading) (wanted : ℕ) (r : FindAnswer) (finds : Fin
     pub none_exactly : (r ≡ FindAnswer.None) ↔ NoneWith T (columns_at T R) wanted
     none_exactly = (find_none, λ n. finds ∙ ap₂ found_answer accepted ((wanted_nowhere T wanted (configured_set accepted)).1 n))
 
-  -- the same of any sets that keep the typing rules of the reading
-  module _ (S : ℕ → ℕ → ℕ) (keep : RulesBy T S R) where
+  -- the same of any sets that keep the typing rules
+  module _ (S : ℕ → ℕ → ℕ) (keep : (c : ℕ) → permitted T c ≡ true → Rules T c (S c)) where
     ruled_set : verdict ≡ Verdict.Accepted → (c : ℕ) → permitted T c ≡ true → set_of T c (report T) ≡ S c (report T)
-    ruled_set e c p = let F = called_formed T R (finding wanted) e in sym (same_sets F R S keep c (report T) (reached-report F c p))
+    ruled_set e c p = let F = called_formed T R (finding wanted) e in sym (rules_sets F c p (S c) (keep c p) (report T) (reached-report F c p)).0
 
     pub find_ruled : {c : ℕ} → r ≡ FindAnswer.At c → LowestWith T (λ d. S d (report T)) wanted c
     find_ruled = found_in ruled_set

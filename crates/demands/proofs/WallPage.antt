@@ -20,6 +20,7 @@ use Rattle.report.specs.Tables.{Tables, kind_of, report}
 use Rattle.report.specs.Expressions.{configurations, permitted}
 use Rattle.report.specs.Typing.{set_of}
 use Rattle.report.specs.ColumnRows.{shown}
+use Rattle.report.specs.Rules.{Rules}
 use Rattle.report.specs.PlainAlgebra.{passes}
 use Rattle.report.specs.ConfiguredReport.{configured_report, configured_schema}
 use Rattle.report.specs.Configuring.{written}
@@ -36,11 +37,10 @@ use Rattle.report.proofs.VerdictLaws.{accepted_not_refused, if_accepted, then_ne
 use Rattle.report.proofs.FirstFault.{first_none, first_one}
 use Rattle.report.proofs.CallLaws.{given_answer, own_gets}
 use Rattle.report.proofs.ReachLaws.{reached-report}
+use Rattle.report.proofs.RulesLaws.{rules_sets}
 use Rattle.report.proofs.TypingLaws.{permitted_within, permitted_1024}
 use Rattle.report.proofs.Refusing.{own_early}
 use Rattle.report.proofs.WrittenAccepted.{called_sound, called_typed, called_own, called_formed, called_passes, called_columns}
-use Rattle.filled.specs.ReadRules.{RulesBy}
-use Rattle.filled.proofs.ReadRulesLaws.{same_sets}
 use Rattle.checking.specs.Promises.{Checks}
 use Rattle.printing.specs.Page.{aligned, mark, page_line, page}
 use Rattle.printing.proofs.PageLineLaws.{line-length}
@@ -175,12 +175,12 @@ module _ (T : Tables) (R : Reading) (lent : List ℕ) (r : PageAnswer) (bytes : 
   pub page-passes : {n : ℕ} → r ≡ PageAnswer.Lines n → (c : ℕ) → permitted T c ≡ true → passes (kind_of T) (configured_schema T c) (configured_report T c R) ≡ true
   page-passes e c p = called_passes T R call (lines_answer e).0 c p
 
-  -- the same of any sets that keep the typing rules of the reading
-  pub page_ruled : (S : ℕ → ℕ → ℕ) → RulesBy T S R → {n : ℕ} → r ≡ PageAnswer.Lines n
+  -- the same of any sets that keep the typing rules
+  pub page_ruled : (S : ℕ → ℕ → ℕ) → ((c : ℕ) → permitted T c ≡ true → Rules T c (S c)) → {n : ℕ} → r ≡ PageAnswer.Lines n
       → PageShows T (λ c. S c (report T)) lent n bytes
   page_ruled S keep =
       page_in (λ a c p.
-      let F = called_formed T R call a in sym (same_sets F R S keep c (report T) (reached-report F c p)))
+      let F = called_formed T R call a in sym (rules_sets F c p (S c) (keep c p) (report T) (reached-report F c p)).0)
 
   -- ---- after a check that accepted, and left these rows
 

@@ -1,6 +1,6 @@
 -- What typing reads of tables that have passed the form checks, and what it answers and leaves, whichever way it goes.
-use Rattle.std.specs.Prelude.{ℕ, ◌≤◌, ◌≡◌, List, replicate}
-use Rattle.sets.specs.Rows.{row_of}
+use Rattle.std.specs.Prelude.{ℕ, ◌≤◌, ◌≡◌, true, List, replicate}
+use Rattle.sets.specs.Rows.{row_of, within}
 use Rattle.report.specs.Tables.{Tables, relation_count}
 use Rattle.report.specs.Expressions.{permitted}
 use Rattle.report.specs.ColumnRows.{column_rows}
@@ -18,7 +18,7 @@ pub record Items (T : Tables) (items : ℕ) : Type 0 where
 
 -- the scope of T
 pub record ScopeOf (T : Tables) (scope : Scope) : Type 0 where
-  pub featured : scope.features ≡ T.features
+  pub whole : scope.full.words ≡ row_of 16 (within T.features (λ c. true))
   pub permitting : scope.permitted.words ≡ row_of 16 (permitted T)
   pub bounded : Items T scope.items
 

@@ -53,11 +53,11 @@ pub fn fill_expression_rows(n: usize, expressions: &[u16], expression_rows: &mut
     }
 }
 
-// What typing is asked of: the configurations of so many features, the permitted ones of them, a bound of the items that can be at fault, which are attributes
-// and relations, and the reading.
+// What typing is asked of: all configurations, the permitted ones, a bound of the items that can be at fault, which are attributes and relations, and the
+// reading.
 #[derive(Drop)]
 pub struct Scope {
-    pub features: usize,
+    pub full: Row,
     pub permitted: Row,
     pub items: usize,
     pub reading: Reading,

@@ -26,7 +26,6 @@ use Rattle.report.proofs.OverLaws.{written_over, written_same}
 use Rattle.comparisons.specs.declared.Gathered.{Gathered}
 use Rattle.expression_rows.specs.declared.Scope.{Scope}
 use Rattle.expression_rows.specs.TypingReads.{Items, TypingReads}
-use Rattle.expression_rows.proofs.ScopeLaws.{all_configurations}
 use Rattle.expression_rows.proofs.RowsFilling.{RowsFilling, filling_none, filling_more, filling_all}
 use Rattle.report.proofs.TypingLaws.{column_wide}
 use Rattle.attribute_rows.specs.AttributeRows.{relation_row, gathered_row, RelationRowReads, RelationRowReadable, GatheredReads, GatheredReadable}
@@ -58,16 +57,10 @@ arrays_kept S p q r = record { compared = p ∙ S.compared; related = q ∙ S.re
 
 module _ {T : Tables} {scope : Scope} {expression_rows relation_entries project_entries relations comparisons queries kinds reach : List ℕ}
     (R : TypingReads T scope expression_rows relation_entries project_entries relations comparisons queries kinds reach) where
-  pub reads_gathered : {full : List ℕ} → full ≡ row_of 16 (within scope.features (λ c. true)) → GatheredReads T expression_rows comparisons kinds full
-  reads_gathered whole =
+  reads_named : GatheredReads T expression_rows comparisons kinds scope.full.words
+  reads_named =
       let P = R.report.prepared in
-      record {
-        formed = P.formed;
-        filled = P.filled;
-        comparisons_are = P.comparisons_are;
-        kinds_are = R.report.kinds_are;
-        whole = all_configurations R.scoped whole;
-      }
+      record { formed = P.formed; filled = P.filled; comparisons_are = P.comparisons_are; kinds_are = R.report.kinds_are; whole = R.scoped.whole }
 
   reads_relations : RelationRowReads T expression_rows relation_entries relations
   reads_relations =
@@ -75,11 +68,10 @@ module _ {T : Tables} {scope : Scope} {expression_rows relation_entries project_
       record { formed = P.formed; filled = P.filled; entries_are = P.relation_entries_are; relations_are = P.relations_are }
 
   module _ {named_rows relation_rows form_rows : List ℕ} (S : Arrays named_rows relation_rows form_rows) where
-    pub arrays_named : {full : List ℕ} → full ≡ row_of 16 (within scope.features (λ c. true))
-        → GatheredReadable expression_rows comparisons kinds full named_rows
-    arrays_named whole = record {
+    pub arrays_named : GatheredReadable expression_rows comparisons kinds scope.full.words named_rows
+    arrays_named = record {
       tables = T;
-      reads = reads_gathered whole;
+      reads = reads_named;
       room =
           let n = counts R.report.prepared.formed in let e = ap (λ (t : List ℕ). length t / 5) R.report.prepared.comparisons_are in
           let s = S.compared in
@@ -186,9 +178,8 @@ module _ {scope : Scope} {expression_rows relation_entries project_entries relat
       (S : Failing scope expression_rows relation_entries project_entries relations comparisons queries kinds reach lent lent_sets before fault_rows
       spared_sets columns a) where
     -- the rows of attribute a: of the comparisons and the relations
-    module _ {full old_named_rows named_rows old_related relation_rows old_form_rows : List ℕ} (whole : full ≡ row_of 16 (within scope.features (λ c. true)))
-        (arrays : Arrays old_named_rows old_related old_form_rows)
-        (names : (T : Tables) → GatheredReads T expression_rows comparisons kinds full
+    module _ {old_named_rows named_rows old_related relation_rows old_form_rows : List ℕ} (arrays : Arrays old_named_rows old_related old_form_rows)
+        (names : (T : Tables) → GatheredReads T expression_rows comparisons kinds scope.full.words
         → named_rows ≡ written (concat (comparison_count T) (gathered_row T Gathered.Names a)) old_named_rows)
         (relates : (T : Tables) → RelationRowReads T expression_rows relation_entries relations
         → relation_rows ≡ written (concat (relation_count T) (relation_row T a)) old_related)
@@ -202,7 +193,7 @@ module _ {scope : Scope} {expression_rows relation_entries project_entries relat
         relations_are = R.report.prepared.relations_are;
         queries_are = R.report.prepared.queries_are;
         reaching = R.report.reaching;
-        compared = gathered_are T a old_named_rows Gathered.Names (names T (reads_gathered R whole));
+        compared = gathered_are T a old_named_rows Gathered.Names (names T (reads_named R));
         related = relations_are_lem T a old_related (relates T (reads_relations R));
         faulty = faulty_rows T scope.reading a lent (S.faulty T R);
         sparing = numbers_are (query_count T) (spared_below T scope.reading a) _ (S.sparing T R);

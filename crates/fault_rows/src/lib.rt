@@ -252,9 +252,9 @@ fn judge_item(
     join_fault(here, q, &mut *fault_rows);
 }
 
-// Types all query forms in attribute a, in the reading of the scope, bottom up: judges item a in each, and fills `form_rows` with the forms' rows.
+// Types all query forms in attribute a, bottom up: judges item a in each, and fills `form_rows` with the forms' rows.
 fn type_forms(
-    scope: Scope,
+    reading: Reading,
     a: usize,
     expression_rows: &[u64],
     project_entries: &[u16],
@@ -267,16 +267,15 @@ fn type_forms(
     fault_rows: &mut [u64],
     spared_sets: &mut [u64],
 )
-    requires { FormRowsReadable scope.reading expression_rows.now project_entries.now relations.now queries.now reach.now
+    requires { FormRowsReadable reading expression_rows.now project_entries.now relations.now queries.now reach.now
         named_rows.now relation_rows.now a form_rows.old fault_rows.old spared_sets.old }
     ensures { (T : Tables)
-        → FormRowsReads T scope.reading expression_rows.now project_entries.now relations.now
+        → FormRowsReads T reading expression_rows.now project_entries.now relations.now
         queries.now reach.now named_rows.now relation_rows.now a fault_rows.old
         spared_sets.old
-        → FormsFilled T scope.reading a form_rows.new fault_rows.old fault_rows.new
+        → FormsFilled T reading a form_rows.new fault_rows.old fault_rows.new
         spared_sets.old spared_sets.new }
 {
-    let reading = scope.reading;
     let count = queries.len() / 4;
     let mut start = 0;
     let mut q = 0;
@@ -342,7 +341,7 @@ pub fn fill_faults(
         → FailsFilled T scope.reading scope.items fault_rows.old fault_rows.new spared_sets.old
         spared_sets.new columns.old columns.new }
 {
-    let full = Row::full(scope.features);
+    let reading = scope.reading;
     let mut named_rows = [0; Limits::MOST_COMPARISONS * Row::WORDS];
     let mut relation_rows = [0; Limits::MOST_RELATIONS * Row::WORDS];
     let mut form_rows = [0; Limits::MOST_QUERIES * Row::WORDS];
@@ -351,7 +350,7 @@ pub fn fill_faults(
         fill_gathered_rows(
             Gathered::Names,
             a,
-            full,
+            scope.full,
             expression_rows,
             comparisons,
             kinds,
@@ -365,7 +364,7 @@ pub fn fill_faults(
             &mut relation_rows,
         );
         type_forms(
-            scope,
+            reading,
             a,
             expression_rows,
             project_entries,

@@ -18,7 +18,7 @@ use Rattle.report.proofs.OperandLaws.{choice_comparison}
 use Rattle.comparisons.specs.Gathering.{own_of, Narrow}
 use Rattle.comparisons.proofs.OwnLaws.{narrow_at}
 use Rattle.comparisons.specs.declared.Gathered.{Gathered}
-use Rattle.faults_at.specs.SetsAt.{ComparisonAt, SomeComparison, GatheredReads}
+use Rattle.faults_at.specs.SetsAt.{ComparisonAt, SomeComparison, GatheredReadable, GatheredReads}
 
 -- what a comparison refers to is lower, and the expression of a choice is one of the tables'
 module _ {T : Tables} {f : ℕ} {set : ℕ → ℕ} {expression_rows : List ℕ} {c : ℕ} {sets : List ℕ} {to : Operands}
@@ -30,28 +30,21 @@ module _ {T : Tables} {f : ℕ} {set : ℕ → ℕ} {expression_rows : List ℕ}
   refers_condition w =
       (rw (choice_comparison (comparison T.comparisons f) (sym A.refers ∙ w)) at (comparison_at A.reads.formed f A.inside)).0
 
--- tables that are read
-module _ {T : Tables} {expression_rows comparisons kinds : List ℕ} {c : ℕ} (R : GatheredReads T expression_rows comparisons kinds c) where
-  comparison_count_lem : length comparisons / 5 ≡ comparison_count T
-  comparison_count_lem = ap (λ (t : List ℕ). length t / 5) R.compared.comparisons_are
+-- comparison f, of tables that are read
+module _ {T : Tables} {expression_rows comparisons kinds : List ℕ} {c : ℕ} (R : GatheredReads T expression_rows comparisons kinds c) {f : ℕ}
+    (h : f < length comparisons / 5) where
+  comparison_in : f < comparison_count T
+  comparison_in = rw R.compared.comparisons_are at h
 
-  enough : {room : ℕ} → comparison_count T ≤ room → length comparisons / 5 ≤ room
-  enough h = rw comparison_count_lem h
+  module _ {x : Comparison} (e : x ≡ comparison comparisons f) where
+    comparison_is : x ≡ comparison T.comparisons f
+    comparison_is = e ∙ ap (λ (t : List ℕ). comparison t f) R.compared.comparisons_are
 
-  -- and comparison f of them
-  module _ {f : ℕ} (h : f < length comparisons / 5) where
-    comparison_in : f < comparison_count T
-    comparison_in = rw comparison_count_lem at h
+    pub comparison_narrow : Narrow x
+    comparison_narrow = rw comparison_is (narrow_at R.compared.reads.formed f comparison_in)
 
-    module _ {x : Comparison} (e : x ≡ comparison comparisons f) where
-      comparison_is : x ≡ comparison T.comparisons f
-      comparison_is = e ∙ ap (λ (t : List ℕ). comparison t f) R.compared.comparisons_are
-
-      pub comparison_narrow : Narrow x
-      comparison_narrow = rw comparison_is (narrow_at R.compared.reads.formed f comparison_in)
-
-      own_is : (what : Gathered) → own_of (kind_in kinds) what x ≡ own_of (kind_of T) what (comparison T.comparisons f)
-      own_is what = ap₂ (λ (t : List ℕ) (y : Comparison). own_of (kind_in t) what y) R.kinds_are comparison_is
+    own_is : (what : Gathered) → own_of (kind_in kinds) what x ≡ own_of (kind_of T) what (comparison T.comparisons f)
+    own_is what = ap₂ (λ (t : List ℕ) (y : Comparison). own_of (kind_in t) what y) R.kinds_are comparison_is
 
 -- ---- the loop
 
@@ -66,35 +59,35 @@ gathering_none = record { filling = filling_none }
 
 module _ {what : Gathered} {expression_rows comparisons kinds : List ℕ} {c : ℕ} {lent sets : List ℕ} {f : ℕ}
     (S : Gathering what expression_rows comparisons kinds c lent sets f) where
-  module _ (h : f < length comparisons / 5) {x : Comparison} (e : x ≡ comparison comparisons f) {to : Operands} (o : to ≡ comparison_operands x) where
-    gathering_here : {T : Tables} → GatheredReads T expression_rows comparisons kinds c
-        → ComparisonAt T f (gathered T c (own_of (kind_of T) what)) expression_rows c sets to
-    gathering_here R = record {
-      reads = R.compared.reads;
-      inside = comparison_in R h;
-      refers = o ∙ ap comparison_operands (comparison_is R h e);
-      below = filling_below S.filling R;
-    }
+  module _ (A : GatheredReadable expression_rows comparisons kinds c lent) (h : f < length comparisons / 5) where
+    pub gathering_place : f < length sets
+    gathering_place = filling_place S.filling A.room h
 
-    module _ {T : Tables} (R : GatheredReads T expression_rows comparisons kinds c) where
+    module _ {x : Comparison} (e : x ≡ comparison comparisons f) {to : Operands} (o : to ≡ comparison_operands x) where
+      gathering_here : {T : Tables} → GatheredReads T expression_rows comparisons kinds c
+          → ComparisonAt T f (gathered T c (own_of (kind_of T) what)) expression_rows c sets to
+      gathering_here R = record {
+        reads = R.compared.reads;
+        inside = comparison_in R h;
+        refers = o ∙ ap comparison_operands (comparison_is R h e);
+        below = filling_below S.filling R;
+      }
+
       pub gathering_some : SomeComparison expression_rows c sets to
-      gathering_some = record { tables = T; number = f; set = _; at = gathering_here R }
+      gathering_some = record { tables = A.tables; number = f; set = _; at = gathering_here A.reads }
 
-      pub gathering_more : {own s : ℕ} → comparison_count T ≤ length lent → own ≡ own_of (kind_in kinds) what x
+      pub gathering_more : {own s : ℕ} → own ≡ own_of (kind_in kinds) what x
           → ((T : Tables) (f : ℕ) (set : ℕ → ℕ) → ComparisonAt T f set expression_rows c sets to → s ≡ gathered_of T c set own to)
           → Gathering what expression_rows comparisons kinds c lent (set sets f s) (f + 1)
-      gathering_more room p s = record {
+      gathering_more p s = record {
         filling =
-            filling_more S.filling (enough R room) h
+            filling_more S.filling A.room h
             (λ T R. let own = own_of (kind_of T) what in
             let a = gathering_here R in
             s T f (gathered T c own) a ∙ ap₂ (gathered_of T c (gathered T c own)) (p ∙ own_is R h e what) a.refers
             ∙ sym (gathered_in R.compared.reads.formed c f a.inside own));
       }
 
-  module _ {T : Tables} (R : GatheredReads T expression_rows comparisons kinds c) where
-    pub gathering_place : comparison_count T ≤ length lent → f < length comparisons / 5 → f < length sets
-    gathering_place room = filling_place S.filling (enough R room)
-
-    pub gathering_all : length comparisons / 5 ≤ f → sets ≡ written (table (comparison_count T) (gathered T c (own_of (kind_of T) what))) lent
-    gathering_all h = filling_all S.filling h T R (comparison_count_lem R)
+  pub gathering_all : length comparisons / 5 ≤ f → (T : Tables) → GatheredReads T expression_rows comparisons kinds c
+      → sets ≡ written (table (comparison_count T) (gathered T c (own_of (kind_of T) what))) lent
+  gathering_all h T R = filling_all S.filling h T R (ap (λ (t : List ℕ). length t / 5) R.compared.comparisons_are)

@@ -1,12 +1,11 @@
 -- What is worked out at one configuration c: what is gathered from comparisons, the sets of relations and query forms, the items at fault; and what
 -- each function reads of tables T. `..Readable`, `Some..`: there are such tables, and room for what is written.
 use Rattle.std.specs.Prelude.{ℕ, ◌/◌, ◌<◌, ◌≤◌, ◌≡◌, cond, List, length}
-use Rattle.sets.specs.Lists.{table, NumbersAre}
+use Rattle.sets.specs.Lists.{NumbersAre}
 use Rattle.report.specs.Tables.{Tables, comparison, query, relation_count, comparison_count, query_count}
 use Rattle.report.specs.Tables.{relation_start, entries_of_projects}
 use Rattle.report.specs.Operands.{comparison_operands}
 use Rattle.report.specs.Typing.{present, relation_set, names, clashes, set_of}
-use Rattle.report.specs.Configuring.{written}
 use Rattle.report.specs.Formed.{Formed}
 use Rattle.report.specs.declared.Operands.{Operands}
 use Rattle.report.specs.declared.Query.{Query}
@@ -51,17 +50,11 @@ pub record GatheredReads (T : Tables) (expression_rows comparisons kinds : List 
   pub compared : ComparisonReads T expression_rows comparisons c
   pub kinds_are : kinds ≡ T.kinds
 
--- and room for the sets of all, twice
-pub record GatheredReadable (expression_rows comparisons kinds : List ℕ) (c : ℕ) (named_sets clash_sets : List ℕ) : Type 0 where
+-- and room for the sets of all
+pub record GatheredReadable (expression_rows comparisons kinds : List ℕ) (c : ℕ) (lent : List ℕ) : Type 0 where
   pub tables : Tables
   pub reads : GatheredReads tables expression_rows comparisons kinds c
-  pub named : comparison_count tables ≤ length named_sets
-  pub clashing : comparison_count tables ≤ length clash_sets
-
--- in these words afterwards what each comparison names at c, and the left attributes that it compares with another kind; the words after them stay
-pub record GatheredFilled (T : Tables) (c : ℕ) (named_sets clash_sets named_sets' clash_sets' : List ℕ) : Type 0 where
-  pub compared : named_sets' ≡ written (table (comparison_count T) (names T c)) named_sets
-  pub clashed : clash_sets' ≡ written (table (comparison_count T) (clashes T c)) clash_sets
+  pub room : length comparisons / 5 ≤ length lent
 
 -- ---- query forms
 

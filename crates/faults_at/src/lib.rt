@@ -3,12 +3,13 @@
 ghost use Rattle.std.specs.Prelude.{◌≡◌, cond, ℕ, ◌+◌, ◌^◌, ◌<◌, length, get_or};
 ghost use Rattle.std.specs.Int.Bits.{bit_and, bit_or, bit_xor};
 ghost use Rattle.sets.specs.Lists.{table};
-ghost use Rattle.report.specs.Tables.{Tables, relation_count, query_count};
-ghost use Rattle.report.specs.Typing.{present, gathered_of, set_rule, set_of, faults_of, clashes_in};
+ghost use Rattle.report.specs.Tables.{Tables, kind_of, relation_count, comparison_count, query_count};
+ghost use Rattle.report.specs.Typing.{present, gathered_of, gathered, set_rule, set_of, faults_of, clashes_in};
 ghost use Rattle.report.specs.Configuring.{written};
+ghost use Rattle.comparisons.specs.Gathering.{own_of};
 ghost use Rattle.at_configuration.specs.AtConfiguration.{PresentReads, PresentReadable, RelationReads};
 ghost use Rattle.faults_at.specs.SetsAt.{present_set, RelationSetsReadable, RelationSetReadable};
-ghost use Rattle.faults_at.specs.SetsAt.{ComparisonAt, SomeComparison, GatheredReads, GatheredReadable, GatheredFilled};
+ghost use Rattle.faults_at.specs.SetsAt.{ComparisonAt, SomeComparison, GatheredReads, GatheredReadable};
 ghost use Rattle.faults_at.specs.SetsAt.{SetsReads, SetsReadable, FormSetsReads, FormSetsReadable, QueryAt, SomeQuery, FormFaultsReads, FormFaultsReadable};
 ghost use Rattle.faults_at.specs.SetsAt.{FormClashesReads, FormClashesReadable};
 
@@ -115,31 +116,32 @@ fn gathered_at(
     }
 }
 
-// Fills the words lent with what is gathered from each comparison at c: the attributes that it names, and the left attributes that it compares with another
-// kind. Both are worked out as a comparison is read, so that it is read once.
+// Fills `gathered_sets` with what is gathered from each comparison at c.
 pub fn fill_gathered(
     c: usize,
+    what: Gathered,
     expression_rows: &[u64],
     comparisons: &[u16],
     kinds: &[u16],
-    named_sets: &mut [u64],
-    clash_sets: &mut [u64],
+    gathered_sets: &mut [u64],
 )
-    requires { GatheredReadable expression_rows.now comparisons.now kinds.now c named_sets.old clash_sets.old }
+    requires { GatheredReadable expression_rows.now comparisons.now kinds.now c gathered_sets.old }
     ensures { (T : Tables) → GatheredReads T expression_rows.now comparisons.now kinds.now c
-        → GatheredFilled T c named_sets.old clash_sets.old named_sets.new clash_sets.new }
+        → gathered_sets.new ≡ written (table (comparison_count T) (gathered T c (own_of (kind_of T) what))) gathered_sets.old }
 {
     let count = comparisons.len() / 5;
     let mut f = 0;
     while f < count {
         let x = decode_comparison(comparisons, f);
-        let to = comparison_operands(x);
-        let own_names = own_set(Gathered::Names, x, kinds);
-        let names = gathered_at(to, c, own_names, expression_rows, &*named_sets);
-        named_sets[f] = names.bits;
-        let own_clashes = own_set(Gathered::Clashes, x, kinds);
-        let clashes = gathered_at(to, c, own_clashes, expression_rows, &*clash_sets);
-        clash_sets[f] = clashes.bits;
+        let own = own_set(what, x, kinds);
+        let s = gathered_at(
+            comparison_operands(x),
+            c,
+            own,
+            expression_rows,
+            &*gathered_sets,
+        );
+        gathered_sets[f] = s.bits;
         f += 1;
     }
 }

@@ -17,13 +17,10 @@ use Rattle.sets.proofs.SearchLaws.{some_at}
 use Rattle.report.specs.Tables.{Tables, query_count, report}
 use Rattle.report.specs.Expressions.{configurations, permitted}
 use Rattle.report.specs.Typing.{taken, reached, present, project_set, names, set_rule, set_of, faults_of, clashes_in, faults, fails}
-use Rattle.report.specs.Readings.{found_in, faults_by, fails_by}
 use Rattle.report.specs.ColumnRows.{has_column, column_rows}
 use Rattle.report.specs.Rules.{Rule, ruled_rows}
-use Rattle.report.specs.Checks.{typing_check}
 use Rattle.report.specs.Formed.{Formed}
 use Rattle.report.specs.declared.Query.{Query}
-use Rattle.report.specs.declared.Reading.{Reading}
 use Rattle.report.specs.declared.Verdict.{Verdict}
 use Rattle.report.proofs.ValueLaws.{strong}
 use Rattle.report.proofs.StepLaws.{set_in}
@@ -36,6 +33,9 @@ use Rattle.report.proofs.TreeLaws.{reached-permitted}
 use Rattle.report.proofs.TypingLaws.{permitted_within, typing_accepted}
 use Rattle.report.proofs.ReadingLaws.{asks, faults_other, fails_by_lem}
 use Rattle.report.proofs.RulesLaws.{rules_sets, sets_rules, rules_exactly}
+use Rattle.report.specs.declared.Reading.{Reading}
+use Rattle.report.specs.Readings.{found_in, faults_by, fails_by}
+use Rattle.report.specs.Checks.{typing_check}
 use Rattle.filled.specs.ReadRules.{Present, Held, FilledRule, RulesBy}
 use Rattle.filled.proofs.FilledLaws.{filled_bit, relation_fails, entry_fails}
 
@@ -57,7 +57,7 @@ module _ (T : Tables) (c q : ℕ) (r : reached T c q ≡ true) where
           absurd (false≢true (sym (bit_none x) ∙ ap (λ (y : ℕ). bit y x) (sym z) ∙ filled_bit T q c x ∙ ap₂ (λ (s t : Bool). s && not t) e i))
 
   module _ (z : faults_by T Reading.Filled c 0 q ≡ 0) where
-    relation_present : (a : ℕ) → form_at T q ≡ Query.Relation a → Present T q a
+    relation_present : (a : ℕ) → form_at T q ≡ Query.Relation a → Present T (set_of T) q a
     unfolding faults
     relation_present a e = go (present T c a) refl
       where
@@ -65,7 +65,7 @@ module _ (T : Tables) (c q : ℕ) (r : reached T c q ≡ true) where
         is true u = refl
         is false u = absurd (false≢true (sym (bit_none a) ∙ u))
 
-        go : (t : Bool) → present T c a ≡ t → Present T q a
+        go : (t : Bool) → present T c a ≡ t → Present T (set_of T) q a
         go true i = record { place = c; reaches = r; is_present = i }
         go false i =
             let f = found z a (ap (λ (y : Query). bit (faults_of T c q y) a) e ∙ ap (λ (t : Bool). bit (cond t 0 (2 ^ a)) a) i ∙ bit_pow a a ∙ eq-eqb a a refl) in
@@ -266,8 +266,7 @@ module _ {T : Tables} (F : Formed T) where
 
   -- ---- rows
 
-  -- sets that keep the rules of the reading are those of the definition, wherever a form is reached
-  pub same_sets : (R : Reading) (S : ℕ → ℕ → ℕ) → RulesBy T S R → (c q : ℕ) → reached T c q ≡ true → S c q ≡ set_of T c q
+  same_sets : (R : Reading) (S : ℕ → ℕ → ℕ) → RulesBy T S R → (c q : ℕ) → reached T c q ≡ true → S c q ≡ set_of T c q
   same_sets Reading.Filled S keep c q r = filled_sets S keep c q r
   same_sets Reading.Strict S keep c q r = (rules_sets F c (reached-permitted T c q r) (S c) (keep c) q r).0
 

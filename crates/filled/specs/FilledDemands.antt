@@ -14,7 +14,6 @@ use Rattle.report.specs.Verdicts.{refusal}
 use Rattle.report.specs.Checks.{is_one_of, is_of_typing, is_typing_fault}
 use Rattle.report.specs.Calls.{Call, Given, answer_to}
 use Rattle.report.specs.WrittenTables.{WrittenTyped}
-use Rattle.report.specs.TypingFaults.{TypingFault}
 use Rattle.report.specs.GivenDemands.{PassesThroughout}
 use Rattle.report.specs.declared.Query.{Query}
 use Rattle.report.specs.declared.Reading.{Reading}
@@ -63,12 +62,12 @@ pub record PlainBreaks (T : Tables) (r : Refusal) : Type 0 where
   pub filled : is_one_of (15 ∷ 17 ∷ []) r.number ≡ false
       → passes (kind_of T) (configured_schema T r.configuration) (configured_report T r.configuration Reading.Filled) ≡ false
 
--- what it names (report/specs/TypingFaults), which report breaks a plain rule there, and 15 and 17 in the wish's words
+-- what it names: the lowest form that fails
 pub record FilledNamed (T : Tables) (r : Refusal) : Type 0 where
-  pub fault : TypingFault T Reading.Filled r
   pub breaks : PlainBreaks T r
   pub absent : r.number ≡ 15 → LowestAbsent T r.configuration r.place r.item
   pub missing : r.number ≡ 17 → LowestMissing T r.configuration r.place r.item
+  pub lower_forms : LowerFormsKeep T r.place
 
 -- ---- what the answers in the two readings, to a call that got as far as typing, say of the tables T
 

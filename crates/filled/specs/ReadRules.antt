@@ -10,13 +10,13 @@ use Rattle.report.specs.Rules.{Rule}
 use Rattle.report.specs.declared.Query.{Query}
 use Rattle.report.specs.declared.Reading.{Reading}
 
--- relation form q, of relation a, is reached somewhere where a is present
-pub record Present (T : Tables) (q a : ℕ) : Type 0 where
-  pub place : ℕ
-  pub reaches : reached T place q ≡ true
-  pub is_present : present T place a ≡ true
-
 module _ (T : Tables) (S : ℕ → ℕ → ℕ) where
+  -- relation form q is reached and present somewhere
+  pub record Present (q a : ℕ) : Type 0 where
+    pub place : ℕ
+    pub reaches : reached T place q ≡ true
+    pub is_present : present T place a ≡ true
+
   -- the joined list of project form q, of `count` entries over the operand b, has attribute x, and so has the operand, at some place that reaches q
   pub record Held (q count b x : ℕ) : Type 0 where
     pub place : ℕ
@@ -28,7 +28,7 @@ module _ (T : Tables) (S : ℕ → ℕ → ℕ) where
   FilledRule c q Query.Malformed = ⊥
   FilledRule c q Query.Empty = Rule T c (S c) q Query.Empty
   -- relation: it is present somewhere that reaches the form; its joined list where present, and elsewhere nothing
-  FilledRule c q (Query.Relation a) = Present T q a × (S c q ≡ cond (present T c a) (relation_set T c a) 0)
+  FilledRule c q (Query.Relation a) = Present q a × (S c q ≡ cond (present T c a) (relation_set T c a) 0)
   FilledRule c q (Query.Select a b) = Rule T c (S c) q (Query.Select a b)
   -- project: each attribute of its joined list is, somewhere that reaches the form and where the list has it, in the operand's set; those attributes of
   -- the list that the operand has

@@ -1,13 +1,13 @@
 -- How the parts of judging make its answer, what each part leaves for the next, and what a caller has of tables that pass.
 use Prim.Native.Nat.{ℕ, ◌+◌, ◌-◌, ◌*◌, ◌/◌, ◌%◌, ◌^◌, ◌≤◌, max}
 use mathlib.Core.Path.{◌≡◌, refl, sym, ap, ◌∙◌}
-use mathlib.Core.Bool.{false}
+use mathlib.Core.Bool.{true, false}
 use mathlib.Core.List.{List}
 use native.Mathlib.Nat.{le_refl, le-max_left, le-max_right, max-le}
 use native.Mathlib.Omega.{arith}
 use lib.ListN.{length, take, drop, replicate, length-replicate}
 use lib.Pow.{pow_mono}
-use Rattle.sets.specs.Rows.{row_of, row_in, row_is_empty}
+use Rattle.sets.specs.Rows.{row_of, row_in, row_is_empty, within}
 use Rattle.sets.proofs.BitLaws.{shl_one}
 use Rattle.report.specs.Tables.{Tables, expression_count, relation_count, query_count, relations_end}
 use Rattle.report.specs.Expressions.{configurations, permitted}
@@ -86,6 +86,9 @@ enough {T} F e f g =
 
 module _ {T : Tables} {head : Head} {expression_rows relation_entries project_entries relations comparisons queries kinds : List ℕ}
     (R : JudgeReads T head expression_rows relation_entries project_entries relations comparisons queries kinds) where
+  pub few_features : head.features ≤ 10
+  few_features = let f = R.prepared.formed.few in let e = R.features in omega arith
+
   module _ {permits : List ℕ} (load : permits ≡ row_in 16 expression_rows head.model) where
     permitting : permits ≡ row_of 16 (permitted T)
     permitting = load ∙ model_row R.prepared.formed R.prepared.filled R.model
@@ -102,13 +105,13 @@ module _ {T : Tables} {head : Head} {expression_rows relation_entries project_en
     pub reach_reads : ReachReads T queries expression_rows permits
     reach_reads = record { formed = R.prepared.formed; filled = R.prepared.filled; queries_are = R.prepared.queries_are; permitting = permitting }
 
-    pub typing_reads : {words : ℕ} {reach : List ℕ} {items : ℕ} → query_count T * 16 ≤ words → reach ≡ reach_rows T words
-        → items ≡ max head.attributes (length relations / 2) → {scope : Scope}
-        → scope.features ≡ head.features → scope.permitted.words ≡ permits → scope.items ≡ items
+    pub typing_reads : {words : ℕ} {reach full : List ℕ} {items : ℕ} → query_count T * 16 ≤ words → reach ≡ reach_rows T words
+        → full ≡ row_of 16 (within head.features (λ c. true)) → items ≡ max head.attributes (length relations / 2) → {scope : Scope}
+        → scope.full.words ≡ full → scope.permitted.words ≡ permits → scope.items ≡ items
         → TypingReads T scope expression_rows relation_entries project_entries relations comparisons queries kinds reach
-    typing_reads room reaching most f p i = record {
+    typing_reads room reaching whole most f p i = record {
       scoped = record {
-        featured = f ∙ R.features;
+        whole = f ∙ whole ∙ ap (λ (k : ℕ). row_of 16 (within k (λ c. true))) R.features;
         permitting = p ∙ permitting;
         bounded = enough R.prepared.formed R.attributes (ap (λ (t : List ℕ). length t / 2) R.prepared.relations_are) (i ∙ most);
       };

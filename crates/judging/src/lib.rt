@@ -86,7 +86,7 @@ pub fn judge_into_rows(
     }
     fill_reach(permitted, expression_rows, queries, &mut *reach);
     let scope = Scope {
-        features: head.features,
+        full: Row::full(head.features),
         permitted: permitted,
         items: larger(head.attributes, relations.len() / 2),
         reading: reading,

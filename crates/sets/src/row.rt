@@ -128,16 +128,14 @@ impl Row {
     pub fn lowest(self) -> Found
         ensures { result ≡ row_lowest 16 self.words }
     {
-        let words = self.words;
-        Row::lowest_from(&words, 0)
+        self.lowest_from(0)
     }
 
-    // The lowest configuration, of the row with these words, that is not below `from`. The word of `from` is read from there on, and each after it whole. It
-    // takes no row by value, since who goes through all configurations of a row would copy it at each.
-    pub fn lowest_from(words: &[u64], from: usize) -> Found
-        requires { length words.now ≡ 16 }
-        ensures { result ≡ row_lowest_from 16 words.now from }
+    // The lowest configuration of the row that is not below `from`. The word of `from` is read from there on, and each after it whole.
+    pub fn lowest_from(self, from: usize) -> Found
+        ensures { result ≡ row_lowest_from 16 self.words from }
     {
+        let words = self.words;
         let mut c = from;
         while c < Row::WORDS * 64 {
             let rest = words[c / 64] >> (c % 64);

@@ -25,6 +25,7 @@ use Rattle.report.proofs.FormedFacts.{counts}
 use Rattle.report.proofs.OverLaws.{written_over, written_same}
 use Rattle.report.proofs.TreeLaws.{reached-permitted}
 use Rattle.report.proofs.TypingLaws.{permitted_within, permitted_1024}
+use Rattle.expression_rows.specs.declared.Scope.{Scope}
 use Rattle.expression_rows.proofs.ScopeLaws.{none_permitted, next_permitted}
 use Rattle.at_configuration.specs.AtConfiguration.{AtReads}
 use Rattle.faults_at.specs.SetsAt.{FormSetsReads, FormSetsReadable}
@@ -53,18 +54,18 @@ module _ (T : Tables) where
 -- ---- the loop
 
 -- the configurations below `from` were gone through; there are words for the sets at one
-pub record FoundPassed (permits expression_rows relation_entries project_entries relations queries reach lent form_sets spared_sets : List ℕ) (from : ℕ)
+pub record FoundPassed (scope : Scope) (expression_rows relation_entries project_entries relations queries reach lent form_sets spared_sets : List ℕ) (from : ℕ)
     : Type 0 where
   pub words : length form_sets ≡ 256
   pub size : length spared_sets ≡ length lent
-  pub within : (T : Tables) → SparingReads T permits expression_rows relation_entries project_entries relations queries reach → from ≤ configurations T
-  pub joined : (T : Tables) → SparingReads T permits expression_rows relation_entries project_entries relations queries reach
+  pub within : (T : Tables) → SparingReads T scope expression_rows relation_entries project_entries relations queries reach → from ≤ configurations T
+  pub joined : (T : Tables) → SparingReads T scope expression_rows relation_entries project_entries relations queries reach
       → spared_sets ≡ written (table (query_count T) (found_below T from)) lent
 
-module _ {permits expression_rows relation_entries project_entries relations queries reach lent : List ℕ}
-    (A : SparingReadable permits expression_rows relation_entries project_entries relations queries reach lent) where
+module _ {scope : Scope} {expression_rows relation_entries project_entries relations queries reach lent : List ℕ}
+    (A : SparingReadable scope expression_rows relation_entries project_entries relations queries reach lent) where
   -- the words are 0
-  none_yet : {T : Tables} → SparingReads T permits expression_rows relation_entries project_entries relations queries reach → (f : ℕ → ℕ)
+  none_yet : {T : Tables} → SparingReads T scope expression_rows relation_entries project_entries relations queries reach → (f : ℕ → ℕ)
       → ((k : ℕ) → f k ≡ 0) → lent ≡ written (table (query_count T) f) lent
   none_yet {T} R f z =
       let room : query_count T ≤ A.words = rw (sym R.queries_are ∙ A.reads.queries_are) A.room in
@@ -74,15 +75,15 @@ module _ {permits expression_rows relation_entries project_entries relations que
         each = λ k h. ap (λ (l : List ℕ). get_or l k 0) A.clear ∙ get_or-replicate A.words k 0 0 (omega arith) ∙ sym (z k);
       })
 
-  pub found_none : FoundPassed permits expression_rows relation_entries project_entries relations queries reach lent (replicate 256 0) lent 0
+  pub found_none : FoundPassed scope expression_rows relation_entries project_entries relations queries reach lent (replicate 256 0) lent 0
   unfolding found_below
   found_none = record { words = refl; size = refl; within = λ T R. omega arith; joined = λ T R. none_yet R (found_below T 0) (λ k. refl) }
 
   module _ {form_sets spared_sets : List ℕ} {from : ℕ}
-      (S : FoundPassed permits expression_rows relation_entries project_entries relations queries reach lent form_sets spared_sets from)
-      {next : Found} (found : next ≡ row_lowest_from 16 permits from) where
+      (S : FoundPassed scope expression_rows relation_entries project_entries relations queries reach lent form_sets spared_sets from)
+      {next : Found} (found : next ≡ row_lowest_from 16 scope.permitted.words from) where
     -- what is found up to k, where none is permitted from `from` on
-    skipped : {T : Tables} → SparingReads T permits expression_rows relation_entries project_entries relations queries reach → (k : ℕ) → from ≤ k
+    skipped : {T : Tables} → SparingReads T scope expression_rows relation_entries project_entries relations queries reach → (k : ℕ) → from ≤ k
         → ((d : ℕ) → from ≤ d → d < k → permitted T d ≡ false) → spared_sets ≡ written (table (query_count T) (found_below T k)) lent
     skipped {T} R k h f =
         S.joined T R
@@ -90,25 +91,25 @@ module _ {permits expression_rows relation_entries project_entries relations que
         (table_same (query_count T) (found_below T from) (found_below T k) (λ q l. sym (found_skips T from k h f q)))
 
     -- none is left
-    pub found_all : next ≡ Found.Nothing → (T : Tables) → SparingReads T permits expression_rows relation_entries project_entries relations queries reach
+    pub found_all : next ≡ Found.Nothing → (T : Tables) → SparingReads T scope expression_rows relation_entries project_entries relations queries reach
         → spared_sets ≡ written (table (query_count T) (found_below T (configurations T))) lent
     found_all e T R =
         let few : configurations T ≤ 1024 = pow_mono {j = 10} R.formed.few in
-        skipped R (configurations T) (S.within T R) (λ d l h. none_permitted T R.permitting from found e d l (lt_of_lt_of_le h few))
+        skipped R (configurations T) (S.within T R) (λ d l h. none_permitted R.scoped from found e d l (lt_of_lt_of_le h few))
 
     -- c is the next
     module _ {c : ℕ} (e : next ≡ Found.At c) where
-      least : {T : Tables} → SparingReads T permits expression_rows relation_entries project_entries relations queries reach
+      least : {T : Tables} → SparingReads T scope expression_rows relation_entries project_entries relations queries reach
           → Least (permitted T) from (1024 - from) c
-      least {T} R = next_permitted T R.permitting from found e
+      least R = next_permitted R.scoped from found e
 
       pub found_between : (from ≤ c) × (c < 1024)
       found_between = let R = A.reads in ((least R).within.0, permitted_1024 R.formed c (least R).holds)
 
-      at_reads : {T : Tables} → SparingReads T permits expression_rows relation_entries project_entries relations queries reach → AtReads T expression_rows c
+      at_reads : {T : Tables} → SparingReads T scope expression_rows relation_entries project_entries relations queries reach → AtReads T expression_rows c
       at_reads {T} R = record { formed = R.formed; filled = R.filled; inside = permitted_within T c (least R).holds }
 
-      sets_reads : {T : Tables} → SparingReads T permits expression_rows relation_entries project_entries relations queries reach
+      sets_reads : {T : Tables} → SparingReads T scope expression_rows relation_entries project_entries relations queries reach
           → FormSetsReads T c expression_rows relation_entries project_entries relations queries
       sets_reads R = record {
         related = record { reads = at_reads R; entries_are = R.relation_entries_are; relations_are = R.relations_are };
@@ -128,7 +129,7 @@ module _ {permits expression_rows relation_entries project_entries relations que
           (fills : (T : Tables) → FormSetsReads T c expression_rows relation_entries project_entries relations queries
           → next_sets ≡ written (table (query_count T) (set_of T c)) form_sets)
         where
-          add_reads : {T : Tables} → SparingReads T permits expression_rows relation_entries project_entries relations queries reach
+          add_reads : {T : Tables} → SparingReads T scope expression_rows relation_entries project_entries relations queries reach
               → AddReads T c expression_rows relations queries reach next_sets spared_sets
           add_reads {T} R = record {
             reads = at_reads R;
@@ -146,7 +147,7 @@ module _ {permits expression_rows relation_entries project_entries relations que
           pub found_more : {next_spared : List ℕ} → length next_sets ≡ length form_sets → length next_spared ≡ length spared_sets
               → ((T : Tables) → AddReads T c expression_rows relations queries reach next_sets spared_sets
               → next_spared ≡ written (table (query_count T) (found_below T (suc c))) spared_sets)
-              → FoundPassed permits expression_rows relation_entries project_entries relations queries reach lent next_sets next_spared (c + 1)
+              → FoundPassed scope expression_rows relation_entries project_entries relations queries reach lent next_sets next_spared (c + 1)
           found_more l m adds = record {
             words = l ∙ S.words;
             size = m ∙ S.size;
@@ -161,13 +162,13 @@ module _ {permits expression_rows relation_entries project_entries relations que
 
   -- ---- the readings
 
-  module _ {T : Tables} (R : SparingReads T permits expression_rows relation_entries project_entries relations queries reach) {reading : Reading} where
-    pub spared_strict : reading ≡ Reading.Strict → lent ≡ written (table (query_count T) (spared T reading)) lent
+  module _ {T : Tables} (R : SparingReads T scope expression_rows relation_entries project_entries relations queries reach) where
+    pub spared_strict : scope.reading ≡ Reading.Strict → lent ≡ written (table (query_count T) (spared T scope.reading)) lent
     unfolding spared
     spared_strict e = rw e (none_yet R (spared T Reading.Strict) (λ k. refl))
 
-    pub spared_filled : {spared_sets : List ℕ} → reading ≡ Reading.Filled
+    pub spared_filled : {spared_sets : List ℕ} → scope.reading ≡ Reading.Filled
         → spared_sets ≡ written (table (query_count T) (found_below T (configurations T))) lent
-        → spared_sets ≡ written (table (query_count T) (spared T reading)) lent
+        → spared_sets ≡ written (table (query_count T) (spared T scope.reading)) lent
     unfolding spared
     spared_filled e p = rw e p

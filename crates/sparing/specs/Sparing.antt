@@ -1,15 +1,15 @@
 -- What the filled reading does not hold against each query form (report/specs/Readings): what the functions read of tables T; `..Readable`: there are such
 -- tables.
 use Rattle.std.specs.Prelude.{ℕ, ◌≤◌, ◌≡◌, List, replicate}
-use Rattle.sets.specs.Rows.{row_of}
 use Rattle.report.specs.Tables.{Tables, query_count, entries_of_relations, entries_of_projects}
-use Rattle.report.specs.Expressions.{permitted}
 use Rattle.report.specs.Formed.{Formed}
 use Rattle.expression_rows.specs.ExpressionRows.{TruthFilled, ReachFilled}
+use Rattle.expression_rows.specs.TypingReads.{ScopeOf}
+use Rattle.expression_rows.specs.declared.Scope.{Scope}
 
--- tables that have passed the form checks, without table 3, the row of their permitted configurations, and the reach rows
-pub record SparingReads (T : Tables) (permits expression_rows relation_entries project_entries relations queries reach : List ℕ) : Type 0 where
-  pub permitting : permits ≡ row_of 16 (permitted T)
+-- tables that have passed the form checks, without table 3, their scope, and the reach rows
+pub record SparingReads (T : Tables) (scope : Scope) (expression_rows relation_entries project_entries relations queries reach : List ℕ) : Type 0 where
+  pub scoped : ScopeOf T scope
   pub formed : Formed T
   pub filled : TruthFilled T expression_rows
   pub relation_entries_are : relation_entries ≡ entries_of_relations T
@@ -19,9 +19,9 @@ pub record SparingReads (T : Tables) (permits expression_rows relation_entries p
   pub reaching : ReachFilled T reach
 
 -- and a word for each query form, all 0
-pub record SparingReadable (permits expression_rows relation_entries project_entries relations queries reach spared_sets : List ℕ) : Type 0 where
+pub record SparingReadable (scope : Scope) (expression_rows relation_entries project_entries relations queries reach spared_sets : List ℕ) : Type 0 where
   pub tables : Tables
-  pub reads : SparingReads tables permits expression_rows relation_entries project_entries relations queries reach
+  pub reads : SparingReads tables scope expression_rows relation_entries project_entries relations queries reach
   pub words : ℕ
   pub clear : spared_sets ≡ replicate words 0
   pub room : query_count tables ≤ words

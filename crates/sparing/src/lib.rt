@@ -1,6 +1,6 @@
 // What the filled reading does not hold against a query form: what the form asks for and finds at any configuration that reaches it. It is needed whole
 // before a form is judged at the first configuration, so it is worked out beforehand, configuration by configuration.
-ghost use Rattle.std.specs.Prelude.{◌≡◌, cond, suc, ◌+◌, ◌^◌};
+ghost use Rattle.std.specs.Prelude.{◌≡◌, cond, ℕ, suc, ◌+◌, ◌^◌};
 ghost use Rattle.sets.specs.Lists.{table};
 ghost use Rattle.report.specs.Tables.{Tables, query_count};
 ghost use Rattle.report.specs.Expressions.{configurations};
@@ -16,7 +16,7 @@ use decoders::decode_query;
 use expression_rows::Scope;
 use faults_at::fill_form_sets;
 use report::{Limits, Query, Reading};
-use sets::{AttributeSet, Found, Row};
+use sets::{AttributeSet, Found};
 
 // Relation r if it is present at c, as a set of items.
 fn present_item(c: usize, r: usize, expression_rows: &[u64], relations: &[u16]) -> AttributeSet
@@ -104,10 +104,9 @@ fn add_found(
     }
 }
 
-// Fills `spared_sets`, which is all 0, with what each form finds at any configuration that reaches it. Those that are not permitted reach none; `permitted`
-// is the row of the others.
+// Fills `spared_sets`, which is all 0, with what each form finds at any configuration that reaches it. Those that are not permitted reach none.
 fn fill_found(
-    permitted: &[u64],
+    scope: Scope,
     expression_rows: &[u64],
     relation_entries: &[u16],
     project_entries: &[u16],
@@ -116,17 +115,17 @@ fn fill_found(
     reach: &[u64],
     spared_sets: &mut [u64],
 )
-    requires { SparingReadable permitted.now expression_rows.now relation_entries.now project_entries.now relations.now queries.now reach.now
+    requires { SparingReadable scope expression_rows.now relation_entries.now project_entries.now relations.now queries.now reach.now
         spared_sets.old }
     ensures { (T : Tables)
-        → SparingReads T permitted.now expression_rows.now relation_entries.now project_entries.now relations.now
+        → SparingReads T scope expression_rows.now relation_entries.now project_entries.now relations.now
         queries.now reach.now
         → spared_sets.new ≡ written (table (query_count T) (found_below T (configurations T))) spared_sets.old }
 {
     let mut form_sets = [0; Limits::MOST_QUERIES];
     let mut from = 0;
     loop {
-        let next = Row::lowest_from(permitted, from);
+        let next = scope.permitted.lowest_from(from);
         let Found::At(c) = next else {
             break;
         };
@@ -163,29 +162,25 @@ pub fn fill_spared(
     reach: &[u64],
     spared_sets: &mut [u64],
 )
-    requires { SparingReadable scope.permitted.words expression_rows.now relation_entries.now project_entries.now relations.now queries.now reach.now
+    requires { SparingReadable scope expression_rows.now relation_entries.now project_entries.now relations.now queries.now reach.now
         spared_sets.old }
     ensures { (T : Tables)
-        → SparingReads T scope.permitted.words expression_rows.now relation_entries.now project_entries.now relations.now
+        → SparingReads T scope expression_rows.now relation_entries.now project_entries.now relations.now
         queries.now reach.now
         → spared_sets.new ≡ written (table (query_count T) (spared T scope.reading)) spared_sets.old }
 {
     let reading = scope.reading;
     match reading {
         Reading::Strict => {}
-        Reading::Filled => {
-            let permitted = scope.permitted;
-            let words = permitted.words;
-            fill_found(
-                &words,
-                expression_rows,
-                relation_entries,
-                project_entries,
-                relations,
-                queries,
-                reach,
-                spared_sets,
-            )
-        }
+        Reading::Filled => fill_found(
+            scope,
+            expression_rows,
+            relation_entries,
+            project_entries,
+            relations,
+            queries,
+            reach,
+            spared_sets,
+        ),
     }
 }

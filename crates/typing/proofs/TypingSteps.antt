@@ -1,7 +1,6 @@
 -- What the parts of the typing check hand to one another.
 use Prim.Native.Nat.{ℕ, ◌+◌, ◌*◌, ◌/◌, ◌≤◌}
 use mathlib.Core.Path.{◌≡◌, refl, sym, ap, ◌∙◌}
-use mathlib.Core.Bool.{true}
 use mathlib.Core.List.{List}
 use native.Mathlib.Omega.{arith}
 use lib.ListN.{length, replicate, length-replicate}
@@ -9,7 +8,7 @@ use Rattle.sets.specs.declared.Found.{Found}
 use Rattle.sets.specs.Search.{lowest}
 use Rattle.sets.specs.Lists.{concat}
 use Rattle.sets.proofs.ListLaws.{numbers_are}
-use Rattle.sets.specs.Rows.{row_of, row_in, row_lowest, within}
+use Rattle.sets.specs.Rows.{row_in, row_lowest}
 use Rattle.report.specs.Tables.{Tables, comparison_count, query_count}
 use Rattle.report.specs.Configuring.{written}
 use Rattle.report.specs.Readings.{spared}
@@ -25,7 +24,7 @@ use Rattle.expression_rows.proofs.ColumnLaws.{columns_shown}
 use Rattle.attribute_rows.specs.AttributeRows.{gathered_row, GatheredReads, GatheredReadable}
 use Rattle.attribute_rows.proofs.AttributeLaws.{gathered_are}
 use Rattle.fault_rows.specs.FaultRows.{failing_row, FailReadable, FailsFilled, ClashReads}
-use Rattle.fault_rows.proofs.FailLaws.{reads_gathered, fails_rows}
+use Rattle.fault_rows.proofs.FailLaws.{fails_rows}
 use Rattle.fault_rows.proofs.ClashLaws.{failing_rows}
 use Rattle.typing_at.specs.declared.Here.{Here}
 use Rattle.typing_at.specs.TypingAt.{HereReads, HereChecked}
@@ -132,19 +131,24 @@ module _ {T : Tables} {scope : Scope} {expression_rows relation_entries project_
     (L : (T : Tables) → TypingReads T scope expression_rows relation_entries project_entries relations comparisons queries kinds reach
     → FailsFilled T scope.reading scope.items lent failed lent_sets spared_sets before columns)
   where
-    pub second_reads : {full : List ℕ} → full ≡ row_of 16 (within scope.features (λ c. true))
-        → SecondReads T scope.reading full expression_rows comparisons queries kinds reach failed
-    second_reads whole =
+    pub second_reads : SecondReads T scope.reading scope.full.words expression_rows comparisons queries kinds reach failed
+    second_reads =
         let P = R.report.prepared in
         record {
-          gathers = reads_gathered R whole;
+          gathers = record {
+            formed = P.formed;
+            filled = P.filled;
+            comparisons_are = P.comparisons_are;
+            kinds_are = R.report.kinds_are;
+            whole = R.scoped.whole;
+          };
           queries_are = P.queries_are;
           reaching = R.report.reaching;
           failing = fails_rows P.formed R.scoped.bounded (L T R);
         }
 
-    module _ {full fault_rows : List ℕ} (whole : full ≡ row_of 16 (within scope.features (λ c. true)))
-        (added : (T : Tables) (R : Reading) → SecondReads T R full expression_rows comparisons queries kinds reach failed
+    module _ {fault_rows : List ℕ}
+        (added : (T : Tables) (R : Reading) → SecondReads T R scope.full.words expression_rows comparisons queries kinds reach failed
         → fault_rows ≡ written (concat (query_count T) (failing_row T R)) failed)
       where
         pub rows_read : RowsReads T scope.reading expression_rows relation_entries project_entries relations comparisons queries kinds reach spared_sets
@@ -152,7 +156,7 @@ module _ {T : Tables} {scope : Scope} {expression_rows relation_entries project_
         rows_read = record {
           report = R.report;
           sparing = numbers_are (query_count T) (spared T scope.reading) _ (L T R).sparing;
-          failing = failing_rows T scope.reading failed (added T scope.reading (second_reads whole));
+          failing = failing_rows T scope.reading failed (added T scope.reading second_reads);
         }
 
         pub rows_checked : before ≡ replicate 1024 0 → {v : Verdict}

@@ -150,7 +150,7 @@ fn check_by_rows(
         columns,
     );
     add_second_phase(
-        Row::full(scope.features),
+        scope.full,
         expression_rows,
         comparisons,
         queries,

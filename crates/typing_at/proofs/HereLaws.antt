@@ -10,12 +10,14 @@ use borrow.Author.Count.{below_more}
 use borrow.Author.Tests.{not-true, not-false}
 use lib.Dec.{eqb}
 use lib.ListN.{length, get_or, replicate, length-replicate}
+use lib.Pow.{pow_mono}
 use Rattle.sets.specs.Bits.{difference, lowest_member}
 use Rattle.sets.specs.Lists.{table}
 use Rattle.sets.specs.Rows.{row_bit, row_in}
 use Rattle.sets.proofs.ListLaws.{numbers_are}
-use Rattle.report.specs.Tables.{Tables, query, project_length, projected_before, comparison_count, query_count, report}
-use Rattle.report.specs.Typing.{reached, set_of, faults_of, clashes_in, faults_in, faults}
+use Rattle.sets.proofs.RowLaws.{row_bit-row_of}
+use Rattle.report.specs.Tables.{Tables, query, kind_of, project_length, projected_before, comparison_count, query_count, report}
+use Rattle.report.specs.Typing.{reached, gathered, set_of, faults_of, clashes_in, faults_in, faults}
 use Rattle.report.specs.Readings.{faults_by}
 use Rattle.report.specs.Configuring.{written}
 use Rattle.report.specs.Verdicts.{refusal, refuse_if, or_else}
@@ -27,11 +29,11 @@ use Rattle.report.specs.declared.Reading.{Reading}
 use Rattle.report.proofs.FormedFacts.{counts, report_in}
 use Rattle.report.proofs.ReadingLaws.{faults-spared, faults_later}
 use Rattle.report.proofs.VerdictLaws.{or_else_accepted, accepted_if, accepted_first, refused_first}
-use Rattle.at_configuration.proofs.HoldLaws.{reach_row, reach_has}
+use Rattle.comparisons.specs.Gathering.{own_of}
+use Rattle.comparisons.specs.declared.Gathered.{Gathered}
 use Rattle.at_configuration.proofs.ListLaws.{form_list}
 use Rattle.at_configuration.proofs.PreparedLaws.{at_reads, relation_reads, comparison_reads}
-use Rattle.faults_at.specs.SetsAt.{GatheredReads, GatheredReadable, GatheredFilled, FormSetsReads, FormSetsReadable}
-use Rattle.faults_at.specs.SetsAt.{FormClashesReads, FormClashesReadable}
+use Rattle.faults_at.specs.SetsAt.{GatheredReads, GatheredReadable, FormSetsReads, FormSetsReadable, FormClashesReads, FormClashesReadable}
 use Rattle.faults_at.proofs.FormSetLaws.{form_count}
 use Rattle.typing_at.specs.TypingAt.{phase_here, form_here, typing_here, HereReads, HereReadable, SetsLent, HereFillable, HereFilled}
 use Rattle.typing_at.specs.Here.{FormHereReads, FormHereReadable, FormsHereReads, FormsHereReadable}
@@ -41,8 +43,11 @@ use Rattle.typing_at.specs.declared.Here.{Here}
 
 module _ {T : Tables} {R : Reading} {q : ℕ} {expression_rows entries relations reach spared : List ℕ} {c : ℕ} {named clashing sets : List ℕ} {start : ℕ}
     {x : Query} (H : FormHereReads T R q expression_rows entries relations reach spared c named clashing sets start x) where
+  few : c < 1024
+  few = lt_of_lt_of_le H.rule.at.reads.inside (pow_mono {j = 10} H.rule.at.reads.formed.few)
+
   pub reach_read : (q * 16 + 16 ≤ length reach) × (c < 1024)
-  reach_read = reach_row H.rule.at.reads H.reaching H.rule.at.inside
+  reach_read = (let l = H.rule.at.inside in let m = H.reaching.room in omega arith, few)
 
   reads_clashes : FormClashesReads T q c clashing x
   reads_clashes = record {
@@ -71,7 +76,8 @@ module _ {T : Tables} {R : Reading} {q : ℕ} {expression_rows entries relations
   -- a bit of the form's reach row was read
   module _ {t : Bool} (read : t ≡ row_bit (row_in 16 reach q) c) where
     told : t ≡ reached T c q
-    told = read ∙ reach_has H.rule.at.reads H.reaching H.rule.at.inside
+    told =
+        read ∙ ap (λ (r : List ℕ). row_bit r c) (H.reaching.each q H.rule.at.inside) ∙ row_bit-row_of 16 (λ d. reached T d q) c few
 
     -- a form that c does not reach breaks nothing
     pub unreached : not t ≡ true → Verdict.Accepted ≡ form_here T R c q
@@ -177,13 +183,12 @@ module _ {expression_rows entries relations queries reach spared : List ℕ} {c 
 
 module _ {T : Tables} {R : Reading} {c : ℕ} {expression_rows relation_entries project_entries relations comparisons queries kinds reach spared : List ℕ}
     (H : HereReads T R c expression_rows relation_entries project_entries relations comparisons queries kinds reach spared) where
-  -- what is gathered from the comparisons
+  -- what is gathered from the comparisons, over a list as it was
   reads_gathered : GatheredReads T expression_rows comparisons kinds c
   reads_gathered = record { compared = comparison_reads H.report.prepared H.inside; kinds_are = H.report.kinds_are }
 
-  pub gathered_readable : {named clashing sets : List ℕ} → SetsLent T named clashing sets
-      → GatheredReadable expression_rows comparisons kinds c named clashing
-  gathered_readable L = record { tables = T; reads = reads_gathered; named = L.named; clashing = L.clashing }
+  pub gathered_readable : {lent : List ℕ} → comparison_count T ≤ length lent → GatheredReadable expression_rows comparisons kinds c lent
+  gathered_readable h = record { tables = T; reads = reads_gathered; room = rw H.report.prepared.comparisons_are h }
 
   reads_form_sets : FormSetsReads T c expression_rows relation_entries project_entries relations queries
   reads_form_sets = record {
@@ -202,7 +207,10 @@ module _ {T : Tables} {R : Reading} {c : ℕ} {expression_rows relation_entries 
 
   -- what is gathered and the sets of the forms were worked out
   module _ (lent_named lent_clashing lent_sets : List ℕ) {named clashing sets : List ℕ}
-      (gathers : (T : Tables) → GatheredReads T expression_rows comparisons kinds c → GatheredFilled T c lent_named lent_clashing named clashing)
+      (names : (T : Tables) → GatheredReads T expression_rows comparisons kinds c
+      → named ≡ written (table (comparison_count T) (gathered T c (own_of (kind_of T) Gathered.Names))) lent_named)
+      (clashes : (T : Tables) → GatheredReads T expression_rows comparisons kinds c
+      → clashing ≡ written (table (comparison_count T) (gathered T c (own_of (kind_of T) Gathered.Clashes))) lent_clashing)
       (forms : (T : Tables) → FormSetsReads T c expression_rows relation_entries project_entries relations queries
       → sets ≡ written (table (query_count T) (set_of T c)) lent_sets)
     where
@@ -213,8 +221,8 @@ module _ {T : Tables} {R : Reading} {c : ℕ} {expression_rows relation_entries 
         relations_are = H.report.prepared.relations_are;
         queries_are = H.report.prepared.queries_are;
         reaching = H.report.reaching;
-        compared = numbers_are (comparison_count T) _ _ (gathers T reads_gathered).compared;
-        clashed = numbers_are (comparison_count T) _ _ (gathers T reads_gathered).clashed;
+        compared = numbers_are (comparison_count T) _ _ (names T reads_gathered);
+        clashed = numbers_are (comparison_count T) _ _ (clashes T reads_gathered);
         formed = numbers_are (query_count T) (set_of T c) _ (forms T reads_form_sets);
         sparing = H.sparing;
       }
@@ -238,7 +246,8 @@ module _ {T : Tables} {R : Reading} {c : ℕ} {expression_rows relation_entries 
               shows = shown ∙ ap (λ (t : List ℕ). get_or sets (length t / 4 - 1) 0) H.report.prepared.queries_are
                   ∙ f.formed.each (report T) (report_in H.report.prepared.formed);
             };
-            gathered = gathers T reads_gathered;
+            compared = names T reads_gathered;
+            clashed = clashes T reads_gathered;
             formed = forms T reads_form_sets;
           }
 
@@ -249,7 +258,7 @@ pub sets_enough : (most : ℕ) {T : Tables} → comparison_count T ≤ most → 
     → SetsLent T (replicate most 0) (replicate most 0) (replicate most 0)
 sets_enough most p q =
     let l = length-replicate {A = ℕ} most 0 in
-    record { named = omega arith; clashing = omega arith; forms = omega arith }
+    record { comparisons = omega arith; clashes = omega arith; forms = omega arith }
 
 -- 256 are enough for all
 pub here_fillable : {c : ℕ} {expression_rows relation_entries project_entries relations comparisons queries kinds reach spared : List ℕ}

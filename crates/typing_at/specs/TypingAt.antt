@@ -3,7 +3,7 @@ use Rattle.std.specs.Prelude.{ℕ, ◌<◌, ◌≤◌, ◌≡◌, List, length}
 use Rattle.sets.specs.Lists.{table, NumbersAre}
 use Rattle.report.specs.Tables.{Tables, comparison_count, query_count, report}
 use Rattle.report.specs.Expressions.{configurations}
-use Rattle.report.specs.Typing.{phases, set_of}
+use Rattle.report.specs.Typing.{phases, names, clashes, set_of}
 use Rattle.report.specs.Readings.{spared, fails_by}
 use Rattle.report.specs.Configuring.{written}
 use Rattle.report.specs.Verdicts.{refuse_if, first_from}
@@ -11,7 +11,6 @@ use Rattle.report.specs.Checks.{fault_refusal}
 use Rattle.report.specs.declared.Verdict.{Verdict}
 use Rattle.report.specs.declared.Reading.{Reading}
 use Rattle.expression_rows.specs.TypingReads.{ReportReads}
-use Rattle.faults_at.specs.SetsAt.{GatheredFilled}
 use Rattle.typing_at.specs.declared.Here.{Here}
 
 module _ (T : Tables) (R : Reading) (c : ℕ) where
@@ -51,8 +50,8 @@ pub record HereChecked (T : Tables) (R : Reading) (c : ℕ) (here : Here) : Type
 
 -- a word for each comparison, twice, and each query form
 pub record SetsLent (T : Tables) (named_sets clash_sets form_sets : List ℕ) : Type 0 where
-  pub named : comparison_count T ≤ length named_sets
-  pub clashing : comparison_count T ≤ length clash_sets
+  pub comparisons : comparison_count T ≤ length named_sets
+  pub clashes : comparison_count T ≤ length clash_sets
   pub forms : query_count T ≤ length form_sets
 
 -- there are such tables, and words are lent for the sets
@@ -61,8 +60,10 @@ pub record HereFillable (c : ℕ)
   pub readable : HereReadable c expression_rows relation_entries project_entries relations comparisons queries kinds reach spared_sets
   pub lent : SetsLent readable.tables named_sets clash_sets form_sets
 
--- the answer, and in these words afterwards the sets at c: what is gathered from each comparison, and the set of each query form; the words after them stay
+-- the answer, and in these words afterwards the sets at c: what each comparison names, the left attributes that it compares with another kind, and the set of
+-- each query form; the words after them stay
 pub record HereFilled (T : Tables) (R : Reading) (c : ℕ) (here : Here) (named_sets clash_sets form_sets named_sets' clash_sets' form_sets' : List ℕ) : Type 0 where
   pub checked : HereChecked T R c here
-  pub gathered : GatheredFilled T c named_sets clash_sets named_sets' clash_sets'
+  pub compared : named_sets' ≡ written (table (comparison_count T) (names T c)) named_sets
+  pub clashed : clash_sets' ≡ written (table (comparison_count T) (clashes T c)) clash_sets
   pub formed : form_sets' ≡ written (table (query_count T) (set_of T c)) form_sets

@@ -1,13 +1,17 @@
 // Checks 15 to 19 and 25 at one configuration, in either reading: the sets of all forms are worked out first, and then each form's faults from them, less
 // what the reading does not hold against it (`spared_sets`).
 ghost use Rattle.std.specs.Prelude.{◌≡◌};
-ghost use Rattle.report.specs.Tables.{Tables};
+ghost use Rattle.sets.specs.Lists.{table};
+ghost use Rattle.report.specs.Tables.{Tables, query_count};
+ghost use Rattle.report.specs.Typing.{set_of};
+ghost use Rattle.report.specs.Configuring.{written};
 ghost use Rattle.report.specs.Checks.{rule_number};
 ghost use Rattle.report.specs.declared.Reading.{Reading};
 ghost use Rattle.typing_at.specs.TypingAt.{form_here, typing_here, HereReads, HereReadable, HereChecked, HereFillable, HereFilled};
 ghost use Rattle.typing_at.specs.Here.{FormHereReads, FormHereReadable, FormsHereReads, FormsHereReadable};
 
 use at_configuration::holds_at;
+use comparisons::Gathered;
 use decoders::{decode_query, project_length};
 use faults_at::{clashes_in, faults_of, fill_form_sets, fill_gathered};
 use report::{Limits, Query, Verdict};
@@ -153,10 +157,18 @@ pub fn fill_here(
 {
     fill_gathered(
         c,
+        Gathered::Names,
         expression_rows,
         comparisons,
         kinds,
         &mut *named_sets,
+    );
+    fill_gathered(
+        c,
+        Gathered::Clashes,
+        expression_rows,
+        comparisons,
+        kinds,
         &mut *clash_sets,
     );
     fill_form_sets(

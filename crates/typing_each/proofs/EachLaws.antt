@@ -163,11 +163,6 @@ module _ (T : Tables) (R : Reading) (from mid to : ℕ) where
 
 -- ---- all configurations
 
--- a configuration that is accepted changes nothing
-pub sooner_accepted : (v : Verdict) → sooner v Verdict.Accepted ≡ v
-sooner_accepted Verdict.Accepted = refl
-sooner_accepted (Verdict.Refused r) = refl
-
 module _ (T : Tables) (R : Reading) where
   -- the answer from the configurations below k
   below_answer : (k : ℕ) → Answer T R 0 k (typing_below T R k)
@@ -199,6 +194,10 @@ module _ (T : Tables) (R : Reading) where
   each_typing k h = sym (answer_typing h (below_answer k))
 
   -- ---- configurations that are not permitted
+
+  sooner_accepted : (v : Verdict) → sooner v Verdict.Accepted ≡ v
+  sooner_accepted Verdict.Accepted = refl
+  sooner_accepted (Verdict.Refused r) = refl
 
   -- they change nothing
   pub below_skips : (j k : ℕ) → j ≤ k → ((c : ℕ) → j ≤ c → c < k → permitted T c ≡ false) → typing_below T R k ≡ typing_below T R j

@@ -57,19 +57,19 @@ module _ {lent_named lent_clashing lent_sets named clashing sets : List ℕ} (K 
 
   pub kept_lent : {T : Tables} → SetsLent T lent_named lent_clashing lent_sets → SetsLent T named clashing sets
   kept_lent L = record {
-    named = rw K.compared L.named;
-    clashing = rw K.clashed L.clashing;
+    comparisons = rw K.compared L.comparisons;
+    clashes = rw K.clashed L.clashes;
     forms = rw K.formed L.forms;
   }
 
 -- what is read to work out what is spared
 sparing_reads : {T : Tables} {scope : Scope} {expression_rows relation_entries project_entries relations comparisons queries kinds reach : List ℕ}
     → TypingReads T scope expression_rows relation_entries project_entries relations comparisons queries kinds reach
-    → SparingReads T scope.permitted.words expression_rows relation_entries project_entries relations queries reach
+    → SparingReads T scope expression_rows relation_entries project_entries relations queries reach
 sparing_reads R =
     let P = R.report.prepared in
     record {
-      permitting = R.scoped.permitting;
+      scoped = R.scoped;
       formed = P.formed;
       filled = P.filled;
       relation_entries_are = P.relation_entries_are;
@@ -84,7 +84,7 @@ module _ {scope : Scope} {expression_rows relation_entries project_entries relat
     forms_few_lem : query_count A.each.readable.tables ≤ most
     forms_few_lem = rw A.each.readable.reads.report.prepared.queries_are at A.forms_few
 
-    pub sparing_readable : SparingReadable scope.permitted.words expression_rows relation_entries project_entries relations queries reach (replicate most 0)
+    pub sparing_readable : SparingReadable scope expression_rows relation_entries project_entries relations queries reach (replicate most 0)
     sparing_readable = record {
       tables = A.each.readable.tables;
       reads = sparing_reads A.each.readable.reads;
@@ -95,7 +95,7 @@ module _ {scope : Scope} {expression_rows relation_entries project_entries relat
 
     -- it was worked out
     pub size_enough : {spares : List ℕ}
-        → ((T : Tables) → SparingReads T scope.permitted.words expression_rows relation_entries project_entries relations queries reach
+        → ((T : Tables) → SparingReads T scope expression_rows relation_entries project_entries relations queries reach
         → spares ≡ written (table (query_count T) (spared T scope.reading)) (replicate most 0))
         → EachFillable scope expression_rows relation_entries project_entries relations comparisons queries kinds reach spares columns (replicate most 0)
         (replicate most 0) (replicate most 0)
@@ -158,7 +158,7 @@ module _ {scope : Scope} {expression_rows relation_entries project_entries relat
     module _ (e : next ≡ Found.Nothing) where
       none : {T : Tables} → TypingReads T scope expression_rows relation_entries project_entries relations comparisons queries kinds reach
           → (d : ℕ) → from ≤ d → d < 1024 → permitted T d ≡ false
-      none {T} R = none_permitted T R.scoped.permitting from found e
+      none R = none_permitted R.scoped from found e
 
       gathered : {T : Tables} → TypingReads T scope expression_rows relation_entries project_entries relations comparisons queries kinds reach
           → SetsGathered T count numbers sets
@@ -199,7 +199,7 @@ module _ {scope : Scope} {expression_rows relation_entries project_entries relat
     module _ {c : ℕ} (e : next ≡ Found.At c) where
       least : {T : Tables} → TypingReads T scope expression_rows relation_entries project_entries relations comparisons queries kinds reach
           → Least (permitted T) from (1024 - from) c
-      least {T} R = next_permitted T R.scoped.permitting from found e
+      least R = next_permitted R.scoped from found e
 
       inside : {T : Tables} → TypingReads T scope expression_rows relation_entries project_entries relations comparisons queries kinds reach → c < 1024
       inside R = permitted_1024 R.report.prepared.formed c (least R).holds

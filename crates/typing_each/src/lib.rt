@@ -7,7 +7,7 @@ ghost use Rattle.typing_each.specs.TypingEach.{EachReadable, EachFillable, SizeR
 use column_rows::store_columns;
 use expression_rows::Scope;
 use report::{Limits, Verdict};
-use sets::{Found, Row};
+use sets::Found;
 use sparing::fill_spared;
 use typing_at::fill_here;
 use verdicts::sooner_of;
@@ -43,14 +43,13 @@ fn check_with(
         → Checked T scope.reading result columns.new }
 {
     let permitted = scope.permitted;
-    let words = permitted.words;
     let mut configurations = [0; FEW];
     let mut sets = [0; FEW];
     let mut count = 0;
     let mut answer = Verdict::Accepted;
     let mut from = 0;
     loop {
-        let next = Row::lowest_from(&words, from);
+        let next = permitted.lowest_from(from);
         let Found::At(c) = next else {
             break;
         };
@@ -74,9 +73,7 @@ fn check_with(
         sets[count] = set.bits;
         count += 1;
         let verdict = here.verdict;
-        if let Verdict::Refused(_) = verdict {
-            answer = sooner_of(answer, verdict);
-        }
+        answer = sooner_of(answer, verdict);
         from = c + 1;
     }
     store_columns(scope.items, count, &configurations, &sets, columns);

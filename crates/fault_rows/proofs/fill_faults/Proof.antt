@@ -1,7 +1,6 @@
 use borrow.Author.Rules.{rules}
 use Prim.Native.Nat.{◌-◌}
 use native.Mathlib.Omega.{arith}
-use Rattle.expression_rows.proofs.ScopeLaws.{few_features}
 use Rattle.fault_rows.proofs.FailLaws.{Arrays, arrays_clear, arrays_kept, arrays_named, arrays_relations}
 use Rattle.fault_rows.proofs.FailLaws.{Failing, failing_none, failing_forms, failing_column, failing_more, failing_all}
 use Rattle.fault_rows.proofs.fill_faults.Statement.{statement}
@@ -9,22 +8,19 @@ use Rattle.fault_rows.proofs.fill_faults.Tie as tie
 
 abbrev invariant-loop : tie.invariant-loop
 invariant-loop scope expression_rows relation_entries project_entries relations comparisons queries kinds reach fault_rows₀ spared_sets₀ columns₀
-    full named_rows₀ relation_rows₀ form_rows₀ a₀ fault_rows spared_sets columns named_rows relation_rows form_rows a =
+    reading named_rows₀ relation_rows₀ form_rows₀ a₀ fault_rows spared_sets columns named_rows relation_rows form_rows a =
     Arrays named_rows relation_rows form_rows
     × Failing scope expression_rows relation_entries project_entries relations comparisons queries kinds reach fault_rows₀ spared_sets₀ columns₀ fault_rows
     spared_sets columns a
 
 abbrev decreases-loop : tie.decreases-loop
 decreases-loop scope expression_rows relation_entries project_entries relations comparisons queries kinds reach fault_rows₀ spared_sets₀ columns₀
-    full named_rows₀ relation_rows₀ form_rows₀ a₀ fault_rows spared_sets columns named_rows relation_rows form_rows a =
+    reading named_rows₀ relation_rows₀ form_rows₀ a₀ fault_rows spared_sets columns named_rows relation_rows form_rows a =
     scope.items - a
 
 -- places of the code that the needs look back to
-abbrev first : tie.After-slice-known3 invariant-loop decreases-loop → tie.Start invariant-loop decreases-loop
-first p = p.before.before.before.before.before.before.before.before.before.before.before
-
-abbrev start : tie.After-full invariant-loop decreases-loop → tie.Start invariant-loop decreases-loop
-start p = first p.before
+abbrev start : tie.After-slice-known3 invariant-loop decreases-loop → tie.Start invariant-loop decreases-loop
+start p = p.before.before.before.before.before.before.before.before.before.before.before
 
 abbrev turn : tie.After-fill-relation-rows invariant-loop decreases-loop → tie.Then1 invariant-loop decreases-loop
 turn p = p.before.before.before.before.before
@@ -38,7 +34,7 @@ type-forms p = p.before.before.before.before.before.before.before
 fill-gathered-rows-requires : tie.Need-fill-gathered-rows-requires invariant-loop decreases-loop
 fill-gathered-rows-requires c κs =
     let l = c.before.before.before in
-    arrays_named (start l.before).pre.reads l.loop.invariant.0 l.before.full.ensures
+    arrays_named (start l.before).pre.reads l.loop.invariant.0
 
 fill-relation-rows-requires : tie.Need-fill-relation-rows-requires invariant-loop decreases-loop
 fill-relation-rows-requires c κs =
@@ -51,8 +47,7 @@ type-forms-requires c κs =
     let n = r.before.before.before in
     let i = turn r in
     let l = i.before.before in
-    failing_forms (start l.before).pre l.loop.inv.1 l.before.full.ensures l.loop.inv.0
-    n.fill-gathered-rows.ensures r.fill-relation-rows.ensures
+    failing_forms (start l.before).pre l.loop.inv.1 l.loop.inv.0 n.fill-gathered-rows.ensures r.fill-relation-rows.ensures
     i.if1.taken
 
 store-column-requires : tie.Need-store-column-requires invariant-loop decreases-loop
@@ -62,8 +57,7 @@ store-column-requires c κs =
     let n = r.before.before.before in
     let i = turn r in
     let l = i.before.before in
-    failing_column (start l.before).pre l.loop.inv.1 l.before.full.ensures l.loop.inv.0
-    n.fill-gathered-rows.ensures r.fill-relation-rows.ensures
+    failing_column (start l.before).pre l.loop.inv.1 l.loop.inv.0 n.fill-gathered-rows.ensures r.fill-relation-rows.ensures
     i.if1.taken t.type-forms.ensures
 
 add_a : tie.Need-overflow-add-a invariant-loop decreases-loop
@@ -83,8 +77,7 @@ loop-again c =
     let l = i.before.before in (
       arrays_kept l.loop.inv.0 n.fill-gathered-rows.kept.1.1.1.1.1.1.0 r.fill-relation-rows.kept.1.1.1.1.0
           t.type-forms.kept.1.1.1.1.1.1.1.1.1.0,
-      failing_more (start l.before).pre l.loop.inv.1 l.before.full.ensures l.loop.inv.0
-          n.fill-gathered-rows.ensures r.fill-relation-rows.ensures
+      failing_more (start l.before).pre l.loop.inv.1 l.loop.inv.0 n.fill-gathered-rows.ensures r.fill-relation-rows.ensures
           i.if1.taken t.type-forms.ensures t.type-forms.kept.1.1.1.1.1.1.1.1.1.1.0
           t.type-forms.kept.1.1.1.1.1.1.1.1.1.1.1.0
           s.store-column.auto.1.1.1.1.0 s.store-column.ensures,
@@ -101,7 +94,6 @@ fill-faults-spec =
     (tie.spec
     invariant-loop
     decreases-loop
-    (λ c κs. let R = (first c).requires.reads in few_features R.scoped R.report.prepared.formed)
     (λ c. (arrays_clear, failing_none (start c).requires))
     (λ c. search rules)
     fill-gathered-rows-requires

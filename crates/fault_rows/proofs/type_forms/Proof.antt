@@ -8,13 +8,13 @@ use Rattle.fault_rows.proofs.type_forms.Statement.{statement}
 use Rattle.fault_rows.proofs.type_forms.Tie as tie
 
 abbrev invariant-loop : tie.invariant-loop
-invariant-loop a expression_rows project_entries relations queries reach named_rows relation_rows form_rows₀ fault_rows₀ spared_sets₀ reading count start₀ q₀
+invariant-loop reading a expression_rows project_entries relations queries reach named_rows relation_rows form_rows₀ fault_rows₀ spared_sets₀ count start₀ q₀
     form_rows fault_rows spared_sets start q =
     FormsTyping reading expression_rows project_entries relations queries reach named_rows relation_rows a form_rows₀ form_rows fault_rows₀ fault_rows
     spared_sets₀ spared_sets q start
 
 abbrev decreases-loop : tie.decreases-loop
-decreases-loop a expression_rows project_entries relations queries reach named_rows relation_rows form_rows₀ fault_rows₀ spared_sets₀ reading count start₀ q₀
+decreases-loop reading a expression_rows project_entries relations queries reach named_rows relation_rows form_rows₀ fault_rows₀ spared_sets₀ count start₀ q₀
     form_rows fault_rows spared_sets start q =
     length queries / 4 - q
 

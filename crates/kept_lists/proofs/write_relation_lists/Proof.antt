@@ -31,7 +31,7 @@ write-list-if-requires c κs =
     let n = b.before in
     let i = n.before in
     lists_room i.loop-test.true n.relation-length.ensures b.is-present.ensures i.before.loop.invariant
-    i.before.before.all.ensures (start-of-loop i.before).pre
+    i.before.before.of-bits.ensures (start-of-loop i.before).pre
 
 add_start : tie.Need-overflow-add-start invariant-loop decreases-loop
 add_start c =
@@ -49,7 +49,7 @@ loop-again c =
     let n = b.before in
     let i = n.before in
     lists_more i.loop-test.true n.relation-length.ensures b.is-present.ensures i.before.loop.invariant
-    i.before.before.all.ensures w.write-list-if.ensures
+    i.before.before.of-bits.ensures w.write-list-if.ensures
 
 pub write-relation-lists-spec : {M : Type 1} → statement M
 write-relation-lists-spec =

@@ -2,22 +2,21 @@
 use Prim.Native.Nat.{◌-◌, ◌≤◌, ◌<◌}
 use native.Mathlib.Omega.{arith}
 use borrow.Author.Rules.{rules}
-use Rattle.expression_rows.proofs.ScopeLaws.{permits_words}
 use Rattle.sparing.proofs.SparingLaws.{FoundPassed, found_none, found_all, found_between, found_sets, found_add, found_more}
 use Rattle.sparing.proofs.fill_found.Statement.{statement}
 use Rattle.sparing.proofs.fill_found.Tie as tie
 
 abbrev invariant-loop : tie.invariant-loop
-invariant-loop permits expression_rows relation_entries project_entries relations queries reach spared_sets₀ form_sets₀ from₀ spared_sets form_sets from =
-    FoundPassed permits expression_rows relation_entries project_entries relations queries reach spared_sets₀ form_sets spared_sets from
+invariant-loop scope expression_rows relation_entries project_entries relations queries reach spared_sets₀ form_sets₀ from₀ spared_sets form_sets from =
+    FoundPassed scope expression_rows relation_entries project_entries relations queries reach spared_sets₀ form_sets spared_sets from
 
 abbrev decreases-loop : tie.decreases-loop
-decreases-loop permits expression_rows relation_entries project_entries relations queries reach spared_sets₀ form_sets₀ from₀ spared_sets form_sets from = 1024 - from
+decreases-loop scope expression_rows relation_entries project_entries relations queries reach spared_sets₀ form_sets₀ from₀ spared_sets form_sets from = 1024 - from
 
 -- ---- places: back from where each part is worked out to the one before
 
 abbrev first : tie.After-slice-known invariant-loop decreases-loop → tie.Start invariant-loop decreases-loop
-first p = p.before.before.before.before.before.before.before.before
+first p = p.before.before.before.before.before.before.before
 
 abbrev start : tie.At-loop invariant-loop decreases-loop → tie.Start invariant-loop decreases-loop
 start p = first p.before
@@ -85,7 +84,7 @@ fill-found-spec =
     invariant-loop
     decreases-loop
     (λ c. found_none (first c).requires)
-    (λ c κs. let A = (start c).requires in permits_words A.tables A.reads.permitting)
+    (λ c κs. search rules)
     (λ c. search rules)
     (λ c. search rules)
     (λ c. search rules)

@@ -1,5 +1,4 @@
 use borrow.Author.Rules.{rules}
-use Rattle.expression_rows.proofs.ScopeLaws.{few_features}
 use Rattle.typing.proofs.TypingSteps.{fails_readable, second_reads, rows_read, rows_checked}
 use Rattle.typing.proofs.check_by_rows.Statement.{statement}
 use Rattle.typing.proofs.check_by_rows.Tie as tie
@@ -8,44 +7,30 @@ use Rattle.typing.proofs.check_by_rows.Tie as tie
 abbrev start : tie.After-fill-faults-arg → tie.Start
 start p = p.before.before.before.before.before.before.before.before.before.before.before.before
 
-abbrev faulty : tie.After-slice-known2 → tie.After-fill-faults
-faulty p = p.before.before.before.before
-
-abbrev full : tie.After-fault-rows3 → tie.After-full
-full p = p.before
+abbrev faulty : tie.After-fault-rows3 → tie.After-fill-faults
+faulty p = p.before.before.before.before.before
 
 abbrev added : tie.After-fault-rows5 → tie.After-add-second-phase
 added p = p.before.before.before
 
-full-requires : tie.Need-full-requires
-full-requires c κs = let R = (start (faulty c).before).requires.reads in few_features R.scoped R.report.prepared.formed
-
 add-second-phase-requires : tie.Need-add-second-phase-requires
 add-second-phase-requires c κs =
-    let u = full c in
-    let f = faulty u.before in
+    let f = faulty c in
     let A = (start f.before).requires in
-    record { tables = A.tables; reading = _; reads = second_reads A.reads f.fill-faults.ensures u.full.ensures }
+    record { tables = A.tables; reading = _; reads = second_reads A.reads f.fill-faults.ensures }
 
 check-rows-requires : tie.Need-check-rows-requires
 check-rows-requires c κs =
     let a = added c in
-    let u = full a.before in
-    let f = faulty u.before in
+    let f = faulty a.before in
     let A = (start f.before).requires in
-    record {
-      tables = A.tables;
-      reading = _;
-      reads = rows_read A.reads f.fill-faults.ensures u.full.ensures a.add-second-phase.ensures;
-    }
+    record { tables = A.tables; reading = _; reads = rows_read A.reads f.fill-faults.ensures a.add-second-phase.ensures }
 
 returns : tie.Need-returns
 returns c =
     let a = added c.before in
-    let u = full a.before in
-    let f = faulty u.before in
-    λ T R.
-    rows_checked R f.fill-faults.ensures u.full.ensures a.add-second-phase.ensures (start f.before).requires.clear c.check-rows.ensures
+    let f = faulty a.before in
+    λ T R. rows_checked R f.fill-faults.ensures a.add-second-phase.ensures (start f.before).requires.clear c.check-rows.ensures
 
 pub check-by-rows-spec : {M : Type 1} → statement M
 check-by-rows-spec =
@@ -54,7 +39,6 @@ check-by-rows-spec =
     (λ c. search rules)
     (λ c. search rules)
     (λ c κs. fails_readable (start c).requires)
-    full-requires
     (λ c. search rules)
     add-second-phase-requires
     (λ c. search rules)

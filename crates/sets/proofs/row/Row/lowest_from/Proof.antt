@@ -4,15 +4,18 @@ use Prim.Native.Nat.{◌-◌, ◌/◌}
 use native.Mathlib.Omega.{arith}
 use borrow.Author.Rules.{rules}
 use lib.Count.{trailing_le}
+use lib.ListN.{get_or}
+use mir.Val.{Fits}
+use mir.Syntax.{w64}
 use Rattle.sets.proofs.RowLaws.{Passed, rest, passed_none, passed_word, found_at, found_nothing}
 use Rattle.sets.proofs.row.Row.lowest_from.Statement.{statement}
 use Rattle.sets.proofs.row.Row.lowest_from.Tie as tie
 
 abbrev invariant-loop : tie.invariant-loop
-invariant-loop words from c₀ c = Passed words from c
+invariant-loop from words c₀ c = Passed words from c
 
 abbrev decreases-loop : tie.decreases-loop
-decreases-loop words from c₀ c = 1024 - c
+decreases-loop from words c₀ c = 1024 - c
 
 -- places of the code that the needs look back to
 abbrev start : tie.Then1 invariant-loop decreases-loop → tie.Start invariant-loop decreases-loop
@@ -27,22 +30,22 @@ mul-loop c = omega arith
 mul-rest : tie.Need-overflow-mul-rest invariant-loop decreases-loop
 mul-rest c = omega arith
 
-shared-slice-read-rest : tie.Need-shared-slice-read-rest invariant-loop decreases-loop
-shared-slice-read-rest c = search rules
+array-read-rest : tie.Need-array-read-rest invariant-loop decreases-loop
+array-read-rest c = omega arith
 
 shr-rest : tie.Need-overflow-shr-rest invariant-loop decreases-loop
 shr-rest c = omega arith
 
-cast-t13 : tie.Need-overflow-cast-t13 invariant-loop decreases-loop
-cast-t13 c = omega (arith, trailing_le 64 (rest (start c).args.words.now c.before.before.before.loop.c))
+cast-t15 : tie.Need-overflow-cast-t15 invariant-loop decreases-loop
+cast-t15 c = omega (arith, trailing_le 64 (rest (start c).args.self.words c.before.before.loop.c))
 
-add-t14 : tie.Need-overflow-add-t14 invariant-loop decreases-loop
-add-t14 c = omega (arith, trailing_le 64 (rest (start c).args.words.now c.before.before.before.loop.c))
+add-t16 : tie.Need-overflow-add-t16 invariant-loop decreases-loop
+add-t16 c = omega (arith, trailing_le 64 (rest (start c).args.self.words c.before.before.loop.c))
 
 returns : tie.Need-returns invariant-loop decreases-loop
 returns c =
-    let f = c.before.shared-slice-known.given (c.before.before.before.loop.c / 64) in
-    sym (found_at c.before.before.before.loop.invariant 16 (omega arith) f.fits c.if1.true)
+    let f : Fits w64 (get_or (start c).args.self.words (c.before.before.loop.c / 64) 0) = search rules in
+    sym (found_at c.before.before.loop.invariant 16 (omega arith) f.fits c.if1.true)
 
 add-c : tie.Need-overflow-add-c invariant-loop decreases-loop
 add-c c = omega arith
@@ -54,7 +57,7 @@ loop-less : tie.Need-loop-smaller invariant-loop decreases-loop
 loop-less c = omega arith
 
 loop-again : tie.Need-loop-preserved invariant-loop decreases-loop
-loop-again c = passed_word c.before.before.before.loop.invariant c.if1.false
+loop-again c = passed_word c.before.before.loop.invariant c.if1.false
 
 returns-2 : tie.Need-returns-2 invariant-loop decreases-loop
 returns-2 c = sym (found_nothing c.before.loop.invariant 16 (omega arith))
@@ -68,10 +71,10 @@ lowest-from-spec =
     loop-holds
     mul-loop
     mul-rest
-    shared-slice-read-rest
+    array-read-rest
     shr-rest
-    cast-t13
-    add-t14
+    cast-t15
+    add-t16
     returns
     add-c
     mul-c
