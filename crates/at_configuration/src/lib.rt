@@ -1,5 +1,7 @@
 // What holds at one configuration c, read from the expression rows and the reach rows: an expression, an entry of a list, a relation, a choice; and
 // the joined set of a list.
+#![tactic(auto)]
+
 ghost use Rattle.std.specs.Prelude.{◌≡◌, cond, ℕ, ◌+◌, ◌*◌, ◌<◌, ◌≤◌, length};
 ghost use Rattle.sets.specs.Rows.{row_bit, row_in};
 ghost use Rattle.report.specs.Tables.{Tables};

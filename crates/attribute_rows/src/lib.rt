@@ -1,6 +1,8 @@
 // The rows of one attribute a: the configurations at which the lists, the relations, the comparisons and the query forms have it; and, whatever
 // a is, the rows of the configurations at which a comparison compares two kinds. Forms go bottom up, each from the rows of lower ones, so a form
 // that others share is worked out once.
+#![tactic(auto)]
+
 ghost use Rattle.std.specs.Prelude.{◌≡◌, false, cond, ℕ, ◌+◌, ◌*◌, ◌≤◌, length};
 ghost use Rattle.sets.specs.Lists.{concat};
 ghost use Rattle.sets.specs.Rows.{row_of, row_in, row_join, row_intersect, row_minus};

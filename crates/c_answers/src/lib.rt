@@ -1,4 +1,6 @@
 // How C tells the reading; the words in which it is told an answer, and a refusal told so.
+#![tactic(auto)]
+
 ghost use Rattle.std.specs.Prelude.{◌≡◌};
 ghost use Rattle.c_answers.specs.ReadingTold.{reading_told};
 ghost use Rattle.c_answers.specs.RefusalWords.{refusal_words};

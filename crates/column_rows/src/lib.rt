@@ -1,4 +1,6 @@
 // The column rows, made of the report's sets at the permitted configurations, one configuration after another.
+#![tactic(auto)]
+
 ghost use Rattle.std.specs.Prelude.{◌≡◌, cond, ◌%◌, ◌^◌, ◌<◌, ◌≤◌, length};
 ghost use Rattle.sets.specs.Bits.{bit};
 ghost use Rattle.sets.specs.Lists.{concat};

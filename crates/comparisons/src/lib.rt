@@ -1,4 +1,6 @@
 // One comparison by itself: the attributes that it names, and whether its sides have two kinds; and check 24. The kind table is read here alone.
+#![tactic(auto)]
+
 ghost use Rattle.std.specs.Prelude.{◌≡◌};
 ghost use Rattle.report.specs.Tables.{kind_in};
 ghost use Rattle.report.specs.Typing.{names_of, kinds_differ, left_of};
@@ -12,7 +14,7 @@ use sets::AttributeSet;
 use verdicts::refuse;
 
 // What is gathered from all that a comparison reaches: the attributes that are named, or the left attributes that are compared with another kind.
-#[derive(Drop)]
+#[derive(Clone, Copy)]
 pub enum Gathered {
     Names,
     Clashes,

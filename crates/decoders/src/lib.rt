@@ -1,4 +1,6 @@
 // One form of each table, from its words.
+#![tactic(auto)]
+
 ghost use Rattle.std.specs.Prelude.{◌≡◌, cond, ◌+◌, ◌*◌, ◌/◌, ◌<◌, length, get_or};
 ghost use Rattle.report.specs.Tables.{kind_in, entry_attribute, entry_expression, relation_expression, relation_length, expression_of, expression};
 ghost use Rattle.report.specs.Tables.{comparison_of, comparison, query_of, query, project_length};

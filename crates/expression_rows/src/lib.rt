@@ -1,4 +1,6 @@
 // Expression rows, the scope of typing, and checks 12 to 14.
+#![tactic(auto)]
+
 ghost use Rattle.std.specs.Prelude.{◌≡◌, ◌/◌, length};
 ghost use Rattle.sets.specs.Rows.{row_is_empty};
 ghost use Rattle.report.specs.Tables.{Tables};
@@ -55,7 +57,7 @@ pub fn fill_expression_rows(n: usize, expressions: &[u16], expression_rows: &mut
 
 // What typing is asked of: all configurations, the permitted ones, a bound of the items that can be at fault, which are attributes and relations, and the
 // reading.
-#[derive(Drop)]
+#[derive(Clone, Copy)]
 pub struct Scope {
     pub full: Row,
     pub permitted: Row,

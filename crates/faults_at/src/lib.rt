@@ -1,5 +1,7 @@
 // What is worked out at one configuration c: what is gathered from comparisons, the sets of relations and query forms, the items at fault in one
 // form in each phase. Sets lie one after another, one word a form. Forms go bottom up, each from the sets of lower ones.
+#![tactic(auto)]
+
 ghost use Rattle.std.specs.Prelude.{◌≡◌, cond, ℕ, ◌+◌, ◌^◌, ◌<◌, length, get_or};
 ghost use Rattle.std.specs.Int.Bits.{bit_and, bit_or, bit_xor};
 ghost use Rattle.sets.specs.Lists.{table};

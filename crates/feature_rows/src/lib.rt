@@ -1,4 +1,6 @@
 // Rows of features: where exactly one of a range of them is on.
+#![tactic(auto)]
+
 ghost use Rattle.std.specs.Prelude.{◌≡◌, ◌+◌, ◌≤◌};
 ghost use Rattle.sets.specs.Rows.{row_of, row_intersect};
 ghost use Rattle.report.specs.Expressions.{exactly_one_on};

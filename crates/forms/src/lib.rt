@@ -1,4 +1,6 @@
 // Checks 6 and 8 to 10 of the table of refusals (docs/FORMAT.md, "Refusals"), and checks 1 to 10 and 24 one after another.
+#![tactic(auto)]
+
 ghost use Rattle.std.specs.Prelude.{◌≡◌, [], ◌/◌, ◌<◌, ◌≤◌, length, set};
 ghost use Rattle.report.specs.Tables.{relation_start};
 ghost use Rattle.report.specs.Expressions.{tables_under};
@@ -81,7 +83,7 @@ fn are_free(marks: &[u8], q: usize, x: usize, y: usize) -> bool
 }
 
 // How many forms the tables have that a query form may name.
-#[derive(Drop)]
+#[derive(Clone, Copy)]
 struct Counts {
     expressions: usize,
     relations: usize,

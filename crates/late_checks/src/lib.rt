@@ -1,4 +1,6 @@
 // Checks 20 and 21, which a call runs after typing: the configuration that is asked for, and the room for what is written.
+#![tactic(auto)]
+
 ghost use Rattle.std.specs.Prelude.{◌≡◌, ◌&&◌, ◌++◌, ltb};
 ghost use Rattle.sets.specs.Rows.{row_bit};
 ghost use Rattle.report.specs.Tables.{Tables};
@@ -22,7 +24,7 @@ fn is_permitted(permitted: Row, c: u64) -> bool
 }
 
 // How many words each of the tables lent for writing has.
-#[derive(Drop)]
+#[derive(Clone, Copy)]
 pub struct LentWords {
     pub entries: usize,
     pub relations: usize,

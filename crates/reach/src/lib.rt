@@ -1,4 +1,6 @@
 // Which configurations reach each query form.
+#![tactic(auto)]
+
 ghost use Rattle.std.specs.Prelude.{◌≡◌, ◌+◌, ◌*◌, ◌≤◌, length, eqb};
 ghost use Rattle.report.specs.Tables.{Tables};
 ghost use Rattle.reach.specs.Reach.{joined, reach_rows, ReachReads, ReachReadable, WalkReady, Walked};

@@ -1,10 +1,12 @@
 // Numbers, fixed byte strings and lines at a position of a text. Each function answers the position where it stopped.
+#![tactic(auto)]
+
 ghost use Rattle.std.specs.Prelude.{◌≡◌, ◌+◌, ◌≤◌, length, drop};
 ghost use Rattle.report.specs.Text.{is_digit};
 ghost use Rattle.reading.specs.Scanning.{next_digit, more_digits, number_at, word_at, spaced_at, numbers_at, line_at, Stored};
 
 // A byte after some digits: no digit; a digit that the number cannot have; or a digit that makes it this value.
-#[derive(Drop)]
+#[derive(Clone, Copy)]
 pub enum Digit {
     End,
     Over,
@@ -12,14 +14,14 @@ pub enum Digit {
 }
 
 // A number and the position after it, or the position where it breaks.
-#[derive(Drop)]
+#[derive(Clone, Copy)]
 pub enum Number {
     Read(u16, usize),
     Broken(usize),
 }
 
 // The position after what was read, or that where it breaks.
-#[derive(Drop)]
+#[derive(Clone, Copy)]
 pub enum Step {
     Next(usize),
     Stop(usize),

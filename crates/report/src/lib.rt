@@ -1,5 +1,7 @@
 // The head of tables: how many features and attributes there are, and the number of the model's expression.
-#[derive(Drop)]
+#![tactic(auto)]
+
+#[derive(Clone, Copy)]
 pub struct Head {
     pub features: usize,
     pub attributes: usize,
@@ -8,7 +10,7 @@ pub struct Head {
 
 // A refusal: its number, and the place, item and configuration that the table of refusals (docs/FORMAT.md) names for that number. A field that
 // the table does not name is 0.
-#[derive(Drop)]
+#[derive(Clone, Copy)]
 pub struct Refusal {
     pub number: u64,
     pub place: u64,
@@ -17,14 +19,14 @@ pub struct Refusal {
 }
 
 // What a check answers.
-#[derive(Drop)]
+#[derive(Clone, Copy)]
 pub enum Verdict {
     Accepted,
     Refused(Refusal),
 }
 
 // A form of table 0. ExactlyOne is first feature, number of features. Malformed: its kind is unknown, or a word that its kind leaves unused is not 0.
-#[derive(Drop)]
+#[derive(Clone, Copy)]
 pub enum Expression {
     Malformed,
     False,
@@ -38,7 +40,7 @@ pub enum Expression {
 
 // A form of table 3. Constant is operator, attribute, constant, the constant's kind; Attribute is operator, attribute, attribute; Choice is
 // expression, comparison where it holds, comparison elsewhere. Malformed as in table 0.
-#[derive(Drop)]
+#[derive(Clone, Copy)]
 pub enum Comparison {
     Malformed,
     Never,
@@ -53,7 +55,7 @@ pub enum Comparison {
 
 // A form of table 4. Select is comparison, query; Project is number of entries, query; Choice is expression, query where it holds, query
 // elsewhere. Malformed as in table 0.
-#[derive(Drop)]
+#[derive(Clone, Copy)]
 pub enum Query {
     Malformed,
     Empty,
@@ -67,7 +69,7 @@ pub enum Query {
 }
 
 // What a form of table 3 or 4 refers to in its own table. Choice is expression, form where it holds, form elsewhere.
-#[derive(Drop)]
+#[derive(Clone, Copy)]
 pub enum Operands {
     Nothing,
     One(usize),
@@ -76,7 +78,7 @@ pub enum Operands {
 }
 
 // What a form of table 3 compares by itself. Constant is attribute, the constant's kind; Attributes is left attribute, right attribute.
-#[derive(Drop)]
+#[derive(Clone, Copy)]
 pub enum Sides {
     Constant(usize, usize),
     Attributes(usize, usize),
@@ -85,14 +87,14 @@ pub enum Sides {
 
 // How a report is read. Strict: a relation that is absent, or a projected attribute that the operand lacks, is a fault wherever it is reached. Filled: the
 // relation counts as empty there, and the attribute is dropped.
-#[derive(Drop)]
+#[derive(Clone, Copy)]
 pub enum Reading {
     Strict,
     Filled,
 }
 
 // The limits of tables (docs/FORMAT.md, "Tables"); those of features and attributes stand with `AttributeSet`. SMALL is ours, a matter of time alone.
-#[derive(Drop)]
+#[derive(Clone, Copy)]
 pub struct Limits {}
 
 impl Limits {

@@ -7,7 +7,7 @@ ghost use Rattle.sets.specs.Rows.{row_lowest, row_lowest_from, row_count, row_in
 use crate::Found;
 
 // A set of configurations below 1,024: configuration c is bit c mod 64 of word c div 64.
-#[derive(Drop)]
+#[derive(Clone, Copy)]
 pub struct Row {
     pub words: [u64; Row::WORDS],
 }

@@ -8,7 +8,7 @@ use crate::Found;
 
 // A set of attributes: attribute a is in it where bit a is 1. MOST_ATTRIBUTES is how many a set has room for. MOST_FEATURES says nothing of a set: it
 // stands here because the specification names the two limits in one breath. The limits of tables are constants of `report::Limits`.
-#[derive(Drop)]
+#[derive(Clone, Copy)]
 pub struct AttributeSet {
     pub bits: u64,
 }

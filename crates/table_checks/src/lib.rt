@@ -1,4 +1,6 @@
 // Checks 1 to 5 and 7 of the table of refusals (docs/FORMAT.md, "Refusals"), one function a row. Each answers the first fault.
+#![tactic(auto)]
+
 ghost use Rattle.std.specs.Prelude.{◌≡◌, [], ◌/◌, ◌<◌, length};
 ghost use Rattle.report.specs.Tables.{shape_of};
 ghost use Rattle.report.specs.Expressions.{tables_of};

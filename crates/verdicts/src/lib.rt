@@ -1,4 +1,6 @@
 // Answers of checks: a refusal, the first of two answers, and the sooner of two answers of typing, each at its own configuration.
+#![tactic(auto)]
+
 ghost use Rattle.std.specs.Prelude.{◌≡◌, not, eqb};
 ghost use Rattle.sets.specs.Bits.{lowest_member};
 ghost use Rattle.report.specs.Verdicts.{refusal, refuse_if, or_else};

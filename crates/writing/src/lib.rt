@@ -1,4 +1,6 @@
 // Texts, numbers and the lines of the print, written into lent bytes. Each function writes at a position and returns the position after.
+#![tactic(auto)]
+
 ghost use Rattle.std.specs.Prelude.{◌<◌, ◌∷◌};
 ghost use Rattle.sets.specs.Writing.{Room, WrittenAt};
 ghost use Rattle.report.specs.Text.{decimal};

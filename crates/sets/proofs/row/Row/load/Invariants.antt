@@ -1,0 +1,11 @@
+-- Word after word: the invariant is Filled of ListLaws, and all else is bounds.
+use Prim.Native.Nat.{◌+◌, ◌-◌}
+use lib.ListN.{get_or}
+use Rattle.sets.proofs.ListLaws.{Filled}
+use Rattle.sets.proofs.row.Row.load.Given as goal
+
+abbrev pub invariant-loop-w : goal.invariant-loop-w
+invariant-loop-w l = Filled 16 0 (λ i. get_or l.rows (l.at + i) 0) l.words l.w
+
+abbrev pub decreases-loop-w : goal.decreases-loop-w
+decreases-loop-w l = 16 - l.w

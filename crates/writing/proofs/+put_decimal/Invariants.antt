@@ -1,0 +1,5 @@
+-- By recursion on the number: the digits of its tenth part, then the last digit.
+use Rattle.writing.proofs.+put_decimal.Given as goal
+
+abbrev pub decreases-put_decimal : goal.decreases-put_decimal
+decreases-put_decimal l = l.n
