@@ -1,8 +1,17 @@
 // The columns of the report on standard input, configuration by configuration.
+#![tactic(auto)]
+
 use harbour_print::{LONGEST_PRINT, Layout, PrintRoom};
 use program::run;
 
-fn main() {
+fn main(rt: HostRuntime) {
     let mut out: PrintRoom = [0; LONGEST_PRINT];
-    run(Layout::Columns, b"columns", &mut out);
+    run(
+        Layout::Columns,
+        b"columns",
+        &mut rt.stdin(),
+        &mut rt.stdout(),
+        &mut rt.stderr(),
+        &mut out,
+    );
 }

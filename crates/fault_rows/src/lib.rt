@@ -1,5 +1,7 @@
 // Fault rows: for each query form the configurations at which it fails, in two phases, and what the reading spares it; and the column rows. The first
 // phase and the column rows go attribute by attribute, each from the rows of that attribute; the second phase adds the clashes of kinds.
+#![tactic(auto)]
+
 ghost use Rattle.std.specs.Prelude.{◌≡◌, ◌+◌, ◌*◌, ◌^◌, ◌<◌, ◌≤◌, length, get_or, set};
 ghost use Rattle.std.specs.Int.Bits.{bit_or};
 ghost use Rattle.sets.specs.Lists.{concat};

@@ -84,7 +84,7 @@ fn are_free(marks: &[u8], q: usize, x: usize, y: usize) -> bool
 
 // How many forms the tables have that a query form may name.
 #[derive(Clone, Copy)]
-struct Counts {
+pub struct Counts {
     expressions: usize,
     relations: usize,
     comparisons: usize,

@@ -1,4 +1,6 @@
 // Reading a harbour file into lent tables.
+#![tactic(auto)]
+
 ghost use Rattle.std.specs.Prelude.{◌≡◌, ◌+◌, ◌≤◌, min, length, replicate};
 ghost use Rattle.report.specs.Configuring.{written};
 ghost use Rattle.report.specs.HarbourFile.{file_of};
@@ -11,7 +13,7 @@ use report::{Head, Limits};
 use sets::AttributeSet;
 
 // Where the lines of a group end: the position, the number of the line that stands there, and how many words were stored.
-#[derive(Drop)]
+#[derive(Clone, Copy)]
 struct Place {
     at: usize,
     line: usize,
@@ -19,7 +21,7 @@ struct Place {
 }
 
 // How many words of each table were read.
-#[derive(Drop)]
+#[derive(Clone, Copy)]
 pub struct Sizes {
     pub expressions: usize,
     pub entries: usize,
@@ -30,7 +32,7 @@ pub struct Sizes {
 }
 
 // What was read, or the number of the first bad line.
-#[derive(Drop)]
+#[derive(Clone, Copy)]
 pub enum Outcome {
     Read(Sizes),
     Bad(usize),

@@ -1,4 +1,6 @@
 // What configuring keeps of comparisons and queries at one configuration, with their new numbers, written into lent tables.
+#![tactic(auto)]
+
 ghost use Rattle.std.specs.Prelude.{◌≡◌, ◌&&◌, cond, not, [], ◌∷◌, ℕ, ◌<◌, length, get_or};
 ghost use Rattle.sets.specs.Bits.{member_count};
 ghost use Rattle.sets.specs.Lists.{table};

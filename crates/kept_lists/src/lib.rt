@@ -1,5 +1,6 @@
 // What configuring keeps of lists and relations at one configuration, written into lent tables. Each writer returns the position after what it wrote.
 #![tactic(auto)]
+
 ghost use Rattle.std.specs.Prelude.{◌≡◌, cond, ℕ, ◌+◌, ◌<◌};
 ghost use Rattle.sets.specs.Bits.{bit};
 ghost use Rattle.sets.specs.Writing.{WrittenAt};

@@ -1,8 +1,17 @@
 // The wall page of the report on standard input.
+#![tactic(auto)]
+
 use harbour_print::{LONGEST_PRINT, Layout, PrintRoom};
 use program::run;
 
-fn main() {
+fn main(rt: HostRuntime) {
     let mut out: PrintRoom = [0; LONGEST_PRINT];
-    run(Layout::Page, b"page", &mut out);
+    run(
+        Layout::Page,
+        b"page",
+        &mut rt.stdin(),
+        &mut rt.stdout(),
+        &mut rt.stderr(),
+        &mut out,
+    );
 }

@@ -1,5 +1,6 @@
 // The print of an accepted report and the wall page, written into lent bytes. Each function writes at a position and returns the position after.
 #![tactic(auto)]
+
 mod columns;
 mod page;
 

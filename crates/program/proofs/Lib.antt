@@ -1,1 +1,1 @@
-pub mod InputLaws
+mod StreamLaws

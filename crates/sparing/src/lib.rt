@@ -1,5 +1,7 @@
 // What the filled reading does not hold against a query form: what the form asks for and finds at any configuration that reaches it. It is needed whole
 // before a form is judged at the first configuration, so it is worked out beforehand, configuration by configuration.
+#![tactic(auto)]
+
 ghost use Rattle.std.specs.Prelude.{◌≡◌, cond, ℕ, suc, ◌+◌, ◌^◌};
 ghost use Rattle.sets.specs.Lists.{table};
 ghost use Rattle.report.specs.Tables.{Tables, query_count};

@@ -1,5 +1,7 @@
 // Checks 15 to 19 and 25 at one configuration, in either reading: the sets of all forms are worked out first, and then each form's faults from them, less
 // what the reading does not hold against it (`spared_sets`).
+#![tactic(auto)]
+
 ghost use Rattle.std.specs.Prelude.{◌≡◌};
 ghost use Rattle.sets.specs.Lists.{table};
 ghost use Rattle.report.specs.Tables.{Tables, query_count};
@@ -125,7 +127,7 @@ fn forms_here(
 }
 
 // What typing finds at one configuration alone: its answer there, and the report's set, that of the last form.
-#[derive(Drop)]
+#[derive(Clone, Copy)]
 pub struct Here {
     pub verdict: Verdict,
     pub set: AttributeSet,

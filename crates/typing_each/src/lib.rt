@@ -1,5 +1,7 @@
 // Checks 15 to 19 and 25, configuration by configuration, and the column rows. Of the answers at all permitted configurations the one of the lowest form is
 // given, then of its first phase, then of the lowest configuration.
+#![tactic(auto)]
+
 ghost use Rattle.report.specs.Tables.{Tables};
 ghost use Rattle.expression_rows.specs.TypingReads.{TypingReads, Checked};
 ghost use Rattle.typing_each.specs.TypingEach.{EachReadable, EachFillable, SizeReadable};

@@ -1,0 +1,39 @@
+-- The configuration, a space, the marks, a space, their number, a line feed.
+use mathlib.Core.Path.{refl}
+use Rattle.sets.proofs.WritingLaws.{and_then, room_first, room_next, same_room, same_written}
+use Rattle.printing.proofs.PageLineLaws.{line_pieces, configuration_digits, number_digits}
+use Rattle.printing.proofs.page.put_page_line.Goals as goal
+
+pub put_aligned-p0-requires : goal.put_aligned-p0-requires
+put_aligned-p0-requires c =
+    record {
+      digits = configuration_digits c.args.c c.requires.small;
+      room = room_first _ (same_room (line_pieces c.args.c c.args.s.bits refl) c.requires.room);
+    }
+
+pub put_bytes-p1-requires : goal.put_bytes-p1-requires
+put_bytes-p1-requires c = room_first _ ((room_next (same_room (line_pieces c.args.c (c.args.s.bits) refl) c.requires.room) c.put_aligned-p0.ensures))
+
+pub put_marks-p2-requires : goal.put_marks-p2-requires
+put_marks-p2-requires c = room_first _ ((room_next ((room_next (same_room (line_pieces c.args.c (c.args.s.bits) refl) c.requires.room) c.put_aligned-p0.ensures)) c.put_bytes-p1.ensures))
+
+pub put_bytes-p3-requires : goal.put_bytes-p3-requires
+put_bytes-p3-requires c = room_first _ ((room_next ((room_next ((room_next (same_room (line_pieces c.args.c (c.args.s.bits) refl) c.requires.room) c.put_aligned-p0.ensures)) c.put_bytes-p1.ensures)) c.put_marks-p2.ensures))
+
+pub put_aligned-p4-requires : goal.put_aligned-p4-requires
+put_aligned-p4-requires c = record {
+  digits = number_digits (c.args.s.bits) c.count.ensures;
+  room = room_first _ ((room_next ((room_next ((room_next ((room_next (same_room (line_pieces c.args.c (c.args.s.bits) c.count.ensures) c.requires.room) c.put_aligned-p0.ensures)) c.put_bytes-p1.ensures)) c.put_marks-p2.ensures)) c.put_bytes-p3.ensures));
+}
+
+pub put_bytes-requires : goal.put_bytes-requires
+put_bytes-requires c = room_next ((room_next ((room_next ((room_next ((room_next (same_room (line_pieces c.args.c (c.args.s.bits) c.count.ensures) c.requires.room) c.put_aligned-p0.ensures)) c.put_bytes-p1.ensures)) c.put_marks-p2.ensures)) c.put_bytes-p3.ensures)) c.put_aligned-p4.ensures
+
+pub returns : goal.returns
+returns c =
+    let w5 = c.put_bytes.ensures in
+    let w4 = and_then c.put_aligned-p4.ensures w5 in
+    let w3 = and_then c.put_bytes-p3.ensures w4 in
+    let w2 = and_then c.put_marks-p2.ensures w3 in
+    let w1 = and_then c.put_bytes-p1.ensures w2 in
+    same_written (line_pieces c.args.c (c.args.s.bits) c.count.ensures) (and_then c.put_aligned-p0.ensures w1)

@@ -1,0 +1,19 @@
+use Rattle.typing_at.proofs.HereLaws.{reach_read, clashes_readable, unreached, both_phases}
+use Rattle.std.proofs.Common.{ap}
+use Rattle.std.specs.Prelude.{not}
+use Rattle.typing_at.proofs.form_here.Goals as goal
+
+pub holds_at-requires : goal.holds_at-requires
+holds_at-requires c = reach_read c.requires.reads
+
+pub returns-then-not-holds_at : goal.returns-then-not-holds_at
+returns-then-not-holds_at c = λ T R H. unreached H c.holds_at.ensures (ap not c.if-not-holds_at.true)
+
+pub clashes_in-requires : goal.clashes_in-requires
+clashes_in-requires c = clashes_readable c.requires.reads
+
+pub returns : goal.returns
+returns c =
+    λ T R H.
+    both_phases H c.holds_at.ensures (ap not c.if-not-holds_at.false) (c.faults_of-broken.ensures T _ H.rule) c.of_bits-spared.ensures c.minus.ensures
+    c.rule_number.ensures c.clashes_in.ensures c.refuse_items-rule.ensures c.refuse_items-kinds.ensures c.or_else.ensures
