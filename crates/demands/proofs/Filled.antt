@@ -64,7 +64,7 @@ module _ (T : Tables) (sound : Sound T) where
         let a = check_filled.strictly e in
         (a, left_rows T Reading.Filled rows filled_rows (rw a at f) ∙ sym (left_rows T Reading.Strict rows strict_rows (rw e at s)))
 
-  -- ---- configuring at c, with these tables lent: the answers are those of the verdicts
+  -- ---- configuring at c, with tables of so many words lent: the verdicts
 
   module _ (c r1 r2 r3 r4 : ℕ) where
     pub configure_filled : FilledDemanded T (answer T Reading.Strict (configuring c r1 r2 r3 r4)) (answer T Reading.Filled (configuring c r1 r2 r3 r4))

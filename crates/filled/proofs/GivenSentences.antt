@@ -1,5 +1,5 @@
 -- The sentences of docs/FORMAT.md, "Readings", of whatever a call is given (specs/FilledDemands).
-use Prim.Native.Nat.{ℕ, zero, suc, ◌^◌, ◌<◌}
+use Prim.Native.Nat.{ℕ, ◌^◌, ◌<◌}
 use mathlib.Core.Path.{◌≡◌, refl, sym, ap, ◌∙◌}
 use mathlib.Core.Bool.{Bool, true, false, cond, ◌&&◌, not, false≢true}
 use mathlib.Core.Logic.{◌≢◌}
@@ -15,7 +15,7 @@ use Rattle.report.specs.Tables.{Tables, query_count}
 use Rattle.report.specs.Typing.{reached, present}
 use Rattle.report.specs.Readings.{faults_by, fails_by}
 use Rattle.report.specs.Verdicts.{refusal}
-use Rattle.report.specs.Checks.{rule_number, fault_number, typing_check, is_of_typing, is_typing_fault}
+use Rattle.report.specs.Checks.{rule_number, typing_check, is_of_typing, is_typing_fault}
 use Rattle.report.specs.Formed.{Formed}
 use Rattle.report.specs.Calls.{Call, Given, answer_to, GetsTo, whole, answer, GetsAsFarAsTyping, OwnNumbers}
 use Rattle.report.specs.GivenDemands.{Forms}
@@ -32,7 +32,7 @@ use Rattle.report.proofs.ReadingLaws.{fails_by_lem}
 use Rattle.report.proofs.TreeLaws.{reached-permitted}
 use Rattle.report.proofs.TypingLaws.{fails_permitted, fails_refused, typing_refused, fault_item, fault_accepted}
 use Rattle.report.proofs.CallLaws.{given_answer, given_formed, given_typed, whole_forms}
-use Rattle.report.proofs.Refusing.{given_fault}
+use Rattle.report.proofs.Refusing.{number_form, given_fault}
 use Rattle.report.proofs.SameTables.{same_tables}
 use Rattle.report.proofs.WrittenAccepted.{given_passes, given_shown, given_written}
 use Rattle.filled.specs.FilledDemands.{AbsentThroughout, MissingThroughout, LowestAbsent, LowestMissing, LowerFormsKeep, FilledNamed, FilledDemanded, FilledDemandsTo}
@@ -40,36 +40,20 @@ use Rattle.filled.proofs.FilledLaws.{some_bit, filled_fault, relation_faults, re
 use Rattle.filled.proofs.Sentences.{strict_accepts, never_refused, refusal_breaks}
 use Rattle.filled.proofs.ReadRulesLaws.{accepts_by, rows_by}
 
--- 15 is of a relation form, 17 of a project form, both of the first phase
-relation_number : (phase : ℕ) (y : Query) → fault_number phase y ≡ 15 → (phase ≡ 0) × (a : ℕ) × (y ≡ Query.Relation a)
-relation_number zero Query.Malformed e = absurd (omega arith)
-relation_number zero Query.Empty e = absurd (omega arith)
-relation_number zero (Query.Relation a) e = (refl, a, refl)
-relation_number zero (Query.Select a b) e = absurd (omega arith)
-relation_number zero (Query.Project a b) e = absurd (omega arith)
-relation_number zero (Query.Choice a b d) e = absurd (omega arith)
-relation_number zero (Query.Product a b) e = absurd (omega arith)
-relation_number zero (Query.Union a b) e = absurd (omega arith)
-relation_number zero (Query.Intersection a b) e = absurd (omega arith)
-relation_number (suc phase) y e = absurd (omega arith)
-
-project_number : (phase : ℕ) (y : Query) → fault_number phase y ≡ 17 → (phase ≡ 0) × (a : ℕ) × (b : ℕ) × (y ≡ Query.Project a b)
-project_number zero Query.Malformed e = absurd (omega arith)
-project_number zero Query.Empty e = absurd (omega arith)
-project_number zero (Query.Relation a) e = absurd (omega arith)
-project_number zero (Query.Select a b) e = absurd (omega arith)
-project_number zero (Query.Project a b) e = (refl, a, b, refl)
-project_number zero (Query.Choice a b d) e = absurd (omega arith)
-project_number zero (Query.Product a b) e = absurd (omega arith)
-project_number zero (Query.Union a b) e = absurd (omega arith)
-project_number zero (Query.Intersection a b) e = absurd (omega arith)
-project_number (suc phase) y e = absurd (omega arith)
-
 -- ---- what fails throughout fails
 
 module _ (T : Tables) where
   absent_fails : {c q a : ℕ} → AbsentThroughout T c q a → fails_by T Reading.Filled c 0 q ≡ true
   absent_fails {c} {q} {a} A = (relation_fails T q a A.form c).1 (A.reaches, A.absent)
+
+  -- the item at fault in the form of a relation that is absent is the relation
+  relation_item : (c q a : ℕ) → form_at T q ≡ Query.Relation a → present T c a ≡ false → (x : ℕ) → bit (faults_by T Reading.Filled c 0 q) x ≡ true
+      → x ≡ a
+  relation_item c q a form away x b =
+      eqb-true x a
+      (sym (bit_pow a x)
+      ∙ ap (λ (s : ℕ). bit s x) (sym (relation_faults T q a form c ∙ ap (λ (t : Bool). cond t 0 (2 ^ a)) away))
+      ∙ ((filled_fault T q c x).0 b).0)
 
   missing_bit : {c q x : ℕ} → MissingThroughout T c q x → bit (faults_by T Reading.Filled c 0 q) x ≡ true
   missing_bit {c} {q} {x} M = (entry_fails T q M.count M.of M.form c x M.reaches).1 (M.listed, M.missing)
@@ -102,30 +86,21 @@ module _ {T : Tables} (F : Formed T) (r : Refusal) (e : typing_check T Reading.F
     none_below x l = ap (λ (i : ℕ). bit (faults_by T Reading.Filled r.configuration i r.place) x) (sym p) ∙ item_first.before x l
 
   is_relation : r.number ≡ 15 → (f.phase ≡ 0) × (a : ℕ) × (form_at T r.place ≡ Query.Relation a)
-  is_relation n = relation_number f.phase (form_at T r.place) (sym f.numbered ∙ n)
+  is_relation n = (number_form f.phase (form_at T r.place)).0 (sym f.numbered ∙ n)
 
   is_project : r.number ≡ 17 → (f.phase ≡ 0) × (a : ℕ) × (b : ℕ) × (form_at T r.place ≡ Query.Project a b)
-  is_project n = project_number f.phase (form_at T r.place) (sym f.numbered ∙ n)
+  is_project n = (number_form f.phase (form_at T r.place)).2 (sym f.numbered ∙ n)
 
   absent_here : r.number ≡ 15 → AbsentThroughout T r.configuration r.place r.item
   absent_here n =
       let i = is_relation n in
       let p = (relation_fails T r.place i.1 i.2 r.configuration).0 (fails_first i.0) in
-      let s = same i.1 i.2 (p.1 r.configuration p.0) (item_at i.0) in
+      let s = relation_item T r.configuration r.place i.1 i.2 (p.1 r.configuration p.0) r.item (item_at i.0) in
       record {
         form = i.2 ∙ ap (λ (a : ℕ). Query.Relation a) (sym s);
         reaches = p.0;
         absent = λ d u. ap (present T d) s ∙ p.1 d u;
       }
-    where
-      same : (a : ℕ) → form_at T r.place ≡ Query.Relation a → present T r.configuration a ≡ false
-          → bit (faults_by T Reading.Filled r.configuration 0 r.place) r.item ≡ true → r.item ≡ a
-      same a form away here =
-          eqb-true r.item a
-          (sym (bit_pow a r.item)
-          ∙ ap (λ (s : ℕ). bit s r.item)
-          (sym (relation_faults T r.place a form r.configuration ∙ ap (λ (t : Bool). cond t 0 (2 ^ a)) away))
-          ∙ ((filled_fault T r.place r.configuration r.item).0 here).0)
 
   lowest_reached : r.number ≡ 15 → (c : ℕ) → c < r.configuration → reached T c r.place ≡ false
   lowest_reached n c l = go (reached T c r.place) refl
@@ -196,14 +171,6 @@ module _ {T : Tables} (F : Formed T) where
   inside : (c q : ℕ) → reached T c q ≡ true → q < query_count T
   inside c q r = reached_in F c (reached-permitted T c q r) q r
 
-  -- the item at fault in a relation form is its relation
-  relation_item : {c q a : ℕ} → AbsentThroughout T c q a → (x : ℕ) → bit (faults_by T Reading.Filled c 0 q) x ≡ true → x ≡ a
-  relation_item {c} {q} {a} A x b =
-      eqb-true x a
-      (sym (bit_pow a x)
-      ∙ ap (λ (s : ℕ). bit s x) (sym (relation_faults T q a A.form c ∙ ap (λ (t : Bool). cond t 0 (2 ^ a)) (A.absent c A.reaches)))
-      ∙ ((filled_fault T q c x).0 b).0)
-
   pub absent_refused_lem : {c q a : ℕ} → LowestAbsent T c q a → LowerFormsKeep T q → typing_check T Reading.Filled ≡ Verdict.Refused (refusal 15 q a c)
   absent_refused_lem {c} {q} {a} L lower =
       let A = L.is in
@@ -212,7 +179,7 @@ module _ {T : Tables} (F : Formed T) where
       let n = narrow_by F Reading.Filled c 0 q (inside c q A.reaches) in
       let z = ((fails_by_lem T Reading.Filled c 0 q).0 failing).1 in
       let first = trailing_first 64 s n z in
-      let e = relation_item A _ first.holds in
+      let e = relation_item T c q a A.form (A.absent c A.reaches) _ first.holds in
       refused_at c q a (inside c q A.reaches) failing (rw (← e) first) (λ d l. none d (reached T d q) (L.lower d l)) lower
       ∙ ap (λ (y : Query). Verdict.Refused (refusal (rule_number y) q a c)) A.form
     where

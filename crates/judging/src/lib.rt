@@ -2,6 +2,8 @@
 // `into_rows` says that the reach rows and the column rows are the caller's, who lends words for them; `into_columns`, that the column rows are, and the
 // function has reach rows of its own. Expression rows are given (`judge_into_rows`, `judge_into_columns`), the function's own (`judge_tables_into_columns`,
 // `check_into_columns`), or the caller's to be filled (`check_into_rows`).
+#![tactic(auto)]
+
 ghost use Rattle.std.specs.Prelude.{◌≡◌, replicate, max};
 ghost use Rattle.report.specs.Tables.{Tables};
 ghost use Rattle.report.specs.Expressions.{tables_under};
@@ -229,7 +231,7 @@ pub fn judge_into_columns(
 // ---- whole tables
 
 // The answer of the checks, and the permitted configurations.
-#[derive(Drop)]
+#[derive(Clone, Copy)]
 pub struct Judgement {
     pub verdict: Verdict,
     pub permitted: Row,

@@ -1,8 +1,8 @@
 -- What stays of a project's list (report, specs/Configuring and proofs/StayLaws) is told by the project's own set: of what it lists that is what its operand
 -- has.
 use Prim.Native.Nat.{ℕ, ◌<◌}
-use mathlib.Core.Path.{◌≡◌, refl, sym, ap, ◌∙◌}
-use mathlib.Core.Bool.{Bool, true, ◌&&◌}
+use mathlib.Core.Path.{◌≡◌, sym, ap, ◌∙◌}
+use mathlib.Core.Bool.{Bool, ◌&&◌}
 use Rattle.sets.specs.Bits.{bit, member_count}
 use Rattle.sets.proofs.SearchLaws.{count_same}
 use Rattle.sets.proofs.BitLaws.{bit-and}

@@ -134,7 +134,7 @@ pub fn write_relation_lists(
     ensures { (T : Tables) → RelationReads T expression_rows.now relation_entries.now relations.now c
         → WrittenAt (relation_lists T c) out.old 0 out.new result }
 {
-    let all = AttributeSet::of_bits(0xFFFF_FFFF_FFFF_FFFF);
+    let all = AttributeSet::all();
     let count = relations.len() / 2;
     let mut start = 0;
     let mut p = 0;

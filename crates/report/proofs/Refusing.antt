@@ -264,18 +264,20 @@ rule_below (Query.Product a b) = omega arith
 rule_below (Query.Union a b) = omega arith
 rule_below (Query.Intersection a b) = omega arith
 
--- 16 is of the first phase of a select
-first_number : (phase : ℕ) (y : Query) → fault_number phase y ≡ 16 → (phase ≡ 0) × (a : ℕ) × (b : ℕ) × (y ≡ Query.Select a b)
-first_number zero Query.Malformed e = absurd (omega arith)
-first_number zero Query.Empty e = absurd (omega arith)
-first_number zero (Query.Relation a) e = absurd (omega arith)
-first_number zero (Query.Select a b) e = (refl, a, b, refl)
-first_number zero (Query.Project a b) e = absurd (omega arith)
-first_number zero (Query.Choice a b d) e = absurd (omega arith)
-first_number zero (Query.Product a b) e = absurd (omega arith)
-first_number zero (Query.Union a b) e = absurd (omega arith)
-first_number zero (Query.Intersection a b) e = absurd (omega arith)
-first_number (suc phase) y e = absurd (omega arith)
+-- 15 is of a relation form, 16 of a select, 17 of a project, all of the first phase
+pub number_form : (phase : ℕ) (y : Query) → (fault_number phase y ≡ 15 → (phase ≡ 0) × (a : ℕ) × (y ≡ Query.Relation a))
+    × (fault_number phase y ≡ 16 → (phase ≡ 0) × (a : ℕ) × (b : ℕ) × (y ≡ Query.Select a b))
+    × (fault_number phase y ≡ 17 → (phase ≡ 0) × (a : ℕ) × (b : ℕ) × (y ≡ Query.Project a b))
+number_form zero Query.Malformed = (λ e. absurd (omega arith), λ e. absurd (omega arith), λ e. absurd (omega arith))
+number_form zero Query.Empty = (λ e. absurd (omega arith), λ e. absurd (omega arith), λ e. absurd (omega arith))
+number_form zero (Query.Relation a) = (λ e. (refl, a, refl), λ e. absurd (omega arith), λ e. absurd (omega arith))
+number_form zero (Query.Select a b) = (λ e. absurd (omega arith), λ e. (refl, a, b, refl), λ e. absurd (omega arith))
+number_form zero (Query.Project a b) = (λ e. absurd (omega arith), λ e. absurd (omega arith), λ e. (refl, a, b, refl))
+number_form zero (Query.Choice a b d) = (λ e. absurd (omega arith), λ e. absurd (omega arith), λ e. absurd (omega arith))
+number_form zero (Query.Product a b) = (λ e. absurd (omega arith), λ e. absurd (omega arith), λ e. absurd (omega arith))
+number_form zero (Query.Union a b) = (λ e. absurd (omega arith), λ e. absurd (omega arith), λ e. absurd (omega arith))
+number_form zero (Query.Intersection a b) = (λ e. absurd (omega arith), λ e. absurd (omega arith), λ e. absurd (omega arith))
+number_form (suc phase) y = (λ e. absurd (omega arith), λ e. absurd (omega arith), λ e. absurd (omega arith))
 
 -- 25 is of a later phase, and in that a select alone has faults
 clash_select : (T : Tables) (phase c q : ℕ) → fault_number phase (form_at T q) ≡ 25 → faults T c phase q ≢ 0
@@ -358,10 +360,10 @@ module _ {T : Tables} (F : Formed T) where
 
       -- 25 is of the second phase, so 16 of the first
       is_first : r.number ≡ 16 → f.phase ≡ 0
-      is_first is16 = (first_number f.phase (form_at T r.place) (sym f.numbered ∙ is16)).0
+      is_first is16 = ((number_form f.phase (form_at T r.place)).1 (sym f.numbered ∙ is16)).0
 
       the_select : r.number ≡ 16 → (a : ℕ) × (b : ℕ) × (form_at T r.place ≡ Query.Select a b)
-      the_select is16 = let s = first_number f.phase (form_at T r.place) (sym f.numbered ∙ is16) in (s.1, s.2, s.3)
+      the_select is16 = let s = (number_form f.phase (form_at T r.place)).1 (sym f.numbered ∙ is16) in (s.1, s.2, s.3)
 
       kind_select : r.number ≡ 25 → (0 < f.phase) × (a : ℕ) × (b : ℕ) × (form_at T r.place ≡ Query.Select a b)
       kind_select is25 =

@@ -1,7 +1,7 @@
 -- docs/FORMAT.md, "Worked examples": H1 to H10, W3 and W5, and of the cases of document 02's second, fourth, fifth and seventh wish those that are refused,
 -- configured or printed, as one list. Their theorem is proofs/ExamplesHold. The other cases, accepted ones with their column rows, stand in crate
 -- worked_examples, specs/RowExamples: to compute 1,024 words takes long, and this crate is proved anew for each of its must-fail edits.
-use Rattle.std.specs.Prelude.{ℕ, ◌+◌, ◌-◌, ◌^◌, ◌≡◌, List, [], ◌∷◌, ◌++◌, map, replicate}
+use Rattle.std.specs.Prelude.{ℕ, ◌-◌, ◌^◌, ◌≡◌, List, [], ◌∷◌, ◌++◌, map, replicate}
 use Rattle.sets.specs.Lists.{concat}
 use Rattle.report.specs.Tables.{Tables, entry_count, relation_count, comparison_count, query_count}
 use Rattle.report.specs.Expressions.{tables_of}
@@ -80,7 +80,7 @@ h1_queries = 1 ∷ 0 ∷ 0 ∷ 0 ∷ 3 ∷ 2 ∷ 0 ∷ 0 ∷ []
 abbrev pub h1 : ℕ → Tables
 h1 n = harbour n h1_expressions (h1_entries 2) h1_queries
 
--- H10: H1's project form over a choice on tide gates between the relation and empty
+-- H10: H1's project form over a choice on ramps between the relation and empty
 abbrev pub h10 : Tables
 h10 = harbour 2 h1_expressions (h1_entries 2) (1 ∷ 0 ∷ 0 ∷ 0 ∷ 0 ∷ 0 ∷ 0 ∷ 0 ∷ 4 ∷ 2 ∷ 0 ∷ 1 ∷ 3 ∷ 2 ∷ 2 ∷ 0 ∷ [])
 

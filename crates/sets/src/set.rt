@@ -1,5 +1,5 @@
 // Sets of attributes.
-ghost use Rattle.std.specs.Prelude.{◌≡◌, cond, ◌<◌, ◌^◌, eqb};
+ghost use Rattle.std.specs.Prelude.{◌-◌, ◌≡◌, cond, ◌<◌, ◌^◌, eqb};
 ghost use Rattle.std.specs.Int.Bits.{bit_and, bit_or, bit_xor};
 ghost use Rattle.sets.specs.Search.{lowest};
 ghost use Rattle.sets.specs.Bits.{bit, difference, member_count, has_from};
@@ -22,6 +22,15 @@ impl AttributeSet {
         ensures { result.bits ≡ 0 }
     {
         AttributeSet { bits: 0 }
+    }
+
+    // The set of all attributes that a set has room for.
+    pub fn all() -> AttributeSet
+        ensures { result.bits ≡ 2 ^ 64 - 1 }
+    {
+        AttributeSet {
+            bits: 0xFFFF_FFFF_FFFF_FFFF,
+        }
     }
 
     // The set whose attributes are the bits of a word that are 1.

@@ -1,6 +1,8 @@
 // Checks 15 to 19 and 25, and the column rows: configuration by configuration where few are permitted, and else by rows of all configurations. By rows
 // the lowest form that fails, in its first phase that fails at any configuration, and the lowest failing configuration of that phase are found first,
 // and the answer is that at this configuration.
+#![tactic(auto)]
+
 ghost use Rattle.std.specs.Prelude.{◌≡◌, ◌*◌, ◌≤◌, length};
 ghost use Rattle.sets.specs.Search.{lowest};
 ghost use Rattle.sets.specs.Lists.{concat};

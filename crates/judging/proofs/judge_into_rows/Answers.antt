@@ -1,0 +1,33 @@
+use mathlib.Core.Path.{refl}
+use Rattle.judging.proofs.JudgingLaws.{schema_reads, reach_reads, typing_reads, reach_room, early_refuses, typing_answers}
+use Rattle.judging.proofs.judge_into_rows.Goals as goal
+
+pub check_model_and_schema-schema-requires : goal.check_model_and_schema-schema-requires
+check_model_and_schema-schema-requires c = let p = c.requires in record { tables = p.tables; reads = schema_reads p.reads c.load-permitted.ensures }
+
+pub returns-in-Refused : goal.returns-in-Refused
+returns-in-Refused c =
+    λ T R. early_refuses _ (c.check_model_and_schema-schema.ensures T (schema_reads R c.load-permitted.ensures)) _ _ c.in-Refused.is
+
+pub fill_reach-requires : goal.fill_reach-requires
+fill_reach-requires c =
+    let p = c.requires in
+    record { tables = p.tables; reads = reach_reads p.reads c.load-permitted.ensures; room = p.forms; clear = p.unreached }
+
+pub check_typing-requires : goal.check_typing-requires
+check_typing-requires c =
+    let p = c.requires in
+    record {
+      tables = p.tables;
+      reads = typing_reads p.reads c.load-permitted.ensures p.forms (c.fill_reach.ensures p.tables (reach_reads p.reads c.load-permitted.ensures))
+          c.full.ensures c.larger.ensures refl refl refl;
+      clear = p.unshown;
+    }
+
+pub returns : goal.returns
+returns c =
+    λ T R.
+    let filled = c.fill_reach.ensures T (reach_reads R c.load-permitted.ensures) in
+    typing_answers _ (c.check_model_and_schema-schema.ensures T (schema_reads R c.load-permitted.ensures)) _ _ c.in_default.is filled
+    (c.check_typing.ensures T
+    (typing_reads R c.load-permitted.ensures (reach_room c.requires R) filled c.full.ensures c.larger.ensures refl refl refl))
