@@ -1,4 +1,4 @@
-//! Links libgelvomas.a, which `rt staticlib gelvomas` writes.
+//! Links libgelvomas.a, which `tools/build gelvomas` writes.
 
 use std::path::PathBuf;
 
@@ -13,7 +13,7 @@ fn main() {
     println!("cargo:rerun-if-changed={}", archive.display());
     if !archive.exists() {
         println!(
-            "cargo::error={} is missing: run `rt staticlib gelvomas` in the repository's root first",
+            "cargo::error={} is missing: run `tools/build gelvomas` in the repository's root first",
             archive.display()
         );
         return;

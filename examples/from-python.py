@@ -1,5 +1,5 @@
 """The report of cancelled-swap.harbour, and of cancelled-swap-mended.harbour, checked from Python: the columns at each configuration, or the refusal.
-After `rt staticlib gelvomas`, in the repository's root:
+After `tools/build gelvomas`, in the repository's root:
 
 cc -shared -Wl,--whole-archive target/staticlib/libgelvomas.a -Wl,--no-whole-archive -o target/libgelvomas.so
 python3 examples/from-python.py

@@ -1,7 +1,7 @@
 /* Fill in what I left out. The report of left-out.harbour does not repeat the schema's
    conditions: strictly it is refused, and read as filled it is accepted. Its columns, and
    the report that it becomes where ramps is off and lorries is on, as a harbour file.
-   After `rt staticlib gelvomas`, in the repository's root:
+   After `tools/build gelvomas`, in the repository's root:
 
    cc -Iinclude examples/left-out.c target/staticlib/libgelvomas.a -o target/left-out
    target/left-out */

@@ -1,5 +1,5 @@
 /* The page that planners pin up: that of the report of wall-page.harbour, under a
-   heading with the names of its switches and columns. After `rt staticlib
+   heading with the names of its switches and columns. After `tools/build
    gelvomas`, in the repository's root:
 
    cc -Iinclude examples/wall-page.c target/staticlib/libgelvomas.a -o target/wall-page

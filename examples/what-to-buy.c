@@ -1,6 +1,6 @@
 /* Which switches give me these columns? The report of what-to-buy.harbour, and the
    lowest permitted configuration at which it has vessel, ramp and tide. After
-   `rt staticlib gelvomas`, in the repository's root:
+   `tools/build gelvomas`, in the repository's root:
 
    cc -Iinclude examples/what-to-buy.c target/staticlib/libgelvomas.a -o target/what-to-buy
    target/what-to-buy */

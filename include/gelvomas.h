@@ -1,6 +1,6 @@
 /* The column checker, configuring, finding a configuration, and the wall page, for
-   C (C99 or later) and C++. Link target/staticlib/libgelvomas.a, which `rt
-   staticlib gelvomas` writes (x86-64 Linux).
+   C (C99 or later) and C++. Link target/staticlib/libgelvomas.a, which `tools/build
+   gelvomas` writes (x86-64 Linux).
 
    gelvomas_check, gelvomas_configure, gelvomas_find and gelvomas_page are proved:
    they read and write only what is said here, allocate nothing, keep nothing, and
