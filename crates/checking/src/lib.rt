@@ -1,4 +1,6 @@
 // The entry point `check`.
+#![tactic(auto)]
+
 ghost use Rattle.std.specs.Prelude.{◌≡◌, length};
 ghost use Rattle.report.specs.Expressions.{tables_under};
 ghost use Rattle.checking.specs.Promises.{Checks};

@@ -1,4 +1,6 @@
 // The entry point `configure`: the plain tables of an accepted report at one configuration.
+#![tactic(auto)]
+
 ghost use Rattle.std.specs.Prelude.{◌++◌};
 ghost use Rattle.sets.specs.Writing.{WrittenAt};
 ghost use Rattle.report.specs.Tables.{Tables};
@@ -21,7 +23,7 @@ use report::{Head, Limits, Reading, Refusal, Verdict};
 use sets::Row;
 
 // What configuring answers: how many forms tables 1 to 4 have, or the refusal.
-#[derive(Drop)]
+#[derive(Clone, Copy)]
 pub enum Configured {
     Written(usize, usize, usize, usize),
     Refused(Refusal),

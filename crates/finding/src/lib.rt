@@ -1,4 +1,6 @@
 // The entry point `find`: the lowest permitted configuration at which a report has wanted columns.
+#![tactic(auto)]
+
 ghost use Rattle.std.specs.Prelude.{◌≡◌, length};
 ghost use Rattle.report.specs.Expressions.{tables_under};
 ghost use Rattle.finding.specs.Finding.{Finds};
@@ -10,7 +12,7 @@ use sets::{AttributeSet, Found, Row};
 use verdicts::{or_else, refuse_if};
 
 // What finding answers: the configuration, none, or the refusal.
-#[derive(Drop)]
+#[derive(Clone, Copy)]
 pub enum FindAnswer {
     At(usize),
     None,

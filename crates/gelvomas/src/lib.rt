@@ -1,4 +1,6 @@
 // Checking, configuring, finding and the page as C functions.
+#![tactic(auto)]
+
 ghost use Rattle.report.specs.Expressions.{tables_of};
 ghost use Rattle.c_answers.specs.ReadingTold.{reading_told};
 ghost use Rattle.gelvomas.specs.Answers.{CheckTold, ConfigureTold, FindTold, PageTold};

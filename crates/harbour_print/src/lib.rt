@@ -1,4 +1,6 @@
 // Printing what the report of a harbour file has.
+#![tactic(auto)]
+
 mod printed;
 
 ghost use Rattle.report.specs.Tables.{Tables};
@@ -14,7 +16,7 @@ use sets::AttributeSet;
 use writing::put_unread;
 
 // How the columns of an accepted report are printed: as lists, or as the wall page.
-#[derive(Drop)]
+#[derive(Clone, Copy)]
 pub enum Layout {
     Columns,
     Page,

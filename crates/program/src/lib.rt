@@ -16,21 +16,21 @@ use std::io::{Read, Write};
 const READ_ROOM: usize = LONGEST_FILE + 1;
 
 // How many bytes were read, or that a read failed.
-#[derive(Drop)]
+#[derive(Clone, Copy)]
 enum Input {
     Read(usize),
     Failed,
 }
 
 // How many bytes the print has, or that there was no input to print.
-#[derive(Drop)]
+#[derive(Clone, Copy)]
 enum Printed {
     Bytes(usize),
     NoInput,
 }
 
 // What was handed to standard output: so many bytes, which were written, or of which some could not be; or nothing, since there was no input.
-#[derive(Drop)]
+#[derive(Clone, Copy)]
 pub enum Handed {
     Written(usize),
     Unwritten(usize),

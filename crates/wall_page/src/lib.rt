@@ -1,4 +1,6 @@
 // The entry point `write_page`: the wall page, a line for each permitted configuration with a mark for each attribute.
+#![tactic(auto)]
+
 ghost use Rattle.std.specs.Prelude.{◌≡◌, ◌≤◌};
 ghost use Rattle.report.specs.Expressions.{tables_under};
 ghost use Rattle.printing.specs.PageRows.{permitted_count};
@@ -11,7 +13,7 @@ use sets::Row;
 use verdicts::refuse_if;
 
 // What writing a page answers: the number of its lines, or the refusal.
-#[derive(Drop)]
+#[derive(Clone, Copy)]
 pub enum PageAnswer {
     Lines(usize),
     Refused(Refusal),

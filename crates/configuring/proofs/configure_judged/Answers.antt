@@ -1,0 +1,44 @@
+use Prim.Native.Nat.{◌*◌}
+use native.Mathlib.Omega.{arith}
+use mathlib.Core.Path.{sym, ◌∙◌}
+use lib.Seq.{length-take-le}
+use Rattle.configuring.proofs.ConfigureLaws.{leaves_refused, late_accepted, written_late}
+use Rattle.configuring.proofs.WriteLaws.{late_reads, split_words, kept_reads}
+use Rattle.configuring.proofs.configure_judged.Goals as goal
+
+pub check_late-late-requires : goal.check_late-late-requires
+check_late-late-requires c = let p = c.requires in record { tables = p.tables; reads = late_reads p.reads c.load-permitted.ensures }
+
+pub returns-in-Refused : goal.returns-in-Refused
+returns-in-Refused c T R =
+    leaves_refused (sym c.in-Refused.is ∙ c.check_late-late.ensures T (late_reads R c.load-permitted.ensures))
+
+pub overflow_mul-split : goal.overflow_mul-split
+overflow_mul-split c = let l = (split_words c.requires.reads c.relations_end-split.ensures) in omega arith
+
+pub slice_bounds-write_kept-end : goal.slice_bounds-write_kept-end
+slice_bounds-write_kept-end c = sym (length-take-le (c.relations_end-split.result * 2) _ ((split_words c.requires.reads c.relations_end-split.ensures)))
+
+pub offset_bounds-entries-split : goal.offset_bounds-entries-split
+offset_bounds-entries-split c = let l = (split_words c.requires.reads c.relations_end-split.ensures) in omega arith
+
+pub slice_bounds-write_kept-count : goal.slice_bounds-write_kept-count
+slice_bounds-write_kept-count c = (split_words c.requires.reads c.relations_end-split.ensures)
+
+pub slice_bounds-write_kept-start : goal.slice_bounds-write_kept-start
+slice_bounds-write_kept-start c = (split_words c.requires.reads c.relations_end-split.ensures)
+
+pub write_kept-requires : goal.write_kept-requires
+write_kept-requires c =
+    let a = c.args in
+    let p = c.requires in
+    let late = late_accepted p.tables a.c a.new_entries.now a.new_relations.now a.new_comparisons.now a.new_queries.now
+    (sym (c.check_late-late.ensures p.tables (late_reads p.reads c.load-permitted.ensures)) ∙ c.in_default.is) in
+    record { tables = p.tables; reads = kept_reads p.reads c.relations_end-split.ensures late.0; rooms = late.1 }
+
+pub returns : goal.returns
+returns c T R =
+    let a = c.args in
+    written_late T a.c a.new_entries.now a.new_relations.now a.new_comparisons.now a.new_queries.now
+    (c.check_late-late.ensures T (late_reads R c.load-permitted.ensures)) c.in_default.is
+    (λ p. c.write_kept.ensures T (kept_reads R c.relations_end-split.ensures p))

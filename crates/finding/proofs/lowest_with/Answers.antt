@@ -1,0 +1,42 @@
+use Prim.Native.Nat.{ℕ, ◌^◌}
+use mathlib.Core.Path.{sym, ap, ap₂, ◌∙◌}
+use mathlib.Core.List.{List}
+use native.Mathlib.Omega.{arith}
+use Rattle.sets.specs.Bits.{bit, difference}
+use Rattle.sets.specs.Rows.{row_intersect}
+use Rattle.sets.proofs.SearchLaws.{lowest_at}
+use Rattle.sets.proofs.BitLaws.{difference_lt, without_less}
+use Rattle.finding.specs.ColumnSearch.{shows_wanted}
+use Rattle.finding.proofs.WantedLaws.{shows_one, lowest-shown}
+use Rattle.finding.proofs.lowest_with.Goals as goal
+
+pub returns-in_default : goal.returns-in_default
+returns-in_default c =
+    let a = c.args in
+    c.lowest.ensures
+    ∙ lowest-shown a.row.words a.columns.now c.loop-a.having.words a.wanted.bits c.loop-a.rest.bits c.loop-a.invariant.0
+    (sym c.lowest-next.ensures ∙ c.in_default.is) c.loop-a.invariant.1
+
+pub load-requires : goal.load-requires
+load-requires c = let h = ((lowest_at (bit c.loop-a.rest.bits) 64 c.in-At.a (sym c.lowest-next.ensures ∙ c.in-At.is))).below in let room = c.requires in omega arith
+
+pub single-requires : goal.single-requires
+single-requires c = ((lowest_at (bit c.loop-a.rest.bits) 64 c.in-At.a (sym c.lowest-next.ensures ∙ c.in-At.is))).below
+
+pub loop-a-smaller : goal.loop-a-smaller
+loop-a-smaller c =
+    let x = c.loop-a.rest.bits in
+    let a = c.in-At.a in
+    rw (c.minus-rest.ensures, c.single.ensures) (without_less x a ((lowest_at (bit c.loop-a.rest.bits) 64 c.in-At.a (sym c.lowest-next.ensures ∙ c.in-At.is))).holds)
+
+pub loop-a-preserved : goal.loop-a-preserved
+loop-a-preserved c =
+    let x = c.loop-a.rest.bits in
+    let a = c.in-At.a in
+    let columns = c.args.columns.now in
+    let fewer = c.minus-rest.ensures ∙ ap (difference x) c.single.ensures in
+    let cut = c.intersect-having.ensures ∙ ap (row_intersect 16 c.loop-a.having.words) c.load.ensures in (
+      rw fewer (difference_lt 64 x (2 ^ a) c.loop-a.invariant.0),
+      λ d l. ap₂ (λ (row : List ℕ) (rest : ℕ). shows_wanted row columns rest d) cut fewer
+          ∙ shows_one c.loop-a.having.words columns x a ((lowest_at (bit c.loop-a.rest.bits) 64 c.in-At.a (sym c.lowest-next.ensures ∙ c.in-At.is))).below ((lowest_at (bit c.loop-a.rest.bits) 64 c.in-At.a (sym c.lowest-next.ensures ∙ c.in-At.is))).holds d l ∙ c.loop-a.invariant.1 d l,
+    )

@@ -1,0 +1,25 @@
+-- The file is read into local tables; then its print, which is the print of the text.
+use mathlib.Core.Path.{refl}
+use native.Mathlib.Omega.{arith}
+use Rattle.printing.proofs.PrintLaws.{unread_room}
+use Rattle.harbour_file.proofs.FileHeld.{bad_told, read_told}
+use Rattle.harbour_print.proofs.PrintedLaws.{prints, text_printed, unread_printed}
+use Rattle.harbour_print.proofs.print_file.Goals as goal
+
+pub put_unread-requires : goal.put_unread-requires
+put_unread-requires c = record { fits = omega (arith, (unread_room c.in-Bad.n (omega arith))) }
+
+pub print_read-requires : goal.print_read-requires
+print_read-requires c =
+    let t = (read_told _ _ c.read_file-file.ensures c.in-Read.is) in
+    record { tables = t.0; held = t.2; whole = omega arith; room = omega arith }
+
+pub returns-in-Bad : goal.returns-in-Bad
+returns-in-Bad c =
+    unread_printed c.args.layout c.args.text.now refl (bad_told _ _ c.read_file-file.ensures c.in-Bad.is)
+    (prints ((unread_room c.in-Bad.n (omega arith))) (omega arith) c.put_unread.ensures)
+
+pub returns-in-Read : goal.returns-in-Read
+returns-in-Read c =
+    let t = (read_told _ _ c.read_file-file.ensures c.in-Read.is) in
+    text_printed c.args.layout c.args.text.now t.1 (c.print_read.ensures t.0 t.2)
