@@ -1,4 +1,3 @@
-use Rattle.report.specs.Expressions.{tables_under}
 use Rattle.judging.proofs.JudgingLaws.{own_rows}
 use Rattle.configuring.proofs.ConfigureLaws.{report_refuses, late_answers, judged_reads}
 use Rattle.configuring.proofs.configure.Goals as goal
@@ -6,28 +5,19 @@ use Rattle.configuring.proofs.configure.Goals as goal
 pub returns-in-Refused : goal.returns-in-Refused
 returns-in-Refused c =
     let a = c.args in
-    report_refuses ((let a = c.args in
-    tables_under a.head a.expressions.now a.entries.now a.relations.now a.comparisons.now
-    a.queries.now a.kinds.now)) a.reading a.c a.new_entries.now a.new_relations.now a.new_comparisons.now a.new_queries.now
+    report_refuses _ a.reading a.c a.new_entries.now a.new_relations.now a.new_comparisons.now a.new_queries.now
     c.check_into_rows-checked.ensures.answers c.in-Refused.is
 
 pub configure_judged-requires : goal.configure_judged-requires
 configure_judged-requires c =
     record {
-      tables = (let a = c.args in
-          tables_under a.head a.expressions.now a.entries.now a.relations.now a.comparisons.now
-          a.queries.now a.kinds.now);
+      tables = _;
       reads = judged_reads (own_rows c.check_into_rows-checked.ensures c.in_default.is);
     }
 
 pub returns : goal.returns
 returns c =
     let a = c.args in
-    late_answers ((let a = c.args in
-    tables_under a.head a.expressions.now a.entries.now a.relations.now a.comparisons.now
-    a.queries.now a.kinds.now)) a.reading a.c a.new_entries.now a.new_relations.now a.new_comparisons.now a.new_queries.now
+    late_answers _ a.reading a.c a.new_entries.now a.new_relations.now a.new_comparisons.now a.new_queries.now
     c.check_into_rows-checked.ensures.answers c.in_default.is
-    (c.configure_judged.ensures ((let a = c.args in
-    tables_under a.head a.expressions.now a.entries.now a.relations.now a.comparisons.now
-    a.queries.now a.kinds.now))
-    (judged_reads (own_rows c.check_into_rows-checked.ensures c.in_default.is)))
+    (c.configure_judged.ensures _ (judged_reads (own_rows c.check_into_rows-checked.ensures c.in_default.is)))

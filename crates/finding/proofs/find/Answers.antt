@@ -1,5 +1,4 @@
 use mathlib.Core.Path.{sym, ap, ◌∙◌}
-use Rattle.report.specs.Expressions.{tables_under}
 use Rattle.report.specs.declared.Verdict.{Verdict}
 use Rattle.report.proofs.VerdictLaws.{both_accepted}
 use Rattle.judging.proofs.JudgingLaws.{own_columns}
@@ -9,21 +8,15 @@ use Rattle.finding.proofs.find.Goals as goal
 
 pub returns-in-Refused : goal.returns-in-Refused
 returns-in-Refused c =
-    refused_answers ((let a = c.args in
-    tables_under a.head a.expressions.now a.entries.now a.relations.now a.comparisons.now
-    a.queries.now a.kinds.now)) c.args.reading c.of_bits-wanted.ensures c.check_into_columns-judged.ensures.answers c.has_from.ensures
+    refused_answers _ c.args.reading c.of_bits-wanted.ensures c.check_into_columns-judged.ensures.answers c.has_from.ensures
     c.refuse_if-late.ensures c.or_else-verdict.ensures c.in-Refused.is
 
 pub returns-in-At : goal.returns-in-At
-returns-in-At c = ap (found_answer Verdict.Accepted) (sym c.in-At.is) ∙ (found_answers ((let a = c.args in
-    tables_under a.head a.expressions.now a.entries.now a.relations.now a.comparisons.now
-    a.queries.now a.kinds.now)) c.args.reading c.of_bits-wanted.ensures c.check_into_columns-judged.ensures.answers c.has_from.ensures
-    c.refuse_if-late.ensures c.or_else-verdict.ensures c.in_default.is (own_columns c.check_into_columns-judged.ensures (((both_accepted _ _ (sym c.or_else-verdict.ensures ∙ c.in_default.is)).0)))
+returns-in-At c = ap (found_answer Verdict.Accepted) (sym c.in-At.is) ∙ (found_answers _ c.args.reading c.of_bits-wanted.ensures c.check_into_columns-judged.ensures.answers c.has_from.ensures
+    c.refuse_if-late.ensures c.or_else-verdict.ensures c.in_default.is (own_columns c.check_into_columns-judged.ensures (both_accepted _ _ (sym c.or_else-verdict.ensures ∙ c.in_default.is)).0)
     c.lowest_with-found.ensures)
 
 pub returns-in-Nothing : goal.returns-in-Nothing
-returns-in-Nothing c = ap (found_answer Verdict.Accepted) (sym c.in-Nothing.is) ∙ (found_answers ((let a = c.args in
-    tables_under a.head a.expressions.now a.entries.now a.relations.now a.comparisons.now
-    a.queries.now a.kinds.now)) c.args.reading c.of_bits-wanted.ensures c.check_into_columns-judged.ensures.answers c.has_from.ensures
-    c.refuse_if-late.ensures c.or_else-verdict.ensures c.in_default.is (own_columns c.check_into_columns-judged.ensures (((both_accepted _ _ (sym c.or_else-verdict.ensures ∙ c.in_default.is)).0)))
+returns-in-Nothing c = ap (found_answer Verdict.Accepted) (sym c.in-Nothing.is) ∙ (found_answers _ c.args.reading c.of_bits-wanted.ensures c.check_into_columns-judged.ensures.answers c.has_from.ensures
+    c.refuse_if-late.ensures c.or_else-verdict.ensures c.in_default.is (own_columns c.check_into_columns-judged.ensures (both_accepted _ _ (sym c.or_else-verdict.ensures ∙ c.in_default.is)).0)
     c.lowest_with-found.ensures)

@@ -18,25 +18,29 @@ returns-in_default c =
     (sym c.lowest-next.ensures ∙ c.in_default.is) c.loop-a.invariant.1
 
 pub load-requires : goal.load-requires
-load-requires c = let h = ((lowest_at (bit c.loop-a.rest.bits) 64 c.in-At.a (sym c.lowest-next.ensures ∙ c.in-At.is))).below in let room = c.requires in omega arith
+load-requires c =
+    let lowest = lowest_at (bit c.loop-a.rest.bits) 64 c.in-At.a (sym c.lowest-next.ensures ∙ c.in-At.is) in
+    let h = lowest.below in let room = c.requires in omega arith
 
 pub single-requires : goal.single-requires
-single-requires c = ((lowest_at (bit c.loop-a.rest.bits) 64 c.in-At.a (sym c.lowest-next.ensures ∙ c.in-At.is))).below
+single-requires c = (lowest_at (bit c.loop-a.rest.bits) 64 c.in-At.a (sym c.lowest-next.ensures ∙ c.in-At.is)).below
 
 pub loop-a-smaller : goal.loop-a-smaller
 loop-a-smaller c =
     let x = c.loop-a.rest.bits in
     let a = c.in-At.a in
-    rw (c.minus-rest.ensures, c.single.ensures) (without_less x a ((lowest_at (bit c.loop-a.rest.bits) 64 c.in-At.a (sym c.lowest-next.ensures ∙ c.in-At.is))).holds)
+    let lowest = lowest_at (bit c.loop-a.rest.bits) 64 c.in-At.a (sym c.lowest-next.ensures ∙ c.in-At.is) in
+    rw (c.minus-rest.ensures, c.single.ensures) (without_less x a lowest.holds)
 
 pub loop-a-preserved : goal.loop-a-preserved
 loop-a-preserved c =
     let x = c.loop-a.rest.bits in
     let a = c.in-At.a in
     let columns = c.args.columns.now in
+    let lowest = lowest_at (bit c.loop-a.rest.bits) 64 c.in-At.a (sym c.lowest-next.ensures ∙ c.in-At.is) in
     let fewer = c.minus-rest.ensures ∙ ap (difference x) c.single.ensures in
     let cut = c.intersect-having.ensures ∙ ap (row_intersect 16 c.loop-a.having.words) c.load.ensures in (
       rw fewer (difference_lt 64 x (2 ^ a) c.loop-a.invariant.0),
       λ d l. ap₂ (λ (row : List ℕ) (rest : ℕ). shows_wanted row columns rest d) cut fewer
-          ∙ shows_one c.loop-a.having.words columns x a ((lowest_at (bit c.loop-a.rest.bits) 64 c.in-At.a (sym c.lowest-next.ensures ∙ c.in-At.is))).below ((lowest_at (bit c.loop-a.rest.bits) 64 c.in-At.a (sym c.lowest-next.ensures ∙ c.in-At.is))).holds d l ∙ c.loop-a.invariant.1 d l,
+          ∙ shows_one c.loop-a.having.words columns x a lowest.below lowest.holds d l ∙ c.loop-a.invariant.1 d l,
     )

@@ -1,36 +1,27 @@
 -- A refusal is its line; what is accepted has passed the form checks, and the rows are its permitted configurations and its column rows.
 use native.Mathlib.Omega.{arith}
-use Rattle.report.specs.Expressions.{tables_under}
 use Rattle.printing.proofs.PrintLaws.{refusal_room}
 use Rattle.judging.proofs.JudgingLaws.{own_columns}
 use Rattle.harbour_print.proofs.PrintedLaws.{prints, refusal_printed, acceptance_printed, accepted_reads}
 use Rattle.harbour_print.proofs.printed.print_tables.Goals as goal
 
 pub put_refused-requires : goal.put_refused-requires
-put_refused-requires c = record { fits = omega (arith, (refusal_room c.in-Refused.r (omega arith) (omega arith) (omega arith) (omega arith))) }
+put_refused-requires c = record { fits = omega (arith, refusal_room c.in-Refused.r (omega arith) (omega arith) (omega arith) (omega arith)) }
 
 pub returns-in-Refused : goal.returns-in-Refused
 returns-in-Refused c =
-    refusal_printed c.args.layout ((let a = c.args in
-    tables_under a.head a.expressions.now a.entries.now a.relations.now a.comparisons.now
-    a.queries.now a.kinds.now)) c.check_into_columns-judged.ensures.answers c.in-Refused.is
-    (prints ((refusal_room c.in-Refused.r (omega arith) (omega arith) (omega arith) (omega arith))) c.requires c.put_refused.ensures)
+    refusal_printed c.args.layout _ c.check_into_columns-judged.ensures.answers c.in-Refused.is
+    (prints (refusal_room c.in-Refused.r (omega arith) (omega arith) (omega arith) (omega arith)) c.requires c.put_refused.ensures)
 
 pub print_columns-requires : goal.print_columns-requires
 print_columns-requires c =
     record {
-      tables = (let a = c.args in
-          tables_under a.head a.expressions.now a.entries.now a.relations.now a.comparisons.now
-          a.queries.now a.kinds.now);
+      tables = _;
       reads = accepted_reads (own_columns c.check_into_columns-judged.ensures c.in_default.is);
       room = c.requires;
     }
 
 pub returns : goal.returns
 returns c =
-    acceptance_printed c.args.layout ((let a = c.args in
-    tables_under a.head a.expressions.now a.entries.now a.relations.now a.comparisons.now
-    a.queries.now a.kinds.now)) c.check_into_columns-judged.ensures.answers c.in_default.is
-    (c.print_columns.ensures ((let a = c.args in
-    tables_under a.head a.expressions.now a.entries.now a.relations.now a.comparisons.now
-    a.queries.now a.kinds.now)) (accepted_reads (own_columns c.check_into_columns-judged.ensures c.in_default.is)))
+    acceptance_printed c.args.layout _ c.check_into_columns-judged.ensures.answers c.in_default.is
+    (c.print_columns.ensures _ (accepted_reads (own_columns c.check_into_columns-judged.ensures c.in_default.is)))
