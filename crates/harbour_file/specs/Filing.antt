@@ -1,6 +1,6 @@
 -- What the reader's functions answer, and what they leave in the words that are lent.
 use Rattle.std.specs.Prelude.{ℕ, suc, ◌+◌, ◌*◌, ◌≤◌, ◌≡◌, cond, List, [], ◌∷◌, length, take, get_or, ltb}
-use Rattle.std.proofs.lemmas.List.Edits.{sets}
+use lib.Seq.{sets}
 use Rattle.report.specs.Expressions.{holds}
 use Rattle.report.specs.Tables.{Tables}
 use Rattle.report.specs.Configuring.{written}

@@ -1,6 +1,6 @@
 -- What stands at a position of a text: a number, a fixed byte string, the numbers of a line. Each answer holds the position where reading stopped.
 use Rattle.std.specs.Prelude.{ℕ, zero, suc, ◌+◌, ◌-◌, ◌*◌, ◌≡◌, cond, ◌&&◌, List, [], ◌∷◌, drop, ltb, leb, eqb}
-use Rattle.std.proofs.lemmas.List.Edits.{sets}
+use lib.Seq.{sets}
 use Rattle.report.specs.Text.{is_digit}
 use Rattle.reading.specs.declared.Digit.{Digit}
 use Rattle.reading.specs.declared.Number.{Number}

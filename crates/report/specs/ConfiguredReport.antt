@@ -1,7 +1,7 @@
 -- docs/FORMAT.md, "Configuring": the configured report as a tree, and the configured schema, of any tables, accepted or refused,
 -- in either reading. Relations keep their old numbers.
 use Rattle.std.specs.Prelude.{ℕ, ◌+◌, Bool, cond, List, [], ◌∷◌}
-use Rattle.std.proofs.Math.Option.{none, some}
+use mathlib.Core.Option.{none, some}
 use Rattle.sets.specs.Lists.{kept}
 use Rattle.sets.specs.Bits.{bit}
 use Rattle.report.specs.Values.{value}

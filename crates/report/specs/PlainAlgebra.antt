@@ -1,6 +1,6 @@
 -- docs/FORMAT.md, "Plain rules": relational algebra on trees, under a schema. Nothing here knows of features, expressions or choices.
 use Rattle.std.specs.Prelude.{ℕ, ◌^◌, Bool, true, false, ◌&&◌, List, [], ◌∷◌, eqb}
-use Rattle.std.proofs.Math.Option.{Option, none, some}
+use mathlib.Core.Option.{Option, none, some}
 use Rattle.std.specs.Int.Bits.{bit_and, bit_or}
 use Rattle.sets.specs.Bits.{subset}
 

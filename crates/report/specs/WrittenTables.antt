@@ -1,7 +1,7 @@
 -- What the tables are that configuring writes at c for an accepted report (the end of specs/Configuring): the configured report as a tree and the
 -- configured schema (specs/ConfiguredReport), with the relations renumbered; accepted by the checker, with the columns shown at c.
 use Rattle.std.specs.Prelude.{ℕ, ◌<◌, ◌≤◌, ◌≡◌, ◌≢◌, true, false, length}
-use Rattle.std.proofs.Math.Option.{none}
+use mathlib.Core.Option.{none}
 use Rattle.sets.specs.Search.{Nth}
 use Rattle.sets.specs.Lists.{kept}
 use Rattle.report.specs.Tables.{Tables, query, relation_count, query_count, report, entries_of_relations, entries_of_projects}

@@ -1,6 +1,6 @@
 -- Numbers written one after another into lent ones, from a position on.
 use Rattle.std.specs.Prelude.{ℕ, ◌+◌, ◌≤◌, ◌≡◌, List, length}
-use Rattle.std.proofs.lemmas.List.Edits.{sets}
+use lib.Seq.{sets}
 
 -- from `at` on there is room for the text
 pub record Room (text out : List ℕ) (at : ℕ) : Type 0 where
