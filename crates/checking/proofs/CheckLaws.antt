@@ -1,4 +1,5 @@
 -- How the parts of the check make its answer, and what each part leaves for the next.
+use Rattle.std.specs.Prelude.{Ok, Err}
 use Prim.Native.Nat.{ℕ, ◌+◌}
 use mathlib.Core.Path.{◌≡◌, sym, ap, ap₂, ◌∙◌}
 use mathlib.Core.Bool.{Bool, not}
@@ -10,13 +11,12 @@ use lib.Dec.{eqb}
 use lib.ListN.{length, drop}
 use lib.Seq.{paste, take_all, drop-length}
 use Rattle.report.specs.Tables.{Tables}
-use Rattle.report.specs.Verdicts.{refusal, refuse_if, or_else, after}
+use Rattle.report.specs.Verdicts.{Verdict, refusal, refuse_if, or_else, after}
 use Rattle.report.specs.FormChecks.{form_check}
 use Rattle.report.specs.ColumnRows.{column_rows}
 use Rattle.report.specs.Checks.{typing_check, model_and_schema_check}
 use Rattle.report.specs.Calls.{answer, checking}
 use Rattle.report.specs.declared.Refusal.{Refusal}
-use Rattle.report.specs.declared.Verdict.{Verdict}
 use Rattle.report.specs.declared.Reading.{Reading}
 use Rattle.report.proofs.VerdictLaws.{or_else_accepted, both_accepted, then_next, accepted_if}
 use Rattle.report.proofs.FirstFault.{first_none, first_one}
@@ -46,17 +46,17 @@ module _ (T : Tables) (R : Reading) where
       ∙ ap₂ (λ (v w : Verdict). or_else (form_check T) (or_else v (or_else (meaning_check T R) w))) (first_one _ _) first_none
       ∙ ap (λ (v : Verdict). or_else (form_check T) (or_else (rows_check room) v)) (or_else_accepted (meaning_check T R))
 
-  refused : {v : Verdict} {r : Refusal} (lent : List ℕ) → v ≡ answer T R (checking (length lent)) → v ≡ Verdict.Refused r → Checks T R lent v lent
+  refused : {v : Verdict} {r : Refusal} (lent : List ℕ) → v ≡ answer T R (checking (length lent)) → v ≡ Err r → Checks T R lent v lent
   refused lent e f = (e, ap (λ (x : Verdict). after x (column_rows T) lent) (sym f ∙ e))
 
   module _ {v : Verdict} (lent : List ℕ) (forms : v ≡ form_check T) where
     -- a form check refuses
-    pub forms_refuse : {r : Refusal} → v ≡ Verdict.Refused r → Checks T R lent v lent
+    pub forms_refuse : {r : Refusal} → v ≡ Err r → Checks T R lent v lent
     forms_refuse f = refused lent (stops _ forms f ∙ sym (parts (length lent))) f
 
-    module _ (passed : v ≡ Verdict.Accepted) where
+    module _ (passed : v ≡ Ok tt) where
       -- 11
-      pub rows_refuse : {w : Verdict} → w ≡ Verdict.Refused (refusal 11 0 0 0) → (length lent ≡ 1024 → ⊥) → Checks T R lent w lent
+      pub rows_refuse : {w : Verdict} → w ≡ Err (refusal 11 0 0 0) → (length lent ≡ 1024 → ⊥) → Checks T R lent w lent
       rows_refuse {w} e n =
           let own : w ≡ rows_check (length lent) = e ∙ ap (λ (b : Bool). refuse_if (not b) (refusal 11 0 0 0)) (sym (ne_eqb (length lent) 1024 n)) in
           refused lent (goes_on forms passed (stops _ own e) ∙ sym (parts (length lent))) e
@@ -74,14 +74,14 @@ module _ (T : Tables) (R : Reading) where
 -- ---- 12 to 19 and 25, where judging leaves the column rows in `columns`
 
 module _ {T : Tables} {R : Reading} {v : Verdict} {lent_columns columns : List ℕ} (J : ColumnsJudged T R v lent_columns columns) (lent : List ℕ) where
-  pub meaning_refused : {r : Refusal} → v ≡ Verdict.Refused r → Meant T R v lent lent
+  pub meaning_refused : {r : Refusal} → v ≡ Err r → Meant T R v lent lent
   meaning_refused f = record { answers = J.answers; shows = ap (λ (x : Verdict). after x (column_rows T) lent) (sym f) }
 
-  pub meaning_accepted : v ≡ Verdict.Accepted → {rows : List ℕ} → rows ≡ columns → Meant T R Verdict.Accepted lent rows
+  pub meaning_accepted : v ≡ Ok tt → {rows : List ℕ} → rows ≡ columns → Meant T R (Ok tt) lent rows
   meaning_accepted f e = record {
     answers = sym f ∙ J.answers;
     shows = e ∙ J.shows ∙ ap (λ (x : Verdict). after x (column_rows T) lent_columns) early;
   }
     where
-      early : model_and_schema_check T ≡ Verdict.Accepted
+      early : model_and_schema_check T ≡ Ok tt
       early = (both_accepted (model_and_schema_check T) (typing_check T R) (sym J.answers ∙ f)).0

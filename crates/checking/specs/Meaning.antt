@@ -2,10 +2,9 @@
 use Rattle.std.specs.Prelude.{ℕ, ◌≡◌, List, length}
 use Rattle.report.specs.Tables.{Tables}
 use Rattle.report.specs.ColumnRows.{column_rows}
-use Rattle.report.specs.Verdicts.{after}
+use Rattle.report.specs.Verdicts.{Verdict, after}
 use Rattle.report.specs.Formed.{Formed}
 use Rattle.report.specs.declared.Reading.{Reading}
-use Rattle.report.specs.declared.Verdict.{Verdict}
 use Rattle.judging.specs.Judging.{meaning_check}
 
 -- tables that have passed the form checks, and 1,024 words

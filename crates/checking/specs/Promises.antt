@@ -2,7 +2,7 @@
 use Rattle.std.specs.Prelude.{ℕ, ◌≡◌, List, length}
 use Rattle.report.specs.Tables.{Tables}
 use Rattle.report.specs.Calls.{answer, checking, rows_after}
-use Rattle.report.specs.declared.Verdict.{Verdict}
+use Rattle.report.specs.Verdicts.{Verdict}
 use Rattle.report.specs.declared.Reading.{Reading}
 
 -- in this reading, with these rows lent

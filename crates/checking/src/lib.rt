@@ -9,20 +9,7 @@ ghost use Rattle.checking.specs.Meaning.{MeaningReads, Meant};
 use forms::check_forms;
 use judging::{COLUMN_WORDS, judge_tables_into_columns};
 use report::{Head, Reading, Verdict};
-use verdicts::refuse;
-
-// Copies the words of `from` to `to`, which is as long.
-fn copy_words(from: &[u64], to: &mut [u64])
-    requires { length from.now ≡ length to.old }
-    ensures { to.new ≡ from.now }
-{
-    let count = from.len();
-    let mut i = 0;
-    while i < count {
-        to[i] = from[i];
-        i += 1;
-    }
-}
+use verdicts::refuse_if;
 
 // Checks 12 to 19 and 25 of tables that have passed 1 to 10 and 24. Accepted: `rows`, of 1,024 words, holds the column rows. Refused: `rows` is as it was.
 fn check_meaning(
@@ -52,12 +39,9 @@ fn check_meaning(
         kinds,
         &mut columns,
     );
-    let meaning = judged.verdict;
-    if let Verdict::Refused(_) = meaning {
-        return meaning;
-    }
-    copy_words(&columns, rows);
-    Verdict::Accepted
+    judged.verdict?;
+    rows.copy_from_slice(&columns);
+    Ok(())
 }
 
 // Checks the report of these tables in the reading. Accepted: `rows` holds its column rows. Refused: `rows` is as it was.
@@ -76,7 +60,7 @@ pub fn check(
         comparisons.now queries.now kinds.now)
         reading rows.old result rows.new }
 {
-    let form = check_forms(
+    check_forms(
         head,
         expressions,
         entries,
@@ -84,13 +68,8 @@ pub fn check(
         comparisons,
         queries,
         kinds,
-    );
-    if let Verdict::Refused(_) = form {
-        return form;
-    }
-    if rows.len() != COLUMN_WORDS {
-        return refuse(11, 0);
-    }
+    )?;
+    refuse_if(rows.len() != COLUMN_WORDS, 11, 0)?;
     check_meaning(
         head,
         reading,

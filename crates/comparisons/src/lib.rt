@@ -11,7 +11,7 @@ ghost use Rattle.comparisons.specs.Gathering.{names_attribute, own_of, shows, Na
 use decoders::{comparison_sides, decode_comparison, kind_of};
 use report::{Comparison, Limits, Sides, Verdict};
 use sets::AttributeSet;
-use verdicts::refuse;
+use verdicts::refuse_if;
 
 // What is gathered from all that a comparison reaches: the attributes that are named, or the left attributes that are compared with another kind.
 #[derive(Clone, Copy)]
@@ -117,43 +117,29 @@ fn check_kind_table(m: usize, kinds: &[u16]) -> Verdict
     ensures { result ≡ kind_table_check m kinds.now }
 {
     let count = kinds.len();
-    if count != m {
-        return refuse(24, 0);
-    }
-    let mut a = 0;
-    while a < count {
+    refuse_if(count != m, 24, 0)?;
+    for a in 0..count {
         let k = kind_of(kinds, a);
-        if !is_kind(k) {
-            return refuse(24, a);
-        }
-        a += 1;
+        refuse_if(!is_kind(k), 24, a)?;
     }
-    Verdict::Accepted
+    Ok(())
 }
 
 // Check 24 of the comparisons.
 fn check_constants(comparisons: &[u16]) -> Verdict
     ensures { result ≡ constants_check comparisons.now }
 {
-    let count = comparisons.len() / 5;
-    let mut f = 0;
-    while f < count {
+    for f in 0..comparisons.len() / 5 {
         let k = constant_kind(comparison_sides(decode_comparison(comparisons, f)));
-        if !is_kind(k) {
-            return refuse(24, f);
-        }
-        f += 1;
+        refuse_if(!is_kind(k), 24, f)?;
     }
-    Verdict::Accepted
+    Ok(())
 }
 
 // Check 24.
 pub fn check_kinds(m: usize, comparisons: &[u16], kinds: &[u16]) -> Verdict
     ensures { result ≡ kinds_check m kinds.now comparisons.now }
 {
-    let v = check_kind_table(m, kinds);
-    if let Verdict::Refused(_) = v {
-        return v;
-    }
+    check_kind_table(m, kinds)?;
     check_constants(comparisons)
 }

@@ -1,4 +1,5 @@
 -- How the parts of configuring make its answer, and what each part leaves for the next.
+use Rattle.std.specs.Prelude.{Ok, Err}
 use Prim.Native.Nat.{ℕ, ◌*◌, ◌/◌, ◌%◌}
 use mathlib.Core.Path.{◌≡◌, refl, sym, ap, ◌∙◌}
 use mathlib.Core.Bool.{true, not}
@@ -12,13 +13,12 @@ use lib.Seq.{take_at}
 use Rattle.report.specs.Tables.{Tables}
 use Rattle.report.specs.Expressions.{holds, permitted, tables_of}
 use Rattle.report.specs.Configuring.{configured, written}
-use Rattle.report.specs.Verdicts.{refusal, refuse_if, first_of}
+use Rattle.report.specs.Verdicts.{Verdict, refusal, refuse_if, first_of}
 use Rattle.report.specs.Formed.{Formed}
 use Rattle.report.specs.FormChecks.{form_check}
 use Rattle.report.specs.Checks.{model_and_schema_check, typing_check, is_typing_fault}
 use Rattle.report.specs.Calls.{Call, room_conditions, configuring}
 use Rattle.report.specs.declared.Refusal.{Refusal}
-use Rattle.report.specs.declared.Verdict.{Verdict}
 use Rattle.report.specs.declared.Reading.{Reading}
 use Rattle.report.proofs.Formed.{formed}
 use Rattle.report.proofs.VerdictLaws.{both_accepted, if_accepted}
@@ -34,7 +34,7 @@ use Rattle.configuring.specs.AfterTyping.{late_verdict, ConfigureReads}
 
 -- where the tests of 21 accept there is room for each table
 pub room_accepted : (T : Tables) (new_entries new_relations new_comparisons new_queries : List ℕ)
-    → first_of (room_conditions (length new_entries) (length new_relations) (length new_comparisons) (length new_queries) T) ≡ Verdict.Accepted
+    → first_of (room_conditions (length new_entries) (length new_relations) (length new_comparisons) (length new_queries) T) ≡ Ok tt
     → Rooms T new_entries new_relations new_comparisons new_queries
 room_accepted T new_entries new_relations new_comparisons new_queries e =
     let h = (room_fits T (length new_entries) (length new_relations) (length new_comparisons) (length new_queries)).0 e in
@@ -42,7 +42,7 @@ room_accepted T new_entries new_relations new_comparisons new_queries e =
 
 -- where both accept, c is permitted and there is room for each table
 pub late_accepted : (T : Tables) (c : ℕ) (new_entries new_relations new_comparisons new_queries : List ℕ)
-    → late_verdict T c new_entries new_relations new_comparisons new_queries ≡ Verdict.Accepted
+    → late_verdict T c new_entries new_relations new_comparisons new_queries ≡ Ok tt
     → (permitted T c ≡ true) × Rooms T new_entries new_relations new_comparisons new_queries
 late_accepted T c new_entries new_relations new_comparisons new_queries e =
     let parts = first_own T c (length new_entries) (length new_relations) (length new_comparisons) (length new_queries) in
@@ -52,12 +52,12 @@ late_accepted T c new_entries new_relations new_comparisons new_queries e =
 -- ---- the answer
 
 -- a refused call leaves the tables as they were
-pub leaves_refused : {v : Verdict} {r : Refusal} {U : Tables} {new_entries new_relations new_comparisons new_queries : List ℕ} → Verdict.Refused r ≡ v
+pub leaves_refused : {v : Verdict} {r : Refusal} {U : Tables} {new_entries new_relations new_comparisons new_queries : List ℕ} → Err r ≡ v
     → Leaves v U new_entries new_relations new_comparisons new_queries (Configured.Refused r) new_entries new_relations new_comparisons new_queries
 leaves_refused e = rw (← e) record { answers = refl; entries = refl; relations = refl; comparisons = refl; queries = refl }
 
 -- where a reading accepts, what the writers write, which is what the filled one does, is what it does
-same_written : (T : Tables) (R : Reading) → report_check T R ≡ Verdict.Accepted → (c : ℕ) → configured T c Reading.Filled ≡ configured T c R
+same_written : (T : Tables) (R : Reading) → report_check T R ≡ Ok tt → (c : ℕ) → configured T c Reading.Filled ≡ configured T c R
 same_written T Reading.Strict e c =
     let p = both_accepted (form_check T) (meaning_check T Reading.Strict) e in
     same_tables (formed T p.0) (both_accepted (model_and_schema_check T) (typing_check T Reading.Strict) p.1).1 c
@@ -68,12 +68,12 @@ module _ (T : Tables) (R : Reading) (c : ℕ) (new_entries new_relations new_com
   call = configuring c (length new_entries) (length new_relations) (length new_comparisons) (length new_queries)
 
   -- a check before 20 refuses
-  pub report_refuses : {r : Refusal} → v ≡ Verdict.Refused r
+  pub report_refuses : {r : Refusal} → v ≡ Err r
       → Configures T R c new_entries new_relations new_comparisons new_queries (Configured.Refused r) new_entries new_relations new_comparisons new_queries
   report_refuses f = leaves_refused (call_refused T R call first_none checked f)
 
   -- 20 and 21 answer
-  pub late_answers : v ≡ Verdict.Accepted → {r : Configured} {new_entries' new_relations' new_comparisons' new_queries' : List ℕ}
+  pub late_answers : v ≡ Ok tt → {r : Configured} {new_entries' new_relations' new_comparisons' new_queries' : List ℕ}
       → Leaves (late_verdict T c new_entries new_relations new_comparisons new_queries) (configured T c Reading.Filled)
       new_entries new_relations new_comparisons new_queries r new_entries' new_relations' new_comparisons' new_queries'
       → Configures T R c new_entries new_relations new_comparisons new_queries r new_entries' new_relations' new_comparisons' new_queries'
@@ -81,9 +81,9 @@ module _ (T : Tables) (R : Reading) (c : ℕ) (new_entries new_relations new_com
 
 -- 20 and 21 accept, and the tables are written
 pub written_late : (T : Tables) (c : ℕ) (new_entries new_relations new_comparisons new_queries : List ℕ) {v : Verdict}
-    → v ≡ late_verdict T c new_entries new_relations new_comparisons new_queries → v ≡ Verdict.Accepted
+    → v ≡ late_verdict T c new_entries new_relations new_comparisons new_queries → v ≡ Ok tt
     → {r : Configured} {new_entries' new_relations' new_comparisons' new_queries' : List ℕ}
-    → (permitted T c ≡ true → Leaves Verdict.Accepted (configured T c Reading.Filled) new_entries new_relations new_comparisons new_queries r
+    → (permitted T c ≡ true → Leaves (Ok tt) (configured T c Reading.Filled) new_entries new_relations new_comparisons new_queries r
     new_entries' new_relations' new_comparisons' new_queries')
     → Leaves (late_verdict T c new_entries new_relations new_comparisons new_queries) (configured T c Reading.Filled)
     new_entries new_relations new_comparisons new_queries r new_entries' new_relations' new_comparisons' new_queries'
@@ -111,16 +111,16 @@ module _ {v : Verdict} {U : Tables} {new_entries new_relations new_comparisons n
   configured_fault = ap is_configured_fault L.answers ∙ go v
     where
       go : (v : Verdict) → is_configured_fault (configured_answer v U) ≡ is_typing_fault v
-      go Verdict.Accepted = refl
-      go (Verdict.Refused r) = refl
+      go (Ok tt) = refl
+      go (Err r) = refl
 
   -- and a refusal exactly where the verdict is that
-  pub configured_refused : (x : Refusal) → (r ≡ Configured.Refused x) ↔ (v ≡ Verdict.Refused x)
+  pub configured_refused : (x : Refusal) → (r ≡ Configured.Refused x) ↔ (v ≡ Err x)
   configured_refused x = (λ e. go v (sym L.answers ∙ e), λ e. L.answers ∙ ap (λ (v : Verdict). configured_answer v U) e)
     where
-      go : (v : Verdict) → configured_answer v U ≡ Configured.Refused x → v ≡ Verdict.Refused x
-      go Verdict.Accepted e = absurd (let z : ◌≡◌ {A = ℕ} 0 1 = cc in omega arith)
-      go (Verdict.Refused y) e = cc
+      go : (v : Verdict) → configured_answer v U ≡ Configured.Refused x → v ≡ Err x
+      go (Ok tt) e = absurd (let z : ◌≡◌ {A = ℕ} 0 1 = cc in omega arith)
+      go (Err y) e = cc
 
 -- as many words as so many forms have are the table that was written
 read : {new after : List ℕ} (lent : List ℕ) (count width : ℕ) → after ≡ written new lent → count ≡ length new / width → length new % width ≡ 0
@@ -132,7 +132,7 @@ read {new} lent count width e f whole =
 
 read_tables : {U : Tables} → U.truth ≡ holds U.expressions → Formed U
     → {new_entries new_relations new_comparisons new_queries new_entries' new_relations' new_comparisons' new_queries' : List ℕ} {a b c d : ℕ}
-    → Leaves Verdict.Accepted U new_entries new_relations new_comparisons new_queries
+    → Leaves (Ok tt) U new_entries new_relations new_comparisons new_queries
     (Configured.Written a b c d) new_entries' new_relations' new_comparisons' new_queries'
     → tables_of U.features U.attributes U.model U.expressions (take (a * 2) new_entries') (take (b * 2) new_relations')
     (take (c * 5) new_comparisons') (take (d * 4) new_queries') U.kinds
@@ -149,7 +149,7 @@ read_tables {U} worked F {new_entries} {new_relations} {new_comparisons} {new_qu
 -- so what the call answers and leaves gives the tables written
 pub read_back_lem : (T : Tables) (k : ℕ) (R : Reading) → Formed (configured T k R)
     → {new_entries new_relations new_comparisons new_queries new_entries' new_relations' new_comparisons' new_queries' : List ℕ} {a b c d : ℕ}
-    → Leaves Verdict.Accepted (configured T k R) new_entries new_relations new_comparisons new_queries
+    → Leaves (Ok tt) (configured T k R) new_entries new_relations new_comparisons new_queries
     (Configured.Written a b c d) new_entries' new_relations' new_comparisons' new_queries'
     → tables_of 0 T.attributes 0 (1 ∷ 0 ∷ 0 ∷ []) (take (a * 2) new_entries') (take (b * 2) new_relations') (take (c * 5) new_comparisons')
     (take (d * 4) new_queries') T.kinds ≡ configured T k R

@@ -1,4 +1,5 @@
 -- The writing of configured tables: what each writer reads, that there is room, and that together they write the tables of `configured`.
+use Rattle.std.specs.Prelude.{Ok}
 use Prim.Native.Nat.{ℕ, ◌+◌, ◌-◌, ◌*◌, ◌/◌, ◌≤◌}
 use mathlib.Core.Path.{◌≡◌, refl, sym, ap, ◌∙◌}
 use mathlib.Core.Bool.{true}
@@ -15,7 +16,6 @@ use Rattle.report.specs.Typing.{set_of}
 use Rattle.report.specs.Expressions.{permitted}
 use Rattle.report.specs.Configuring.{new_comparison, new_query, configured, written}
 use Rattle.report.specs.Formed.{Formed}
-use Rattle.report.specs.declared.Verdict.{Verdict}
 use Rattle.report.specs.declared.Reading.{Reading}
 use Rattle.report.proofs.FormedFacts.{counts}
 use Rattle.report.proofs.EntryParts.{split_in}
@@ -102,7 +102,7 @@ module _ {T : Tables} (F : Formed T) (c : ℕ) {new_entries new_relations new_co
       → WrittenAt (relation_lists T c ++ project_lists T c) new_entries 0 new_entries' e
       → WrittenAt (relation_forms T c) new_relations 0 new_relations' r → WrittenAt (comparison_forms T c) new_comparisons 0 new_comparisons' f
       → WrittenAt (query_forms T c) new_queries 0 new_queries' q
-      → Leaves Verdict.Accepted (configured T c Reading.Filled) new_entries new_relations new_comparisons new_queries
+      → Leaves (Ok tt) (configured T c Reading.Filled) new_entries new_relations new_comparisons new_queries
       (Configured.Written (e / 2) (r / 2) (f / 5) (q / 4)) new_entries' new_relations' new_comparisons' new_queries'
   tables_left entries_written relations_written comparisons_written queries_written =
       let w1 = text_written (entries_text T c) entries_fit entries_written in

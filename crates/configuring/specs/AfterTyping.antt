@@ -5,10 +5,9 @@ use Rattle.sets.specs.Writing.{Room}
 use Rattle.report.specs.Tables.{Tables, query_count}
 use Rattle.report.specs.Typing.{set_of}
 use Rattle.report.specs.Expressions.{configurations}
-use Rattle.report.specs.Verdicts.{first_of}
+use Rattle.report.specs.Verdicts.{Verdict, first_of}
 use Rattle.report.specs.Calls.{permitted_condition, room_conditions}
 use Rattle.report.specs.Formed.{Formed}
-use Rattle.report.specs.declared.Verdict.{Verdict}
 use Rattle.expression_rows.specs.ExpressionRows.{TruthFilled, Prepared, ReachFilled}
 use Rattle.at_configuration.specs.AtConfiguration.{RelationReads}
 use Rattle.kept_lists.specs.Keeping.{relation_lists, project_lists, ProjectReads}

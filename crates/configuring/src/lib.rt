@@ -6,7 +6,6 @@ ghost use Rattle.sets.specs.Writing.{WrittenAt};
 ghost use Rattle.report.specs.Tables.{Tables};
 ghost use Rattle.report.specs.Expressions.{tables_under};
 ghost use Rattle.report.specs.Configuring.{configured};
-ghost use Rattle.report.specs.declared.Verdict.{Verdict};
 ghost use Rattle.report.specs.declared.Reading.{Reading};
 ghost use Rattle.kept_lists.specs.Keeping.{relation_lists, project_lists};
 ghost use Rattle.configuring.specs.Promises.{Leaves, Configures};
@@ -82,7 +81,7 @@ fn write_with(
     ensures { (T : Tables)
         → TypedReads T expression_rows.now reach.now form_sets.now relation_entries.now
         project_entries.now relations.now comparisons.now queries.now c
-        → Leaves Verdict.Accepted (configured T c Reading.Filled) new_entries.old new_relations.old new_comparisons.old
+        → Leaves (Ok tt) (configured T c Reading.Filled) new_entries.old new_relations.old new_comparisons.old
         new_queries.old result
         new_entries.new new_relations.new new_comparisons.new new_queries.new }
 {
@@ -144,7 +143,7 @@ fn write_kept(
     ensures { (T : Tables)
         → KeptReads T expression_rows.now reach.now relation_entries.now project_entries.now
         relations.now comparisons.now queries.now c
-        → Leaves Verdict.Accepted (configured T c Reading.Filled) new_entries.old new_relations.old new_comparisons.old
+        → Leaves (Ok tt) (configured T c Reading.Filled) new_entries.old new_relations.old new_comparisons.old
         new_queries.old result
         new_entries.new new_relations.new new_comparisons.new new_queries.new }
 {
@@ -207,7 +206,7 @@ fn configure_judged(
     };
     let permitted = Row::load(expression_rows, model);
     let late = check_late(permitted, c, lent, entries, relations, comparisons, queries);
-    if let Verdict::Refused(r) = late {
+    if let Err(r) = late {
         return Configured::Refused(r);
     }
     let split = relations_end(relations) * 2;
@@ -265,7 +264,7 @@ pub fn configure(
         &mut reach,
         &mut columns,
     );
-    if let Verdict::Refused(r) = checked {
+    if let Err(r) = checked {
         return Configured::Refused(r);
     }
     configure_judged(

@@ -1,4 +1,5 @@
 -- The promises and the theorems of this crate are about something: calls on H1 and on others of docs/FORMAT.md, "Worked examples", by computation.
+use Rattle.std.specs.Prelude.{Ok, Err}
 use Prim.Native.Nat.{ℕ, zero, suc, ◌<◌}
 use mathlib.Core.Path.{◌≡◌, refl, sym, ap, ◌∙◌}
 use mathlib.Core.Bool.{true, false, false≢true}
@@ -12,13 +13,12 @@ use Rattle.report.specs.Tables.{Tables, query, relation_length, relation_start, 
 use Rattle.report.specs.Expressions.{permitted, tables_of}
 use Rattle.report.specs.ColumnRows.{column_rows}
 use Rattle.report.specs.ConfiguredReport.{plain_query_at, kept_attributes}
-use Rattle.report.specs.Verdicts.{refusal, after, Foremost}
+use Rattle.report.specs.Verdicts.{Verdict, refusal, after, Foremost}
 use Rattle.report.specs.FormChecks.{list_fits, comparison_ok}
 use Rattle.report.specs.Calls.{Call, whole, conditions, answer, Sound, GetsAsFarAsTyping, checking, configuring}
 use Rattle.report.specs.Repeats.{relation_repeats, project_repeats, NoRepeats, answer_before, configured_before}
 use Rattle.report.specs.Kinds.{IsKind2, Differing, KindFault, AllKinds0, answer_before_kinds}
 use Rattle.report.specs.Examples.{h1, ramp_twice, quay, arrivals, kinds012, arrival_by_count, arrival_by, lacking}
-use Rattle.report.specs.declared.Verdict.{Verdict}
 use Rattle.report.specs.declared.Reading.{Reading}
 use Rattle.report.proofs.ExamplesHold.{computed}
 use Rattle.report.proofs.Guards.{h1_accepted}
@@ -76,7 +76,7 @@ unfolding computed
 short_refused = record { answers = refl; entries = refl; relations = refl; comparisons = refl; queries = refl }
 
 -- and H1 is accepted, so Demands says of H4 what it says of any such call
-h1_checks : Checks (h1 2) Reading.Strict (replicate 1024 9) Verdict.Accepted (column_rows (h1 2))
+h1_checks : Checks (h1 2) Reading.Strict (replicate 1024 9) (Ok tt) (column_rows (h1 2))
 h1_checks = (sym h1_accepted, ap (λ (v : Verdict). after v (column_rows (h1 2)) (replicate 1024 9)) (sym h1_accepted))
 
 h4_permitted : permitted (h1 2) 0 ≡ true
@@ -194,7 +194,7 @@ quay_none p = let o = ((model_permits (quay 3 0 3) refl 0 3 quay_kind 0).0 p).1 
 far_kind : IsKind6 (quay 3 65535 2) 0 65535 2
 far_kind = record { kind = refl; first_is = refl; count_is = refl }
 
-pub far_refused : (call : Call) → answer (quay 3 65535 2) Reading.Strict call ≡ Verdict.Refused (refusal 3 0 0 0)
+pub far_refused : (call : Call) → answer (quay 3 65535 2) Reading.Strict call ≡ Err (refusal 3 0 0 0)
 far_refused call =
     range_refused (quay 3 65535 2) Reading.Strict call 0 (lit≤ tt) refl (λ f l. absurd (omega arith)) 65535 2 far_kind (inr (inr (lit≤ tt)))
 
@@ -207,10 +207,10 @@ pub arrival_differs : Differing compared 0 1 0 0
 unfolding computed
 arrival_differs = record { selects = 0; of = 0; form = refl; reaches = refl; leads = refl; two = refl; left = refl }
 
-pub arrival_never : (call : Call) → answer compared Reading.Strict call ≡ Verdict.Accepted → ⊥
+pub arrival_never : (call : Call) → answer compared Reading.Strict call ≡ Ok tt → ⊥
 arrival_never call e = accepted_one_kind compared Reading.Strict call e 0 1 0 0 arrival_differs
 
-pub arrival_refused : Checks compared Reading.Strict (replicate 1024 9) (Verdict.Refused (refusal 25 1 0 0)) (replicate 1024 9)
+pub arrival_refused : Checks compared Reading.Strict (replicate 1024 9) (Err (refusal 25 1 0 0)) (replicate 1024 9)
 unfolding computed
 arrival_refused = (refl, refl)
 
@@ -222,7 +222,7 @@ pub arrival_fault : KindFault compared (refusal 25 1 0 0)
 arrival_fault = check_25 compared (replicate 1024 9) (replicate 1024 9) (refusal 25 1 0 0) arrival_refused refl
 
 -- so `configure` refuses it by the same, whatever it is given
-pub arrival_configure : (c r1 r2 r3 r4 : ℕ) → answer compared Reading.Strict (configuring c r1 r2 r3 r4) ≡ Verdict.Refused (refusal 25 1 0 0)
+pub arrival_configure : (c r1 r2 r3 r4 : ℕ) → answer compared Reading.Strict (configuring c r1 r2 r3 r4) ≡ Err (refusal 25 1 0 0)
 arrival_configure c r1 r2 r3 r4 = (exactly_25 compared (configuring_own c r1 r2 r3 r4) (configure_gets compared sound c r1 r2 r3 r4) 1 0 0).1 arrival_fault
   where
     sound : Sound compared
@@ -236,7 +236,7 @@ pub constant_seven : comparison_ok (arrivals (arrival_by 3) 0 kinds012) 0 ≡ tr
 constant_seven = (seven_asks constant_words).1 (lit≤ tt, lit≤ tt)
 
 -- of the same with one kind for both it is accepted, and so no sides differ
-pub counts_agree : Checks (arrivals arrival_by_count 0 (1 ∷ 1 ∷ 2 ∷ [])) Reading.Strict (replicate 1024 9) Verdict.Accepted (column_rows (arrivals arrival_by_count 0 (1 ∷ 1 ∷ 2 ∷ [])))
+pub counts_agree : Checks (arrivals arrival_by_count 0 (1 ∷ 1 ∷ 2 ∷ [])) Reading.Strict (replicate 1024 9) (Ok tt) (column_rows (arrivals arrival_by_count 0 (1 ∷ 1 ∷ 2 ∷ [])))
 unfolding computed
 counts_agree = (refl, refl)
 
@@ -244,7 +244,7 @@ pub counts_alike : (c q a g : ℕ) → Differing (arrivals arrival_by_count 0 (1
 counts_alike = check_one_kind (arrivals arrival_by_count 0 (1 ∷ 1 ∷ 2 ∷ [])) (replicate 1024 9) _ Reading.Strict counts_agree
 
 -- 16 at 3 comes before 25 at 0, and says that at 0 no compared attribute is missing
-pub lacking_refused : Checks (lacking arrival_by_count (2 ∷ 0 ∷ 0 ∷ 0 ∷ [])) Reading.Strict (replicate 1024 9) (Verdict.Refused (refusal 16 1 1 3)) (replicate 1024 9)
+pub lacking_refused : Checks (lacking arrival_by_count (2 ∷ 0 ∷ 0 ∷ 0 ∷ [])) Reading.Strict (replicate 1024 9) (Err (refusal 16 1 1 3)) (replicate 1024 9)
 unfolding computed
 lacking_refused = (refl, refl)
 

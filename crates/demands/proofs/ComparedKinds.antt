@@ -1,5 +1,6 @@
 -- Document 02's fifth wish, on what the calls answer and leave. Of every call: crate report, proofs/KindCalls (24, 25, one kind where a call accepts) and
 -- proofs/KindLaws (what is as before).
+use Rattle.std.specs.Prelude.{Ok, Err}
 use Prim.Native.Nat.{ℕ}
 use mathlib.Core.Path.{◌≡◌, refl, sym, ap, ap₂, ◌∙◌}
 use mathlib.Core.List.{List, []}
@@ -9,12 +10,11 @@ use Rattle.report.specs.Expressions.{permitted}
 use Rattle.report.specs.Typing.{joined_set, set_of}
 use Rattle.report.specs.ColumnRows.{column_rows}
 use Rattle.report.specs.Configuring.{configured, written}
-use Rattle.report.specs.Verdicts.{after}
+use Rattle.report.specs.Verdicts.{Verdict, after}
 use Rattle.report.specs.FormChecks.{kinds_check}
 use Rattle.report.specs.Calls.{Call, answer, checking, configuring}
 use Rattle.report.specs.Kinds.{Differing, KindFault, AllKinds0, answer_before_kinds, with_kinds, NoSelect, KindFree}
 use Rattle.report.specs.declared.Refusal.{Refusal}
-use Rattle.report.specs.declared.Verdict.{Verdict}
 use Rattle.report.specs.declared.Reading.{Reading}
 use Rattle.report.proofs.Refusing.{checking_own}
 use Rattle.report.proofs.KindLaws.{kinds_0_before, no_comparisons_before, kinds_unread, rows_unread, configured_unread}
@@ -33,11 +33,11 @@ use Rattle.wall_page.specs.Page.{line_count, writing_page, page_answer, PageWrit
 
 module _ (T : Tables) (rows rows' : List ℕ) where
   -- of a report that a check accepts, in either reading
-  pub check_one_kind : (R : Reading) → Checks T R rows Verdict.Accepted rows' → (c q a g : ℕ) → Differing T c q a g → ⊥
+  pub check_one_kind : (R : Reading) → Checks T R rows (Ok tt) rows' → (c q a g : ℕ) → Differing T c q a g → ⊥
   check_one_kind R k = accepted_one_kind T R (checking (length rows)) (sym k.0)
 
   -- and where a check refuses by 25 they have two, at the place, with the item and the configuration that it names
-  pub check_25 : (r : Refusal) → Checks T Reading.Strict rows (Verdict.Refused r) rows' → r.number ≡ 25 → KindFault T r
+  pub check_25 : (r : Refusal) → Checks T Reading.Strict rows (Err r) rows' → r.number ≡ 25 → KindFault T r
   check_25 r k = refused_25 T (checking_own (length rows)) r (sym k.0)
 
   -- ---- "Where 24 finds nothing, a report with no comparisons is judged as before"; and so is every one whose kinds, the constants' too, are 0
@@ -47,7 +47,7 @@ module _ (T : Tables) (rows rows' : List ℕ) where
         → (r ≡ answer_before_kinds T (checking (length rows))) × (rows' ≡ after (answer_before_kinds T (checking (length rows))) (column_rows T) rows)
     left_before e = (k.0 ∙ e, k.1 ∙ ap (λ (v : Verdict). after v (column_rows T) rows) e)
 
-    pub check_no_comparisons : T.comparisons ≡ [] → kinds_check T.attributes T.kinds T.comparisons ≡ Verdict.Accepted
+    pub check_no_comparisons : T.comparisons ≡ [] → kinds_check T.attributes T.kinds T.comparisons ≡ Ok tt
         → (r ≡ answer_before_kinds T (checking (length rows))) × (rows' ≡ after (answer_before_kinds T (checking (length rows))) (column_rows T) rows)
     check_no_comparisons none e = left_before (no_comparisons_before T none e (checking (length rows)))
 
@@ -66,8 +66,8 @@ pub writing_free : (room : ℕ) → KindFree (writing_page room)
 unfolding permitted line_count
 writing_free room = record { early = λ T kinds. refl; late = λ T kinds. refl }
 
-module _ (T : Tables) (none : NoSelect T) (k k' : List ℕ) (e : kinds_check T.attributes k T.comparisons ≡ Verdict.Accepted)
-    (e' : kinds_check T.attributes k' T.comparisons ≡ Verdict.Accepted) where
+module _ (T : Tables) (none : NoSelect T) (k k' : List ℕ) (e : kinds_check T.attributes k T.comparisons ≡ Ok tt)
+    (e' : kinds_check T.attributes k' T.comparisons ≡ Ok tt) where
   same : {call : Call} → KindFree call → answer (with_kinds T k) Reading.Strict call ≡ answer (with_kinds T k') Reading.Strict call
   same free = kinds_unread T none free k k' e e'
 
@@ -113,8 +113,8 @@ module _ (T : Tables) (none : NoSelect T) (k k' : List ℕ) (e : kinds_check T.a
       call = configuring c (length entries) (length relations) (length comparisons) (length queries)
 
       counted : (v : Verdict) → configured_answer v (with_kinds (configured T c Reading.Strict) k) ≡ configured_answer v (with_kinds (configured T c Reading.Strict) k')
-      counted Verdict.Accepted = refl
-      counted (Verdict.Refused r) = refl
+      counted (Ok tt) = refl
+      counted (Err r) = refl
 
       left : {v v' : Verdict} → v ≡ v' → (table : Tables → List ℕ) (lent : List ℕ) {U U' : Tables} {new new' : List ℕ} → U ≡ with_kinds (configured T c Reading.Strict) k
           → U' ≡ with_kinds (configured T c Reading.Strict) k' → new ≡ table_after v (table U) lent → new' ≡ table_after v' (table U') lent

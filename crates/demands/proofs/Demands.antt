@@ -4,6 +4,7 @@
 -- specs/Expressions, `passes` and `columns` (the plain rules) in specs/PlainAlgebra, `configured_report` and `configured_schema` in
 -- specs/ConfiguredReport, `configured` (the tables written) in specs/Configuring, `shown` in specs/ColumnRows, `is_typing_fault` in specs/Checks, `Broken`
 -- and `Named` in specs/TypingFaults, `RulesThroughout` and `PassesThroughout` in specs/GivenDemands, `WrittenAccepted` in specs/WrittenTables.
+use Rattle.std.specs.Prelude.{Ok, Err}
 use Prim.Native.Nat.{ℕ}
 use mathlib.Core.Path.{◌≡◌, refl, sym, ap, ◌∙◌}
 use mathlib.Core.Bool.{Bool, true, false, not}
@@ -20,14 +21,13 @@ use Rattle.report.specs.Rules.{Rules, ruled_rows}
 use Rattle.report.specs.Configuring.{configured, written}
 use Rattle.report.specs.PlainAlgebra.{columns, passes}
 use Rattle.report.specs.ConfiguredReport.{configured_report, configured_schema}
-use Rattle.report.specs.Verdicts.{refusal, refuse_if, after, first_of, Foremost}
+use Rattle.report.specs.Verdicts.{Verdict, refusal, refuse_if, after, first_of, Foremost}
 use Rattle.report.specs.Checks.{typing_check, is_typing_fault}
 use Rattle.report.specs.Calls.{Call, conditions, answer, Sound, GetsAsFarAsTyping, OwnNumbers, checking, room_conditions, configuring}
 use Rattle.report.specs.TypingFaults.{Broken, Named}
 use Rattle.report.specs.WrittenTables.{WrittenAccepted}
 use Rattle.report.specs.GivenDemands.{RulesThroughout, PassesThroughout}
 use Rattle.report.specs.declared.Refusal.{Refusal}
-use Rattle.report.specs.declared.Verdict.{Verdict}
 use Rattle.report.specs.declared.Reading.{Reading}
 use Rattle.report.proofs.VerdictLaws.{both_accepted, if_accepted}
 use Rattle.report.proofs.FirstFault.{first_own}
@@ -47,7 +47,7 @@ use Rattle.demands.specs.FoundWritten.{FoundWritten}
 
 -- of any call: its answer r is `refused x` where it is refused by x
 module _ (T : Tables) (R : Reading) (call : Call) {A : Type 0} (refused : Refusal → A) {r : A}
-    (says : (x : Refusal) → (r ≡ refused x) ↔ (answer T R call ≡ Verdict.Refused x)) where
+    (says : (x : Refusal) → (r ≡ refused x) ↔ (answer T R call ≡ Err x)) where
   -- it is refused exactly by the first of its conditions that hold
   pub call_foremost : (x : Refusal) → (r ≡ refused x) ↔ Foremost (conditions T R call) x
   call_foremost x = let f = refused_foremost T R call x in (λ e. f.0 ((says x).0 e), λ h. (says x).1 (f.1 h))
@@ -58,17 +58,17 @@ module _ (T : Tables) (R : Reading) (call : Call) {A : Type 0} (refused : Refusa
 
 -- checking
 module _ (T : Tables) (R : Reading) (rows rows' : List ℕ) (r : Verdict) (checks : Checks T R rows r rows') where
-  says : (x : Refusal) → (r ≡ Verdict.Refused x) ↔ (answer T R (checking (length rows)) ≡ Verdict.Refused x)
+  says : (x : Refusal) → (r ≡ Err x) ↔ (answer T R (checking (length rows)) ≡ Err x)
   says x = (λ e. sym checks.0 ∙ e, λ e. checks.0 ∙ e)
 
-  pub check_foremost : (x : Refusal) → (r ≡ Verdict.Refused x) ↔ Foremost (conditions T R (checking (length rows))) x
-  check_foremost = call_foremost T R (checking (length rows)) Verdict.Refused says
+  pub check_foremost : (x : Refusal) → (r ≡ Err x) ↔ Foremost (conditions T R (checking (length rows))) x
+  check_foremost = call_foremost T R (checking (length rows)) Err says
 
-  pub check_unchanged : (x : Refusal) → r ≡ Verdict.Refused x → rows' ≡ rows
-  check_unchanged = call_unchanged T R (checking (length rows)) Verdict.Refused says (column_rows T) checks.1
+  pub check_unchanged : (x : Refusal) → r ≡ Err x → rows' ≡ rows
+  check_unchanged = call_unchanged T R (checking (length rows)) Err says (column_rows T) checks.1
 
 -- a check that accepts leaves the column rows
-pub left_rows : (T : Tables) (R : Reading) (rows rows' : List ℕ) → Checks T R rows Verdict.Accepted rows' → rows' ≡ column_rows T
+pub left_rows : (T : Tables) (R : Reading) (rows rows' : List ℕ) → Checks T R rows (Ok tt) rows' → rows' ≡ column_rows T
 left_rows T R rows rows' k = k.1 ∙ ap (λ (v : Verdict). after v (column_rows T) rows) (sym k.0)
 
 -- ---- In the strict reading (in either: Filled). "Tables sound in form and schema, with rows lent at their full length, it accepts exactly when those rules
@@ -79,7 +79,7 @@ module _ (T : Tables) (sound : Sound T) (rows rows' : List ℕ) (r : Verdict) (f
   answers = checks.0 ∙ ap (λ (n : ℕ). answer T Reading.Strict (checking n)) full
 
   -- the rules accept where at each permitted configuration some sets keep them
-  pub check_accepts : (r ≡ Verdict.Accepted) ↔ RulesThroughout T
+  pub check_accepts : (r ≡ Ok tt) ↔ RulesThroughout T
   check_accepts = let a = accepted_rules T sound in (λ e. a.0 (sym answers ∙ e), λ f. answers ∙ a.1 f)
 
   -- the rows of any such sets are those written
@@ -89,7 +89,7 @@ module _ (T : Tables) (sound : Sound T) (rows rows' : List ℕ) (r : Verdict) (f
       ∙ accepted_rows T sound S keep
 
   -- and where it accepts there are such sets, one for each form that is reached (RulesLaws: `rules_one`)
-  pub check_ruled : r ≡ Verdict.Accepted → (S : ℕ → ℕ → ℕ) × ((c : ℕ) → permitted T c ≡ true → Rules T c (S c)) × (rows' ≡ ruled_rows T S)
+  pub check_ruled : r ≡ Ok tt → (S : ℕ → ℕ → ℕ) × ((c : ℕ) → permitted T c ≡ true → Rules T c (S c)) × (rows' ≡ ruled_rows T S)
   check_ruled e = let keep = accepted_sets T sound (sym answers ∙ e) in (set_of T, keep, check_writes (set_of T) keep)
 
 -- ---- docs/FORMAT.md, "Typing rules and plain rules agree", for all tables sound in form and schema
@@ -106,14 +106,14 @@ module _ (T : Tables) (sound : Sound T) where
   rules_agree = rules_plain (sound_formed T sound)
 
   -- and of the checks of typing, 15 to 19 and 25
-  pub typing_agrees : (typing_check T Reading.Strict ≡ Verdict.Accepted) ↔ PassesThroughout T
+  pub typing_agrees : (typing_check T Reading.Strict ≡ Ok tt) ↔ PassesThroughout T
   typing_agrees = typing_passes (sound_formed T sound)
 
 -- ---- In either reading, the report being configured in it. "Found afterwards, whichever configuration that the feature model permits was chosen: the
 -- configured report passes the plain rules under the configured schema, and its columns are exactly those the rows show at that configuration. Done
 -- before: a schema and report, whatever they are, were accepted, and no word of them has changed since."
 
-pub found_afterwards : (T : Tables) (R : Reading) (rows rows' : List ℕ) → Checks T R rows Verdict.Accepted rows' → (c : ℕ) → permitted T c ≡ true
+pub found_afterwards : (T : Tables) (R : Reading) (rows rows' : List ℕ) → Checks T R rows (Ok tt) rows' → (c : ℕ) → permitted T c ≡ true
     → (passes (kind_of T) (configured_schema T c) (configured_report T c R) ≡ true) × (columns (configured_schema T c) (configured_report T c R) ≡ shown rows' c)
 found_afterwards T R rows rows' k c chosen =
     let accepted = sym k.0 in (
@@ -146,7 +146,7 @@ module _ (T : Tables) (R : Reading) (c : ℕ) (new_entries new_relations new_com
         same new {lent} stored = call_unchanged T R writing Configured.Refused (configured_refused configures) (written new lent) stored x e
 
     -- after a check that accepted, with tables lent of any length that check 21 takes, and any words in them
-    pub found_written : (rows rows' : List ℕ) → Checks T R rows Verdict.Accepted rows' → permitted T c ≡ true
+    pub found_written : (rows rows' : List ℕ) → Checks T R rows (Ok tt) rows' → permitted T c ≡ true
         → Rooms T new_entries new_relations new_comparisons new_queries
         → FoundWritten T R c rows' new_entries new_relations new_comparisons new_queries r new_entries' new_relations' new_comparisons' new_queries'
     found_written rows rows' k chosen room = record {
@@ -159,7 +159,7 @@ module _ (T : Tables) (R : Reading) (c : ℕ) (new_entries new_relations new_com
         there : WrittenAccepted T c R
         there = accepted_written T R (length rows) (sym k.0) c chosen
 
-        leaves : Leaves Verdict.Accepted (configured T c R) new_entries new_relations new_comparisons new_queries r
+        leaves : Leaves (Ok tt) (configured T c R) new_entries new_relations new_comparisons new_queries r
             new_entries' new_relations' new_comparisons' new_queries'
         leaves =
             rw (configure_accepted T R (length rows) (sym k.0) c chosen
@@ -167,9 +167,9 @@ module _ (T : Tables) (R : Reading) (c : ℕ) (new_entries new_relations new_com
             room.entries room.relations room.comparisons room.queries) at configures
 
         shows : (lent lent' : List ℕ) (v : Verdict) → length lent ≡ 1024 → Checks (configured T c R) Reading.Strict lent v lent'
-            → (v ≡ Verdict.Accepted) × (shown lent' 0 ≡ shown rows' c)
+            → (v ≡ Ok tt) × (shown lent' 0 ≡ shown rows' c)
         shows lent lent' v full w =
-            let e : v ≡ Verdict.Accepted = w.0 ∙ ap (λ (n : ℕ). answer (configured T c R) Reading.Strict (checking n)) full ∙ there.checked in (
+            let e : v ≡ (Ok tt) = w.0 ∙ ap (λ (n : ℕ). answer (configured T c R) Reading.Strict (checking n)) full ∙ there.checked in (
               e,
               ap (λ (l : List ℕ). shown l 0) (left_rows (configured T c R) Reading.Strict lent lent' (rw e at w)) ∙ there.written.shows
                   ∙ ap (λ (l : List ℕ). shown l c) (sym (left_rows T R rows rows' k)),
@@ -177,21 +177,21 @@ module _ (T : Tables) (R : Reading) (c : ℕ) (new_entries new_relations new_com
 
     -- From `configure` alone, where it answers that it has written
     module _ (a b d e : ℕ) (written : r ≡ Configured.Written a b d e) where
-      accepts : answer T R writing ≡ Verdict.Accepted
+      accepts : answer T R writing ≡ Ok tt
       accepts = go (answer T R writing) (sym written ∙ configures.answers)
         where
-          go : (v : Verdict) → Configured.Written a b d e ≡ configured_answer v (configured T c R) → v ≡ Verdict.Accepted
-          go Verdict.Accepted u = refl
-          go (Verdict.Refused x) u = absurd (let z : ◌≡◌ {A = ℕ} 0 1 = cc in omega arith)
+          go : (v : Verdict) → Configured.Written a b d e ≡ configured_answer v (configured T c R) → v ≡ Ok tt
+          go (Ok tt) u = refl
+          go (Err x) u = absurd (let z : ◌≡◌ {A = ℕ} 0 1 = cc in omega arith)
 
-      own_accepted : (refuse_if (not (permitted T c)) (refusal 20 0 0 c) ≡ Verdict.Accepted)
-          × (first_of (room_conditions (length new_entries) (length new_relations) (length new_comparisons) (length new_queries) T) ≡ Verdict.Accepted)
+      own_accepted : (refuse_if (not (permitted T c)) (refusal 20 0 0 c) ≡ Ok tt)
+          × (first_of (room_conditions (length new_entries) (length new_relations) (length new_comparisons) (length new_queries) T) ≡ Ok tt)
       own_accepted =
           both_accepted _ _
           (sym (first_own T c (length new_entries) (length new_relations) (length new_comparisons) (length new_queries)) ∙ called_own T R writing accepts)
 
       -- checking accepts the tables too, with 1,024 words of rows; c is permitted; and there was room
-      pub written_checked : answer T R (checking 1024) ≡ Verdict.Accepted
+      pub written_checked : answer T R (checking 1024) ≡ Ok tt
       written_checked = check_typing T R (called_sound T R writing accepts) ∙ called_typed T R writing accepts
 
       pub written-permitted : permitted T c ≡ true
@@ -210,7 +210,7 @@ module _ (T : Tables) (R : Reading) (c : ℕ) (new_entries new_relations new_com
       -- that is: the configured report passes the plain rules; given to the checker, what is written is accepted, and its columns are the report's
       pub written-columns : (lent lent' : List ℕ) (v : Verdict) → length lent ≡ 1024 → Checks (configured T c R) Reading.Strict lent v lent'
           → (passes (kind_of T) (configured_schema T c) (configured_report T c R) ≡ true)
-          × (v ≡ Verdict.Accepted)
+          × (v ≡ Ok tt)
           × (shown lent' 0 ≡ columns (configured_schema T c) (configured_report T c R))
       written-columns lent lent' v full w =
           let s = written_alone.shows lent lent' v full w in (
@@ -258,7 +258,7 @@ module _ (T : Tables) (sound : Sound T) where
     pub check_refuses : (is_typing_fault r ≡ true) ↔ Broken T
     check_refuses = call_refuses T (checking_own (length rows)) gets same
 
-    pub check_names : is_typing_fault r ≡ true → (n : Named T call) × (r ≡ Verdict.Refused n.refuses)
+    pub check_names : is_typing_fault r ≡ true → (n : Named T call) × (r ≡ Err n.refuses)
     check_names e = let n = call_names T (checking_own (length rows)) gets same e in (n, checks.0 ∙ n.answers)
 
     pub check_never : PassesThroughout T → is_typing_fault r ≡ false

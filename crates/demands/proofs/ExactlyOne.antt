@@ -1,5 +1,6 @@
 -- Wish 4, expression kind 6: of the definition; of a form of any tables; of every call, where the form does not fit; and of the calls, where the
 -- feature model is of this kind. The terms are those of specs/ExactlyOne.
+use Rattle.std.specs.Prelude.{Ok, Err}
 use Prim.Native.Nat.{ℕ, ◌+◌, ◌*◌, ◌-◌, ◌<◌, ◌≤◌}
 use mathlib.Core.Path.{◌≡◌, refl, sym, ap, ap₂, ◌∙◌}
 use mathlib.Core.Bool.{Bool, true, false, cond, ◌&&◌, not, and-eq-true_iff, false≢true}
@@ -22,7 +23,6 @@ use Rattle.report.specs.FormChecks.{range_fits, expression_fits, expression_ok, 
 use Rattle.report.specs.Verdicts.{refusal, refuse_at, or_else}
 use Rattle.report.specs.Calls.{Call, answer}
 use Rattle.report.specs.declared.Expression.{Expression}
-use Rattle.report.specs.declared.Verdict.{Verdict}
 use Rattle.report.specs.declared.Reading.{Reading}
 use Rattle.report.proofs.ValueLaws.{value_step}
 use Rattle.report.proofs.VerdictLaws.{both_accepted, then_next, then_refused}
@@ -136,27 +136,27 @@ module _ {T : Tables} {e first count : ℕ} (K : IsKind6 T e first count) where
 -- ---- "A count outside 1 to 10 or a range that passes n is refusal 3": of every call, where checks 1 and 2 find nothing and all lower forms fit
 
 module _ (T : Tables) (R : Reading) (call : Call) (e : ℕ) (inside : e < expression_count T)
-    (passed : or_else (head_check T.features T.attributes) (lengths_check T) ≡ Verdict.Accepted)
+    (passed : or_else (head_check T.features T.attributes) (lengths_check T) ≡ Ok tt)
     (lower : (f : ℕ) → f < e → expression_ok T f ≡ true) where
-  check_3 : expression_ok T e ≡ false → expressions_check T.features T.expressions ≡ Verdict.Refused (refusal 3 e 0 0)
+  check_3 : expression_ok T e ≡ false → expressions_check T.features T.expressions ≡ Err (refusal 3 e 0 0)
   unfolding expressions_check
   check_3 t =
       ap (refuse_at (λ f. refusal 3 f 0 0))
       (at_lowest (λ f. not (expression_ok T f)) (expression_count T) e
       (record { below = inside; holds = ap not t; before = λ f l. ap not (lower f l) }))
 
-  refused_3 : expression_ok T e ≡ false → answer T R call ≡ Verdict.Refused (refusal 3 e 0 0)
+  refused_3 : expression_ok T e ≡ false → answer T R call ≡ Err (refusal 3 e 0 0)
   unfolding form_check tables_check
   refused_3 t =
       let before = both_accepted (head_check T.features T.attributes) (lengths_check T) passed in
       form_refused T R call (then_refused _ (then_next before.0 ∙ then_next before.1 ∙ then_refused _ (check_3 t)))
 
   pub range_refused : (first count : ℕ) → IsKind6 T e first count → (count < 1) ⊎ (10 < count) ⊎ (T.features < first + count)
-      → answer T R call ≡ Verdict.Refused (refusal 3 e 0 0)
+      → answer T R call ≡ Err (refusal 3 e 0 0)
   range_refused first count K out = refused_3 (kind_6_fits K ∙ out_of_range T.features first count out)
 
   -- and a kind over 6
-  pub kind_refused : 7 ≤ get_or T.expressions (e * 3) 0 → answer T R call ≡ Verdict.Refused (refusal 3 e 0 0)
+  pub kind_refused : 7 ≤ get_or T.expressions (e * 3) 0 → answer T R call ≡ Err (refusal 3 e 0 0)
   kind_refused h =
       refused_3 (ap (expression_fits T.features e) (unknown_kind _ (word T.expressions 3 e 1) (word T.expressions 3 e 2) h))
 
@@ -175,7 +175,7 @@ module _ (T : Tables) (worked : T.truth ≡ holds T.expressions) (first count : 
 
   module _ (R : Reading) where
     -- so after a check that accepted, a row has those alone
-    pub model_rows : (rows rows' : List ℕ) → Checks T R rows Verdict.Accepted rows'
+    pub model_rows : (rows rows' : List ℕ) → Checks T R rows (Ok tt) rows'
         → (a c : ℕ) → a < 64 → c < 1024 → row_bit (row_in 16 rows' a) c ≡ true → OneOn first count c
     model_rows rows rows' checks a c h l e =
         let has = sym (row_shows T a c h l) ∙ ap (λ (r : List ℕ). row_bit (row_in 16 r a) c) (sym (left_rows T R rows rows' checks)) ∙ e in

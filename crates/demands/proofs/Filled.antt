@@ -2,6 +2,7 @@
 -- `FilledDemanded` (crate filled, specs/FilledDemands) has the wish's sentences one by one, of the verdicts; `-named` has of each answer what a refusal for a
 -- typing fault names. First fault first, that a refused call changes nothing, and that what a call accepts passes, configured in its reading, with the
 -- columns shown, and is written so, stand in Demands, Finding and WallPage for either reading.
+use Rattle.std.specs.Prelude.{Ok}
 use Prim.Native.Nat.{ℕ}
 use mathlib.Core.Path.{◌≡◌, sym, ap, ◌∙◌}
 use mathlib.Core.Bool.{true}
@@ -12,11 +13,10 @@ use Rattle.report.specs.Tables.{Tables}
 use Rattle.report.specs.Rules.{ruled_rows}
 use Rattle.report.specs.Configuring.{written}
 use Rattle.report.specs.Checks.{typing_check, is_of_typing}
-use Rattle.report.specs.Verdicts.{after}
+use Rattle.report.specs.Verdicts.{Verdict, after}
 use Rattle.report.specs.Calls.{answer, Sound, checking, configuring}
 use Rattle.report.specs.declared.Reading.{Reading}
 use Rattle.report.specs.declared.Refusal.{Refusal}
-use Rattle.report.specs.declared.Verdict.{Verdict}
 use Rattle.report.proofs.CallLaws.{sound_formed}
 use Rattle.report.proofs.Refusing.{check_gets, check_typing, configure_gets, checking_own, configuring_own}
 use Rattle.filled.specs.FilledDemands.{FilledNamed, FilledDemanded}
@@ -44,7 +44,7 @@ module _ (T : Tables) (sound : Sound T) where
     typed = checks.0 ∙ ap (λ (n : ℕ). answer T R (checking n)) full ∙ check_typing T R sound
 
     -- the rules accept where some sets keep them
-    pub check_accepts_by : (r ≡ Verdict.Accepted) ↔ ((S : ℕ → ℕ → ℕ) × RulesBy T S R)
+    pub check_accepts_by : (r ≡ Ok tt) ↔ ((S : ℕ → ℕ → ℕ) × RulesBy T S R)
     check_accepts_by = let a = accepts_by (sound_formed T sound) R in (λ e. a.0 (sym typed ∙ e), λ p. typed ∙ a.1 p)
 
     -- the rows of any such sets are those written
@@ -59,7 +59,7 @@ module _ (T : Tables) (sound : Sound T) where
     check_filled = rw (s.0, f.0) (whole_filled T (checking_own (length rows)) ((check_gets T sound (length rows)).1 full))
 
     -- "What the strict reading accepts, this one accepts with equal rows"
-    pub check_equal_rows : strict ≡ Verdict.Accepted → (filled ≡ Verdict.Accepted) × (filled_rows ≡ strict_rows)
+    pub check_equal_rows : strict ≡ Ok tt → (filled ≡ Ok tt) × (filled_rows ≡ strict_rows)
     check_equal_rows e =
         let a = check_filled.strictly e in
         (a, left_rows T Reading.Filled rows filled_rows (rw a at f) ∙ sym (left_rows T Reading.Strict rows strict_rows (rw e at s)))
@@ -82,7 +82,7 @@ module _ (T : Tables) (sound : Sound T) where
       {entries relations comparisons queries entries' relations' comparisons' queries' : List ℕ}
       (s : Configures T Reading.Strict c new_entries new_relations new_comparisons new_queries strict entries relations comparisons queries)
       (f : Configures T Reading.Filled c new_entries new_relations new_comparisons new_queries filled entries' relations' comparisons' queries')
-      (e : answer T Reading.Strict (configuring c (length new_entries) (length new_relations) (length new_comparisons) (length new_queries)) ≡ Verdict.Accepted)
+      (e : answer T Reading.Strict (configuring c (length new_entries) (length new_relations) (length new_comparisons) (length new_queries)) ≡ Ok tt)
     where
       pub configure_equal : (filled ≡ strict) × (entries' ≡ entries) × (relations' ≡ relations) × (comparisons' ≡ comparisons) × (queries' ≡ queries)
       configure_equal =
@@ -107,7 +107,7 @@ module _ (T : Tables) (sound : Sound T) where
     find_named {r} f x e = find_filled.named x ((find_says T Reading.Filled wanted r f x).0 e)
 
     pub find_equal : {strict filled : FindAnswer} → Finds T Reading.Strict wanted strict → Finds T Reading.Filled wanted filled
-        → answer T Reading.Strict (finding wanted) ≡ Verdict.Accepted → filled ≡ strict
+        → answer T Reading.Strict (finding wanted) ≡ Ok tt → filled ≡ strict
     find_equal s f e =
         f ∙ ap (λ (v : Verdict). found_answer v (lowest_wanted T wanted)) (find_filled.strictly e ∙ sym e) ∙ sym s
 
@@ -120,7 +120,7 @@ module _ (T : Tables) (sound : Sound T) where
     page_named {r} {bytes} f x e = page_filled.named x ((page_says T Reading.Filled lent r bytes f x).0 e)
 
     pub page_equal : {strict filled : PageAnswer} {bytes bytes' : List ℕ} → PageWritten T Reading.Strict lent strict bytes
-        → PageWritten T Reading.Filled lent filled bytes' → answer T Reading.Strict (writing_page (length lent)) ≡ Verdict.Accepted
+        → PageWritten T Reading.Filled lent filled bytes' → answer T Reading.Strict (writing_page (length lent)) ≡ Ok tt
         → (filled ≡ strict) × (bytes' ≡ bytes)
     page_equal s f e =
         let same = page_filled.strictly e ∙ sym e in (

@@ -1,12 +1,12 @@
 -- Wish 1, of the call `find`: each theorem takes what its promise says (`Finds` in finding/specs/Finding), for every set of tables T, reading and wanted
 -- set. The terms are those of Demands, and those of specs/FoundConfiguration.
+use Rattle.std.specs.Prelude.{Option, Some, None, Ok, Err}
 use Prim.Native.Nat.{ℕ, ◌^◌, ◌≤◌, ◌<◌}
 use mathlib.Core.Path.{◌≡◌, refl, sym, ap, ap₂, ◌∙◌}
 use mathlib.Core.Bool.{Bool, true, false, ◌&&◌, and-eq-true_iff, false≢true}
 use mathlib.Core.List.{List}
 use mathlib.Core.Logic.{◌↔◌}
 use native.Mathlib.Omega.{arith}
-use Rattle.sets.specs.declared.Found.{Found}
 use Rattle.sets.specs.Bits.{bit, subset, has_from}
 use Rattle.sets.proofs.SearchLaws.{lowest_nothing, nothing_lowest, lowest_at, at_lowest}
 use Rattle.sets.proofs.BitLaws.{from_member}
@@ -17,13 +17,12 @@ use Rattle.report.specs.ColumnRows.{shown}
 use Rattle.report.specs.Rules.{Rules}
 use Rattle.report.specs.PlainAlgebra.{passes}
 use Rattle.report.specs.ConfiguredReport.{configured_report, configured_schema}
-use Rattle.report.specs.Verdicts.{refusal, refuse_if, ◌gives◌, Foremost}
+use Rattle.report.specs.Verdicts.{Verdict, refusal, refuse_if, ◌gives◌, Foremost}
 use Rattle.report.specs.Checks.{is_early, is_typing_fault}
 use Rattle.report.specs.Calls.{whole, conditions, answer, Sound, GetsAsFarAsTyping, OwnNumbers}
 use Rattle.report.specs.TypingFaults.{Broken, Named}
 use Rattle.report.specs.GivenDemands.{PassesThroughout}
 use Rattle.report.specs.declared.Refusal.{Refusal}
-use Rattle.report.specs.declared.Verdict.{Verdict}
 use Rattle.report.specs.declared.Reading.{Reading}
 use Rattle.report.proofs.VerdictLaws.{accepted_not_refused, then_next}
 use Rattle.report.proofs.FirstFault.{first_none, first_one}
@@ -58,7 +57,7 @@ module _ (T : Tables) (wanted : ℕ) {set : ℕ → ℕ} (same : (c : ℕ) → p
       go true e = let p = has_parts c e in absurd (n p.0 p.1)
       go false e = refl
 
-  wanted_at : (c : ℕ) → (lowest_wanted T wanted ≡ Found.At c) ↔ LowestWith T set wanted c
+  wanted_at : (c : ℕ) → (lowest_wanted T wanted ≡ Some c) ↔ LowestWith T set wanted c
   unfolding lowest_wanted
   wanted_at c = (
     λ e.
@@ -70,7 +69,7 @@ module _ (T : Tables) (wanted : ℕ) {set : ℕ → ℕ} (same : (c : ℕ) → p
         (record { below = permitted_within T c f.permits; holds = parts_has c f.permits f.holds; before = λ d l. lacks d (f.lower d l) }),
   )
 
-  wanted_nowhere : (lowest_wanted T wanted ≡ Found.Nothing) ↔ NoneWith T set wanted
+  wanted_nowhere : (lowest_wanted T wanted ≡ None) ↔ NoneWith T set wanted
   unfolding lowest_wanted
   wanted_nowhere = (
     λ e d q h. false≢true (sym (lowest_nothing (has_wanted T wanted) (configurations T) e d (permitted_within T d q)) ∙ parts_has d q h),
@@ -79,20 +78,20 @@ module _ (T : Tables) (wanted : ℕ) {set : ℕ → ℕ} (same : (c : ℕ) → p
 
 -- ---- the answer's parts
 
-at_parts : {c : ℕ} (v : Verdict) (f : Found) → FindAnswer.At c ≡ found_answer v f → (v ≡ Verdict.Accepted) × (f ≡ Found.At c)
-at_parts Verdict.Accepted (Found.At d) e = (refl, cc)
-at_parts Verdict.Accepted Found.Nothing e = absurd (let z : ◌≡◌ {A = ℕ} 0 1 = cc in omega arith)
-at_parts (Verdict.Refused r) f e = absurd (let z : ◌≡◌ {A = ℕ} 0 1 = cc in omega arith)
+at_parts : {c : ℕ} (v : Verdict) (f : Option ℕ) → FindAnswer.At c ≡ found_answer v f → (v ≡ Ok tt) × (f ≡ Some c)
+at_parts (Ok tt) (Some d) e = (refl, cc)
+at_parts (Ok tt) None e = absurd (let z : ◌≡◌ {A = ℕ} 0 1 = cc in omega arith)
+at_parts (Err r) f e = absurd (let z : ◌≡◌ {A = ℕ} 0 1 = cc in omega arith)
 
-none_parts : (v : Verdict) (f : Found) → FindAnswer.None ≡ found_answer v f → (v ≡ Verdict.Accepted) × (f ≡ Found.Nothing)
-none_parts Verdict.Accepted (Found.At d) e = absurd (let z : ◌≡◌ {A = ℕ} 0 1 = cc in omega arith)
-none_parts Verdict.Accepted Found.Nothing e = (refl, refl)
-none_parts (Verdict.Refused r) f e = absurd (let z : ◌≡◌ {A = ℕ} 0 1 = cc in omega arith)
+none_parts : (v : Verdict) (f : Option ℕ) → FindAnswer.None ≡ found_answer v f → (v ≡ Ok tt) × (f ≡ None)
+none_parts (Ok tt) (Some d) e = absurd (let z : ◌≡◌ {A = ℕ} 0 1 = cc in omega arith)
+none_parts (Ok tt) None e = (refl, refl)
+none_parts (Err r) f e = absurd (let z : ◌≡◌ {A = ℕ} 0 1 = cc in omega arith)
 
-refused_part : {x : Refusal} (v : Verdict) (f : Found) → FindAnswer.Refused x ≡ found_answer v f → v ≡ Verdict.Refused x
-refused_part Verdict.Accepted (Found.At d) e = absurd (let z : ◌≡◌ {A = ℕ} 0 1 = cc in omega arith)
-refused_part Verdict.Accepted Found.Nothing e = absurd (let z : ◌≡◌ {A = ℕ} 0 1 = cc in omega arith)
-refused_part (Verdict.Refused r) f e = cc
+refused_part : {x : Refusal} (v : Verdict) (f : Option ℕ) → FindAnswer.Refused x ≡ found_answer v f → v ≡ Err x
+refused_part (Ok tt) (Some d) e = absurd (let z : ◌≡◌ {A = ℕ} 0 1 = cc in omega arith)
+refused_part (Ok tt) None e = absurd (let z : ◌≡◌ {A = ℕ} 0 1 = cc in omega arith)
+refused_part (Err r) f e = cc
 
 module _ (T : Tables) (R : Reading) (wanted : ℕ) (r : FindAnswer) (finds : Finds T R wanted r) where
   abbrev verdict : Verdict
@@ -101,15 +100,15 @@ module _ (T : Tables) (R : Reading) (wanted : ℕ) (r : FindAnswer) (finds : Fin
   told_by : {v : Verdict} → verdict ≡ v → r ≡ found_answer v (lowest_wanted T wanted)
   told_by e = finds ∙ ap (λ (v : Verdict). found_answer v (lowest_wanted T wanted)) e
 
-  at_answer : {c : ℕ} → r ≡ FindAnswer.At c → (verdict ≡ Verdict.Accepted) × (lowest_wanted T wanted ≡ Found.At c)
+  at_answer : {c : ℕ} → r ≡ FindAnswer.At c → (verdict ≡ Ok tt) × (lowest_wanted T wanted ≡ Some c)
   at_answer e = at_parts verdict (lowest_wanted T wanted) (sym e ∙ finds)
 
-  none_answer : r ≡ FindAnswer.None → (verdict ≡ Verdict.Accepted) × (lowest_wanted T wanted ≡ Found.Nothing)
+  none_answer : r ≡ FindAnswer.None → (verdict ≡ Ok tt) × (lowest_wanted T wanted ≡ None)
   none_answer e = none_parts verdict (lowest_wanted T wanted) (sym e ∙ finds)
 
   -- ---- demand 1: it is refused exactly by the first of its conditions that hold
 
-  pub find_says : (x : Refusal) → (r ≡ FindAnswer.Refused x) ↔ (verdict ≡ Verdict.Refused x)
+  pub find_says : (x : Refusal) → (r ≡ FindAnswer.Refused x) ↔ (verdict ≡ Err x)
   find_says x = (λ e. refused_part verdict (lowest_wanted T wanted) (sym e ∙ finds), λ e. told_by e)
 
   pub find_foremost : (x : Refusal) → (r ≡ FindAnswer.Refused x) ↔ Foremost (conditions T R (finding wanted)) x
@@ -118,14 +117,14 @@ module _ (T : Tables) (R : Reading) (wanted : ℕ) (r : FindAnswer) (finds : Fin
   -- ---- "return the lowest permitted configuration whose set holds them all, or none when no permitted configuration has them"
 
   -- of sets that are the report's wherever the call accepts
-  module _ {set : ℕ → ℕ} (same : verdict ≡ Verdict.Accepted → (c : ℕ) → permitted T c ≡ true → set_of T c (report T) ≡ set c) where
+  module _ {set : ℕ → ℕ} (same : verdict ≡ Ok tt → (c : ℕ) → permitted T c ≡ true → set_of T c (report T) ≡ set c) where
     found_in : {c : ℕ} → r ≡ FindAnswer.At c → LowestWith T set wanted c
     found_in {c} e = let p = at_answer e in (wanted_at T wanted (same p.0) c).0 p.1
 
     none_in : r ≡ FindAnswer.None → NoneWith T set wanted
     none_in e = let p = none_answer e in (wanted_nowhere T wanted (same p.0)).0 p.1
 
-  configured_set : verdict ≡ Verdict.Accepted → (c : ℕ) → permitted T c ≡ true → set_of T c (report T) ≡ columns_at T R c
+  configured_set : verdict ≡ Ok tt → (c : ℕ) → permitted T c ≡ true → set_of T c (report T) ≡ columns_at T R c
   configured_set e c p = sym (called_columns T R (finding wanted) e c p)
 
   -- found: c is permitted, the configured report at c passes the plain rules and its columns hold every wanted attribute, and at no lower permitted
@@ -140,12 +139,12 @@ module _ (T : Tables) (R : Reading) (wanted : ℕ) (r : FindAnswer) (finds : Fin
 
   -- and unless it is refused, it answers so exactly then
   module _ (answered : (x : Refusal) → r ≡ FindAnswer.Refused x → ⊥) where
-    accepted : verdict ≡ Verdict.Accepted
+    accepted : verdict ≡ Ok tt
     accepted = go verdict refl
       where
-        go : (v : Verdict) → verdict ≡ v → v ≡ Verdict.Accepted
-        go Verdict.Accepted e = refl
-        go (Verdict.Refused x) e = absurd (answered x (told_by e))
+        go : (v : Verdict) → verdict ≡ v → v ≡ Ok tt
+        go (Ok tt) e = refl
+        go (Err x) e = absurd (answered x (told_by e))
 
     pub found_exactly : (c : ℕ) → (r ≡ FindAnswer.At c) ↔ LowestWith T (columns_at T R) wanted c
     found_exactly c = (λ e. (find_found e).1, λ l. finds ∙ ap₂ found_answer accepted ((wanted_at T wanted (configured_set accepted) c).1 l))
@@ -155,7 +154,7 @@ module _ (T : Tables) (R : Reading) (wanted : ℕ) (r : FindAnswer) (finds : Fin
 
   -- the same of any sets that keep the typing rules
   module _ (S : ℕ → ℕ → ℕ) (keep : (c : ℕ) → permitted T c ≡ true → Rules T c (S c)) where
-    ruled_set : verdict ≡ Verdict.Accepted → (c : ℕ) → permitted T c ≡ true → set_of T c (report T) ≡ S c (report T)
+    ruled_set : verdict ≡ Ok tt → (c : ℕ) → permitted T c ≡ true → set_of T c (report T) ≡ S c (report T)
     ruled_set e c p = let F = called_formed T R (finding wanted) e in sym (rules_sets F c p (S c) (keep c p) (report T) (reached-report F c p)).0
 
     pub find_ruled : {c : ℕ} → r ≡ FindAnswer.At c → LowestWith T (λ d. S d (report T)) wanted c
@@ -166,9 +165,9 @@ module _ (T : Tables) (R : Reading) (wanted : ℕ) (r : FindAnswer) (finds : Fin
 
   -- ---- after a check that accepted, and left these rows
 
-  module _ (rows rows' : List ℕ) (checks : Checks T R rows Verdict.Accepted rows') where
+  module _ (rows rows' : List ℕ) (checks : Checks T R rows (Ok tt) rows') where
     -- the configuration is read off them
-    shown-set : verdict ≡ Verdict.Accepted → (c : ℕ) → permitted T c ≡ true → set_of T c (report T) ≡ shown rows' c
+    shown-set : verdict ≡ Ok tt → (c : ℕ) → permitted T c ≡ true → set_of T c (report T) ≡ shown rows' c
     shown-set e c p = configured_set e c p ∙ (found_afterwards T R rows rows' checks c p).1
 
     pub find_shown : {c : ℕ} → r ≡ FindAnswer.At c → LowestWith T (shown rows') wanted c
@@ -192,7 +191,7 @@ module _ (T : Tables) (R : Reading) (wanted : ℕ) (r : FindAnswer) (finds : Fin
         )
       where
         go : {P : Type 0} → (has_from wanted T.attributes ≡ true → P) → (b : Bool) → has_from wanted T.attributes ≡ b
-            → refuse_if b (refusal 22 0 0 0) ≡ Verdict.Refused x → (x ≡ refusal 22 0 0 0) × P
+            → refuse_if b (refusal 22 0 0 0) ≡ Err x → (x ≡ refusal 22 0 0 0) × P
         go f true s e = (cc, f s)
         go f false s e = accepted_not_refused e refl
 
@@ -203,7 +202,7 @@ unfolding ◌gives◌
 finding_own wanted = record { early = λ T. refl; late = λ T. refl }
 
 pub find_early : (T : Tables) (R : Reading) (wanted : ℕ)
-    → ((r : Refusal) × (answer T R (finding wanted) ≡ Verdict.Refused r) × (is_early r.number ≡ true)) ↔ (Sound T → ⊥)
+    → ((r : Refusal) × (answer T R (finding wanted) ≡ Err r) × (is_early r.number ≡ true)) ↔ (Sound T → ⊥)
 find_early T R wanted = own_early T R (finding_own wanted) first_none
 
 module _ (T : Tables) (sound : Sound T) (wanted : ℕ) where
@@ -214,10 +213,10 @@ module _ (T : Tables) (sound : Sound T) (wanted : ℕ) where
   find_fault : (R : Reading) {r : FindAnswer} → Finds T R wanted r → is_find_fault r ≡ is_typing_fault (answer T R (finding wanted))
   find_fault R finds = ap is_find_fault finds ∙ go (answer T R (finding wanted)) (lowest_wanted T wanted)
     where
-      go : (v : Verdict) (f : Found) → is_find_fault (found_answer v f) ≡ is_typing_fault v
-      go Verdict.Accepted (Found.At c) = refl
-      go Verdict.Accepted Found.Nothing = refl
-      go (Verdict.Refused x) f = refl
+      go : (v : Verdict) (f : Option ℕ) → is_find_fault (found_answer v f) ≡ is_typing_fault v
+      go (Ok tt) (Some c) = refl
+      go (Ok tt) None = refl
+      go (Err x) f = refl
 
   -- in the strict reading
   module _ (r : FindAnswer) (finds : Finds T Reading.Strict wanted r) where

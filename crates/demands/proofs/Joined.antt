@@ -1,5 +1,6 @@
 -- Wish 2, of the calls `check`, `configure` and `find`: an attribute that is in a list more than once. Each theorem takes what their promises say, as
 -- those of Demands do, for every set of tables T. Of a list, `Entry` (crate report, proofs/RulesMembers) is an entry that holds and has the attribute.
+use Rattle.std.specs.Prelude.{Ok, Err}
 use Prim.Native.Nat.{ℕ, ◌+◌, ◌*◌, ◌<◌, ◌≤◌}
 use mathlib.Core.Path.{◌≡◌, refl, sym, ap, ap₂, ◌∙◌}
 use mathlib.Core.Bool.{true, ◌&&◌, and-eq-true_iff}
@@ -19,13 +20,12 @@ use Rattle.report.specs.Typing.{at, reached, entry_holds, present, set_of}
 use Rattle.report.specs.ColumnRows.{column_rows, shown}
 use Rattle.report.specs.Rules.{Rules}
 use Rattle.report.specs.Configuring.{configured}
-use Rattle.report.specs.Verdicts.{refusal, refuse_if, after}
+use Rattle.report.specs.Verdicts.{Verdict, refusal, refuse_if, after}
 use Rattle.report.specs.FormChecks.{relation_ok, query_ok}
 use Rattle.report.specs.Formed.{Free}
 use Rattle.report.specs.Checks.{absent_everywhere, apart_everywhere, relation_check}
 use Rattle.report.specs.Calls.{Call, answer, checking, configuring}
 use Rattle.report.specs.Repeats.{NoRepeats, answer_before, configured_before}
-use Rattle.report.specs.declared.Verdict.{Verdict}
 use Rattle.report.specs.declared.Query.{Query}
 use Rattle.report.specs.declared.Reading.{Reading}
 use Rattle.report.proofs.VerdictLaws.{both_accepted, at_accepted, first_accepted}
@@ -57,8 +57,8 @@ module _ (T : Tables) (c : ℕ) (S : ℕ → ℕ) (keeps : Rules T c S) (q : ℕ
   pub project_has : (n b : ℕ) → query T.queries q ≡ Query.Project n b → (a : ℕ) → (bit (S q) a ≡ true) ↔ Entry T c (project_start T q) n a
   project_has n b form a = rw (rw form at (keeps q there)).1 (joined_members T c (project_start T q) n a)
 
-module _ (T : Tables) (rows rows' : List ℕ) (checks : Checks T Reading.Strict rows Verdict.Accepted rows') where
-  accepts : answer T Reading.Strict (checking (length rows)) ≡ Verdict.Accepted
+module _ (T : Tables) (rows rows' : List ℕ) (checks : Checks T Reading.Strict rows (Ok tt) rows') where
+  accepts : answer T Reading.Strict (checking (length rows)) ≡ Ok tt
   accepts = sym checks.0
 
   -- so the rows that an accepting check leaves show it: of a report that is a relation, or a project form
@@ -145,8 +145,8 @@ module _ (T : Tables) (c : ℕ) (new_entries new_relations new_comparisons new_q
       go : (v : Verdict) → answer T Reading.Strict call ≡ v
           → Leaves v (configured T c Reading.Strict) new_entries new_relations new_comparisons new_queries r new_entries' new_relations' new_comparisons' new_queries'
           → Leaves v (configured_before T c) new_entries new_relations new_comparisons new_queries r new_entries' new_relations' new_comparisons' new_queries'
-      go Verdict.Accepted e l = rw (← written_before (called_formed T Reading.Strict call e) once c) l
-      go (Verdict.Refused x) e l =
+      go (Ok tt) e l = rw (← written_before (called_formed T Reading.Strict call e) once c) l
+      go (Err x) e l =
           record { answers = l.answers; entries = l.entries; relations = l.relations; comparisons = l.comparisons; queries = l.queries }
 
 pub check_before : (T : Tables) → NoRepeats T → (rows rows' : List ℕ) (r : Verdict) → Checks T Reading.Strict rows r rows'

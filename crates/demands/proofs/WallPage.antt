@@ -1,5 +1,6 @@
 -- Wish 3, of the call `write_page`: each theorem takes what its promise says (`PageWritten` in wall_page/specs/Page), for every set of tables T, reading and
 -- bytes lent. The terms are those of Demands, and those of specs/PageLines.
+use Rattle.std.specs.Prelude.{Ok, Err}
 use Prim.Native.Nat.{ℕ, ◌+◌, ◌*◌, ◌≤◌, ◌<◌}
 use mathlib.Core.Path.{◌≡◌, refl, sym, ap, ap₂, ◌∙◌}
 use mathlib.Core.Bool.{Bool, true, false}
@@ -24,14 +25,13 @@ use Rattle.report.specs.Rules.{Rules}
 use Rattle.report.specs.PlainAlgebra.{passes}
 use Rattle.report.specs.ConfiguredReport.{configured_report, configured_schema}
 use Rattle.report.specs.Configuring.{written}
-use Rattle.report.specs.Verdicts.{refusal, refuse_if, after, ◌gives◌, Foremost}
+use Rattle.report.specs.Verdicts.{Verdict, refusal, refuse_if, after, ◌gives◌, Foremost}
 use Rattle.report.specs.Checks.{is_early, is_typing_fault}
 use Rattle.report.specs.Calls.{Call, whole, conditions, answer, Sound, GetsAsFarAsTyping, OwnNumbers}
 use Rattle.report.specs.Formed.{Formed}
 use Rattle.report.specs.TypingFaults.{Broken, Named}
 use Rattle.report.specs.GivenDemands.{PassesThroughout}
 use Rattle.report.specs.declared.Refusal.{Refusal}
-use Rattle.report.specs.declared.Verdict.{Verdict}
 use Rattle.report.specs.declared.Reading.{Reading}
 use Rattle.report.proofs.VerdictLaws.{accepted_not_refused, if_accepted, then_next}
 use Rattle.report.proofs.FirstFault.{first_none, first_one}
@@ -78,13 +78,13 @@ line_shows c set h = record {
 
 -- ---- the answer's parts
 
-lines_part : {n : ℕ} (v : Verdict) (lines : ℕ) → PageAnswer.Lines n ≡ page_answer v lines → (v ≡ Verdict.Accepted) × (n ≡ lines)
-lines_part Verdict.Accepted lines e = (refl, cc)
-lines_part (Verdict.Refused x) lines e = absurd (let z : ◌≡◌ {A = ℕ} 0 1 = cc in omega arith)
+lines_part : {n : ℕ} (v : Verdict) (lines : ℕ) → PageAnswer.Lines n ≡ page_answer v lines → (v ≡ Ok tt) × (n ≡ lines)
+lines_part (Ok tt) lines e = (refl, cc)
+lines_part (Err x) lines e = absurd (let z : ◌≡◌ {A = ℕ} 0 1 = cc in omega arith)
 
-refused_part : {x : Refusal} (v : Verdict) (lines : ℕ) → PageAnswer.Refused x ≡ page_answer v lines → v ≡ Verdict.Refused x
-refused_part Verdict.Accepted lines e = absurd (let z : ◌≡◌ {A = ℕ} 0 1 = cc in omega arith)
-refused_part (Verdict.Refused x) lines e = cc
+refused_part : {x : Refusal} (v : Verdict) (lines : ℕ) → PageAnswer.Refused x ≡ page_answer v lines → v ≡ Err x
+refused_part (Ok tt) lines e = absurd (let z : ◌≡◌ {A = ℕ} 0 1 = cc in omega arith)
+refused_part (Err x) lines e = cc
 
 module _ (T : Tables) (R : Reading) (lent : List ℕ) (r : PageAnswer) (bytes : List ℕ) (writes : PageWritten T R lent r bytes) where
   abbrev call : Call
@@ -93,15 +93,15 @@ module _ (T : Tables) (R : Reading) (lent : List ℕ) (r : PageAnswer) (bytes : 
   told_by : {v : Verdict} → answer T R call ≡ v → r ≡ page_answer v (line_count T)
   told_by e = writes.answers ∙ ap (λ (v : Verdict). page_answer v (line_count T)) e
 
-  refused_answer : {x : Refusal} → r ≡ PageAnswer.Refused x → answer T R call ≡ Verdict.Refused x
+  refused_answer : {x : Refusal} → r ≡ PageAnswer.Refused x → answer T R call ≡ Err x
   refused_answer e = refused_part (answer T R call) (line_count T) (sym e ∙ writes.answers)
 
-  lines_answer : {n : ℕ} → r ≡ PageAnswer.Lines n → (answer T R call ≡ Verdict.Accepted) × (n ≡ line_count T)
+  lines_answer : {n : ℕ} → r ≡ PageAnswer.Lines n → (answer T R call ≡ Ok tt) × (n ≡ line_count T)
   lines_answer e = lines_part (answer T R call) (line_count T) (sym e ∙ writes.answers)
 
   -- ---- demand 1: it is refused exactly by the first of its conditions that hold, and a refused call changes no byte
 
-  pub page_says : (x : Refusal) → (r ≡ PageAnswer.Refused x) ↔ (answer T R call ≡ Verdict.Refused x)
+  pub page_says : (x : Refusal) → (r ≡ PageAnswer.Refused x) ↔ (answer T R call ≡ Err x)
   page_says x = (refused_answer, told_by)
 
   pub page_foremost : (x : Refusal) → (r ≡ PageAnswer.Refused x) ↔ Foremost (conditions T R call) x
@@ -117,7 +117,7 @@ module _ (T : Tables) (R : Reading) (lent : List ℕ) (r : PageAnswer) (bytes : 
   unfolding line_count
   page_lines e = (lines_answer e).1
 
-  module _ (accepted : answer T R call ≡ Verdict.Accepted) where
+  module _ (accepted : answer T R call ≡ Ok tt) where
     F : Formed T
     F = called_formed T R call accepted
 
@@ -163,7 +163,7 @@ module _ (T : Tables) (R : Reading) (lent : List ℕ) (r : PageAnswer) (bytes : 
     }
 
   -- of sets that are the report's wherever the call accepts
-  page_in : {set : ℕ → ℕ} → (answer T R call ≡ Verdict.Accepted → (c : ℕ) → permitted T c ≡ true → set_of T c (report T) ≡ set c) → {n : ℕ}
+  page_in : {set : ℕ → ℕ} → (answer T R call ≡ Ok tt → (c : ℕ) → permitted T c ≡ true → set_of T c (report T) ≡ set c) → {n : ℕ}
       → r ≡ PageAnswer.Lines n → PageShows T set lent n bytes
   page_in {set} same e =
       let p = lines_answer e in rw p.1 (shows p.0 (same p.0))
@@ -184,8 +184,8 @@ module _ (T : Tables) (R : Reading) (lent : List ℕ) (r : PageAnswer) (bytes : 
 
   -- ---- after a check that accepted, and left these rows
 
-  module _ (rows rows' : List ℕ) (checks : Checks T R rows Verdict.Accepted rows') where
-    shown-set : answer T R call ≡ Verdict.Accepted → (c : ℕ) → permitted T c ≡ true → set_of T c (report T) ≡ shown rows' c
+  module _ (rows rows' : List ℕ) (checks : Checks T R rows (Ok tt) rows') where
+    shown-set : answer T R call ≡ Ok tt → (c : ℕ) → permitted T c ≡ true → set_of T c (report T) ≡ shown rows' c
     shown-set a c p = sym (called_columns T R call a c p) ∙ (found_afterwards T R rows rows' checks c p).1
 
     -- "every mark agrees with its row bit": in the line of c, byte 5 + a is `o` exactly where row a has bit c, and `.` exactly where it has not
@@ -209,7 +209,7 @@ module _ (T : Tables) (R : Reading) (lent : List ℕ) (r : PageAnswer) (bytes : 
       λ q. told_by (page_late ∙ ap₂ refuse_if (lt-ltb (length lent) (73 * line_count T) q.1) (sym q.0)),
     )
       where
-        go : (b : Bool) → ltb (length lent) (73 * line_count T) ≡ b → refuse_if b (refusal 23 0 0 0) ≡ Verdict.Refused x
+        go : (b : Bool) → ltb (length lent) (73 * line_count T) ≡ b → refuse_if b (refusal 23 0 0 0) ≡ Err x
             → (x ≡ refusal 23 0 0 0) × (length lent < 73 * line_count T)
         go true s e = (cc, ltb-true (length lent) (73 * line_count T) s)
         go false s e = accepted_not_refused e refl
@@ -227,7 +227,7 @@ unfolding ◌gives◌
 page_own room = record { early = λ T. refl; late = λ T. refl }
 
 pub page_early : (T : Tables) (R : Reading) (room : ℕ)
-    → ((r : Refusal) × (answer T R (writing_page room) ≡ Verdict.Refused r) × (is_early r.number ≡ true)) ↔ (Sound T → ⊥)
+    → ((r : Refusal) × (answer T R (writing_page room) ≡ Err r) × (is_early r.number ≡ true)) ↔ (Sound T → ⊥)
 page_early T R room = own_early T R (page_own room) first_none
 
 module _ (T : Tables) (sound : Sound T) (lent : List ℕ) where
@@ -240,8 +240,8 @@ module _ (T : Tables) (sound : Sound T) (lent : List ℕ) where
   page_fault {R} writes = ap is_page_fault writes.answers ∙ go (answer T R (writing_page (length lent)))
     where
       go : (v : Verdict) → is_page_fault (page_answer v (line_count T)) ≡ is_typing_fault v
-      go Verdict.Accepted = refl
-      go (Verdict.Refused x) = refl
+      go (Ok tt) = refl
+      go (Err x) = refl
 
   -- in the strict reading
   module _ (r : PageAnswer) (bytes : List ℕ) (writes : PageWritten T Reading.Strict lent r bytes) where

@@ -1,11 +1,11 @@
 -- What is found of the tables that `configure` wrote.
-use Rattle.std.specs.Prelude.{ℕ, ◌*◌, ◌≡◌, List, [], ◌∷◌, length, take}
+use Rattle.std.specs.Prelude.{ℕ, ◌*◌, ◌≡◌, List, [], ◌∷◌, length, take, Ok}
 use Rattle.report.specs.Tables.{Tables}
 use Rattle.report.specs.Expressions.{tables_of}
 use Rattle.report.specs.ColumnRows.{shown}
 use Rattle.report.specs.Configuring.{configured}
 use Rattle.report.specs.WrittenTables.{WrittenAccepted}
-use Rattle.report.specs.declared.Verdict.{Verdict}
+use Rattle.report.specs.Verdicts.{Verdict}
 use Rattle.report.specs.declared.Reading.{Reading}
 use Rattle.checking.specs.Promises.{Checks}
 use Rattle.configuring.specs.declared.Configured.{Configured}
@@ -15,7 +15,7 @@ use Rattle.configuring.specs.Promises.{Leaves}
 pub record FoundWritten (T : Tables) (R : Reading) (c : ℕ) (rows' new_entries new_relations new_comparisons new_queries : List ℕ) (r : Configured)
     (new_entries' new_relations' new_comparisons' new_queries' : List ℕ) : Type 0 where
   -- it accepts: it answers how many forms tables 1 to 4 have, and each table lent begins with its words and is else unchanged
-  pub leaves : Leaves Verdict.Accepted (configured T c R) new_entries new_relations new_comparisons new_queries r
+  pub leaves : Leaves (Ok tt) (configured T c R) new_entries new_relations new_comparisons new_queries r
       new_entries' new_relations' new_comparisons' new_queries'
   -- so that many forms of each, read back, with the head, the one expression and the kind table that docs/FORMAT.md names, are the tables written
   pub read_back : (a b d e : ℕ) → r ≡ Configured.Written a b d e
@@ -26,4 +26,4 @@ pub record FoundWritten (T : Tables) (R : Reading) (c : ℕ) (rows' new_entries 
   pub accepted : WrittenAccepted T c R
   -- given to the checker, strictly, they are accepted, and the rows then show at their one configuration what the rows of T show at c
   pub shows : (lent lent' : List ℕ) (v : Verdict) → length lent ≡ 1024 → Checks (configured T c R) Reading.Strict lent v lent'
-      → (v ≡ Verdict.Accepted) × (shown lent' 0 ≡ shown rows' c)
+      → (v ≡ Ok tt) × (shown lent' 0 ≡ shown rows' c)

@@ -1,4 +1,5 @@
 -- Laws of checks 13 and 14: the loops over a list and over the relations, and that they answer as the definitions do.
+use Rattle.std.specs.Prelude.{Option, Some, None, Ok, Err}
 use Prim.Native.Nat.{ℕ, ◌+◌, ◌/◌, ◌<◌, ◌≤◌}
 use mathlib.Core.Path.{◌≡◌, refl, sym, ap, ap₂, ◌∙◌}
 use mathlib.Core.Bool.{Bool, true, false, not, not-not}
@@ -10,15 +11,13 @@ use native.Mathlib.Omega.{arith}
 use lib.ListN.{length}
 use Rattle.sets.specs.Rows.{row_of, row_in, row_intersect, row_is_empty}
 use Rattle.sets.specs.Search.{seek}
-use Rattle.sets.specs.declared.Found.{Found}
 use Rattle.sets.proofs.SearchLaws.{least_seek, nothing_seek, seek_least, seek_same}
 use Rattle.report.specs.Tables.{Tables, entry_attribute, entry_expression, relation_count, relation_expression, relation_length, relation_start}
 use Rattle.report.specs.Tables.{entries_of_relations}
 use Rattle.report.specs.Expressions.{permitted}
 use Rattle.report.specs.Typing.{at}
-use Rattle.report.specs.Verdicts.{refusal, refuse_if, refuse_at, or_else}
+use Rattle.report.specs.Verdicts.{Verdict, refusal, refuse_if, refuse_at, or_else}
 use Rattle.report.specs.Checks.{apart_everywhere, relation_check, schema_check}
-use Rattle.report.specs.declared.Verdict.{Verdict}
 use Rattle.report.specs.Formed.{Formed, EntriesFrom}
 use Rattle.report.specs.declared.Refusal.{Refusal}
 use Rattle.report.proofs.VerdictLaws.{then_next, then_refused, accepted_if, accepted_first, refused_first}
@@ -41,9 +40,9 @@ found_same : (r s : ℕ → Refusal) (test : ℕ → Bool) (n from : ℕ) → ((
     → refuse_at r (seek test n from) ≡ refuse_at s (seek test n from)
 found_same r s test n from e = go (seek test n from) refl
   where
-    go : (f : Found) → seek test n from ≡ f → refuse_at r f ≡ refuse_at s f
-    go Found.Nothing p = refl
-    go (Found.At k) p = let l = seek_least test n from k p in ap Verdict.Refused (e k l.within.0 l.within.1)
+    go : (f : Option ℕ) → seek test n from ≡ f → refuse_at r f ≡ refuse_at s f
+    go None p = refl
+    go (Some k) p = let l = seek_least test n from k p in ap Err (e k l.within.0 l.within.1)
 
 -- ---- the loop over a list
 
@@ -73,15 +72,15 @@ module _ (rows present entries : List ℕ) (from n : ℕ) where
     }
 
     pub listed_here : (r : ℕ) → not t ≡ true → {a : ℕ} → a ≡ entry_attribute entries (from + i)
-        → Verdict.Refused (refusal 14 r a 0) ≡ list_rule rows present entries r from n
+        → Err (refusal 14 r a 0) ≡ list_rule rows present entries r from n
     unfolding list_rule
     listed_here r f g =
-        ap (λ (a : ℕ). Verdict.Refused (refusal 14 r a 0)) g
+        ap (λ (a : ℕ). Err (refusal 14 r a 0)) g
         ∙ sym (ap (refuse_at (λ k. refusal 14 r (entry_attribute entries k) 0))
         (least_seek (apart_in rows present entries) n from (from + i)
         (record { within = omega arith; holds = sym is_apart ∙ f; before = S.each })))
 
-  pub listed_all : (r : ℕ) {i : ℕ} → Listed rows present entries from n i → n ≤ i → Verdict.Accepted ≡ list_rule rows present entries r from n
+  pub listed_all : (r : ℕ) {i : ℕ} → Listed rows present entries from n i → n ≤ i → (Ok tt) ≡ list_rule rows present entries r from n
   unfolding list_rule
   listed_all r S h =
       sym (ap (refuse_at (λ k. refusal 14 r (entry_attribute entries k) 0))
@@ -97,7 +96,7 @@ module _ (rows permits entries relations : List ℕ) (r start : ℕ) {x : ℕ} {
   first_rule : refuse_if (row_is_empty 16 (present_row rows permits relations r)) (refusal 13 r 0 0) ≡ refuse_if t (refusal 13 r 0 0)
   first_rule = ap (λ (b : Bool). refuse_if b (refusal 13 r 0 0)) (sym (e ∙ ap (row_is_empty 16) is_present))
 
-  pub relation_absent : t ≡ true → Verdict.Refused (refusal 13 r 0 0) ≡ relation_rule rows permits entries relations r start
+  pub relation_absent : t ≡ true → Err (refusal 13 r 0 0) ≡ relation_rule rows permits entries relations r start
   unfolding relation_rule
   relation_absent f = sym (then_refused _ (first_rule ∙ ap (λ (b : Bool). refuse_if b (refusal 13 r 0 0)) f))
 
@@ -164,7 +163,7 @@ module _ {T : Tables} (F : Formed T) {rows : List ℕ} (L : TruthFilled T rows) 
 pub record RelationsChecked (rows permits entries relations : List ℕ) (start r : ℕ) : Type 0 where
   pub most : r ≤ length relations / 2
   pub starts : start ≡ relation_start relations r
-  pub each : (j : ℕ) → j < r → relation_rule rows permits entries relations j (relation_start relations j) ≡ Verdict.Accepted
+  pub each : (j : ℕ) → j < r → relation_rule rows permits entries relations j (relation_start relations j) ≡ Ok tt
 
 module _ (rows permits entries relations : List ℕ) where
   abbrev rule : ℕ → Verdict
@@ -186,7 +185,7 @@ module _ (rows permits entries relations : List ℕ) where
       is_rule : v ≡ rule r
       is_rule = gave ∙ ap (relation_rule rows permits entries relations r) S.starts
 
-      pub related_more : v ≡ Verdict.Accepted → {n : ℕ} → n ≡ relation_length relations r
+      pub related_more : v ≡ Ok tt → {n : ℕ} → n ≡ relation_length relations r
           → RelationsChecked rows permits entries relations (start + n) (r + 1)
       related_more e p = record {
         most = omega arith;
@@ -194,14 +193,14 @@ module _ (rows permits entries relations : List ℕ) where
         each = λ j l. ⊎_elim (λ (s : j ≡ r). ap rule s ∙ sym is_rule ∙ e) (λ (m : j < r). S.each j m) (eq-or-lt_of_le (below_next l));
       }
 
-      pub related_here : {x : Refusal} → v ≡ Verdict.Refused x → (T : Tables) → SchemaReads T rows permits entries relations → v ≡ schema_check T
+      pub related_here : {x : Refusal} → v ≡ Err x → (T : Tables) → SchemaReads T rows permits entries relations → v ≡ schema_check T
       related_here {x} e T R =
           e ∙ sym (refused_first (relation_check T) (relation_count T) 0 r x (omega arith) (let b = rw R.relations_are at h in omega arith)
           (λ j l m. sym (rule_is R j (omega arith)) ∙ S.each j m) (sym (rule_is R r h) ∙ sym is_rule ∙ e))
 
   pub related_all : {start r : ℕ} → RelationsChecked rows permits entries relations start r → length relations / 2 ≤ r → (T : Tables)
       → SchemaReads T rows permits entries relations
-      → Verdict.Accepted ≡ schema_check T
+      → (Ok tt) ≡ schema_check T
   related_all {start} {r} S h T R =
       sym (accepted_first (relation_check T) (relation_count T) 0
       (λ j l m. let b : j < length relations / 2 = rw R.relations_are (omega arith) in sym (rule_is R j b) ∙ S.each j (omega arith)))

@@ -1,10 +1,10 @@
 -- Laws of a search through the permitted configurations of a scope.
+use Rattle.std.specs.Prelude.{Some, None}
 use Prim.Native.Nat.{ℕ, ◌-◌, ◌<◌, ◌≤◌}
 use mathlib.Core.Path.{◌≡◌, sym, ap, ◌∙◌}
 use mathlib.Core.Bool.{false}
 use mathlib.Core.List.{List}
 use native.Mathlib.Omega.{arith}
-use Rattle.sets.specs.declared.Found.{Found}
 use Rattle.sets.specs.Search.{seek}
 use Rattle.sets.specs.Rows.{row_lowest_from}
 use Rattle.sets.proofs.SearchLaws.{Least, seek_nothing, seek_least}
@@ -20,9 +20,9 @@ module _ {T : Tables} {scope : Scope} (S : ScopeOf T scope) (from : ℕ) {next :
   seeks = found ∙ ap (λ (r : List ℕ). row_lowest_from 16 r from) S.permitting ∙ from_row_of 16 (permitted T) from
 
   -- none is left
-  pub none_permitted : next ≡ Found.Nothing → (d : ℕ) → from ≤ d → d < 1024 → permitted T d ≡ false
+  pub none_permitted : next ≡ None → (d : ℕ) → from ≤ d → d < 1024 → permitted T d ≡ false
   none_permitted e d l h = seek_nothing (permitted T) (1024 - from) from (sym seeks ∙ e) d l (omega arith)
 
   -- c is the next
-  pub next_permitted : {c : ℕ} → next ≡ Found.At c → Least (permitted T) from (1024 - from) c
+  pub next_permitted : {c : ℕ} → next ≡ Some c → Least (permitted T) from (1024 - from) c
   next_permitted {c} e = seek_least (permitted T) (1024 - from) from c (sym seeks ∙ e)

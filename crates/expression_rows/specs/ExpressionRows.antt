@@ -1,5 +1,5 @@
 -- Expression rows: for each expression the configurations of n features at which it is true, as the tables' truth has it; and what checks 13 and 14 read.
-use Rattle.std.specs.Prelude.{ℕ, ◌*◌, ◌/◌, ◌<◌, ◌≤◌, ◌≡◌, Bool, List, length}
+use Rattle.std.specs.Prelude.{ℕ, ◌*◌, ◌/◌, ◌<◌, ◌≤◌, ◌≡◌, Bool, List, length, Ok}
 use Rattle.sets.specs.Lists.{concat}
 use Rattle.sets.specs.Rows.{row_of, row_in, within, RowsAre}
 use Rattle.report.specs.Tables.{Tables, expression_count, query_count, entries_of_relations, entries_of_projects}
@@ -7,7 +7,6 @@ use Rattle.report.specs.Expressions.{holds, permitted}
 use Rattle.report.specs.Typing.{reached}
 use Rattle.report.specs.FormChecks.{expressions_check}
 use Rattle.report.specs.Formed.{Formed}
-use Rattle.report.specs.declared.Verdict.{Verdict}
 
 -- the row of expression e, where there are n features and `truth` says at which configuration each expression holds
 abbrev pub expression_row : ℕ → (ℕ → ℕ → Bool) → ℕ → List ℕ
@@ -27,7 +26,7 @@ fresh_rows n expressions = rows_of_truth n (holds expressions) (length expressio
 -- table 0 passes its check, 3, and there is room for its rows
 pub record ExpressionsFillable (n : ℕ) (expressions expression_rows : List ℕ) : Type 0 where
   pub few : n ≤ 10
-  pub checked : expressions_check n expressions ≡ Verdict.Accepted
+  pub checked : expressions_check n expressions ≡ Ok tt
   pub room : length expressions / 3 * 16 ≤ length expression_rows
 
 -- `expression_rows` starts with the rows of `count` expressions, where there are n features and `truth` says at which configuration each of them holds

@@ -5,9 +5,8 @@ use Rattle.sets.specs.Bits.{bit}
 use Rattle.sets.specs.Rows.{row_of, row_in, row_join, row_intersect, row_minus, row_is_empty}
 use Rattle.report.specs.Tables.{entry_attribute, entry_expression, relation_expression, relation_length}
 use Rattle.report.specs.Expressions.{exactly_one_on}
-use Rattle.report.specs.Verdicts.{refusal, refuse_if, refuse_at, or_else}
+use Rattle.report.specs.Verdicts.{Verdict, refusal, refuse_if, refuse_at, or_else}
 use Rattle.report.specs.declared.Expression.{Expression}
-use Rattle.report.specs.declared.Verdict.{Verdict}
 
 -- the row of one expression, from `full`, which has the configurations of all features, and the rows of lower forms
 abbrev pub step_row : List ℕ → List ℕ → Expression → List ℕ

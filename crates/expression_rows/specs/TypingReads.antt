@@ -5,7 +5,7 @@ use Rattle.report.specs.Tables.{Tables, relation_count}
 use Rattle.report.specs.Expressions.{permitted}
 use Rattle.report.specs.ColumnRows.{column_rows}
 use Rattle.report.specs.Checks.{typing_check}
-use Rattle.report.specs.declared.Verdict.{Verdict}
+use Rattle.report.specs.Verdicts.{Verdict}
 use Rattle.report.specs.declared.Reading.{Reading}
 use Rattle.expression_rows.specs.ExpressionRows.{Prepared, ReachFilled}
 use Rattle.expression_rows.specs.declared.Scope.{Scope}

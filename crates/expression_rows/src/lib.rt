@@ -17,7 +17,7 @@ use decoders::{
 use feature_rows::exactly_one;
 use report::{Expression, Reading, Refusal, Verdict};
 use sets::Row;
-use verdicts::{refuse, refuse_if};
+use verdicts::refuse_if;
 
 // The row of an expression, from the rows of lower forms; `full` has the configurations of all features.
 fn expression_row(x: Expression, full: Row, expression_rows: &[u64]) -> Row
@@ -45,13 +45,10 @@ pub fn fill_expression_rows(n: usize, expressions: &[u16], expression_rows: &mut
     ensures { expression_rows.new ≡ written (fresh_rows n expressions.now) expression_rows.old }
 {
     let full = Row::full(n);
-    let count = expressions.len() / 3;
-    let mut f = 0;
-    while f < count {
+    for f in 0..expressions.len() / 3 {
         let x = decode_expression(expressions, f);
         let r = expression_row(x, full, &*expression_rows);
         r.store(&mut *expression_rows, f);
-        f += 1;
     }
 }
 
@@ -84,22 +81,20 @@ fn check_list(
     requires { ListRead expression_rows.now relation_entries.now start count }
     ensures { result ≡ list_rule expression_rows.now present.words relation_entries.now r start count }
 {
-    let mut i = 0;
-    while i < count {
+    for i in 0..count {
         let k = start + i;
         let x = entry_expression(relation_entries, k);
         if !present.meets(expression_rows, x) {
             let a = entry_attribute(relation_entries, k);
-            return Verdict::Refused(Refusal {
+            return Err(Refusal {
                 number: 14,
                 place: r as u64,
                 item: a as u64,
                 configuration: 0,
             });
         }
-        i += 1;
     }
-    Verdict::Accepted
+    Ok(())
 }
 
 // Checks 13 and 14 of relation r, whose list starts at `start`.
@@ -118,9 +113,7 @@ fn check_relation(
     let count = relation_length(relations, r);
     let own = Row::load(expression_rows, x);
     let present = permitted.intersect(own);
-    if present.is_empty() {
-        return refuse(13, r);
-    }
+    refuse_if(present.is_empty(), 13, r)?;
     check_list(present, r, start, count, expression_rows, relation_entries)
 }
 
@@ -135,23 +128,17 @@ pub fn check_schema(
     ensures { (T : Tables) → SchemaReads T expression_rows.now permitted.words relation_entries.now relations.now
         → result ≡ schema_check T }
 {
-    let count = relations.len() / 2;
     let mut start = 0;
-    let mut r = 0;
-    while r < count {
-        let v = check_relation(
+    for r in 0..relations.len() / 2 {
+        check_relation(
             permitted,
             r,
             start,
             expression_rows,
             relation_entries,
             relations,
-        );
-        if let Verdict::Refused(_) = v {
-            return v;
-        }
+        )?;
         start += relation_length(relations, r);
-        r += 1;
     }
-    Verdict::Accepted
+    Ok(())
 }

@@ -1,4 +1,5 @@
 -- What is not claimed of the filled reading, because it is false: a report for which each fails. And that what 15 and 17 ask can be had. By computation.
+use Rattle.std.specs.Prelude.{Err}
 use mathlib.Core.Path.{◌≡◌, refl}
 use mathlib.Core.Bool.{true, false}
 use Rattle.sets.specs.Bits.{subset}
@@ -10,7 +11,6 @@ use Rattle.report.specs.Verdicts.{refusal}
 use Rattle.report.specs.Calls.{answer, GetsAsFarAsTyping, checking}
 use Rattle.report.specs.Examples.{nested, swaps_where}
 use Rattle.report.specs.declared.Reading.{Reading}
-use Rattle.report.specs.declared.Verdict.{Verdict}
 use Rattle.report.proofs.ExamplesHold.{computed}
 use Rattle.report.proofs.Refusing.{checking_own}
 use Rattle.filled.specs.FilledDemands.{LowestAbsent, LowestMissing}
@@ -46,7 +46,7 @@ nested_gets : GetsAsFarAsTyping nested (checking 1024)
 unfolding treed
 nested_gets = refl
 
-nested_refused : answer nested Reading.Filled (checking 1024) ≡ Verdict.Refused (refusal 17 2 1 0)
+nested_refused : answer nested Reading.Filled (checking 1024) ≡ Err (refusal 17 2 1 0)
 unfolding treed
 nested_refused = refl
 
@@ -57,7 +57,7 @@ swaps_gets : GetsAsFarAsTyping (swaps_where 4) (checking 1024)
 unfolding treed
 swaps_gets = refl
 
-swaps_refused : answer (swaps_where 4) Reading.Filled (checking 1024) ≡ Verdict.Refused (refusal 15 0 0 2)
+swaps_refused : answer (swaps_where 4) Reading.Filled (checking 1024) ≡ Err (refusal 15 0 0 2)
 unfolding treed
 swaps_refused = refl
 

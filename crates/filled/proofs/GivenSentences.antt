@@ -1,4 +1,5 @@
 -- The sentences of docs/FORMAT.md, "Readings", of whatever a call is given (specs/FilledDemands).
+use Rattle.std.specs.Prelude.{Ok, Err}
 use Prim.Native.Nat.{ℕ, ◌^◌, ◌<◌}
 use mathlib.Core.Path.{◌≡◌, refl, sym, ap, ◌∙◌}
 use mathlib.Core.Bool.{Bool, true, false, cond, ◌&&◌, not, false≢true}
@@ -14,7 +15,7 @@ use Rattle.sets.proofs.SearchLaws.{at_lowest}
 use Rattle.report.specs.Tables.{Tables, query_count}
 use Rattle.report.specs.Typing.{reached, present}
 use Rattle.report.specs.Readings.{faults_by, fails_by}
-use Rattle.report.specs.Verdicts.{refusal}
+use Rattle.report.specs.Verdicts.{Verdict, refusal}
 use Rattle.report.specs.Checks.{rule_number, typing_check, is_of_typing, is_typing_fault}
 use Rattle.report.specs.Formed.{Formed}
 use Rattle.report.specs.Calls.{Call, Given, answer_to, GetsTo, whole, answer, GetsAsFarAsTyping, OwnNumbers}
@@ -23,7 +24,6 @@ use Rattle.report.specs.TypingFaults.{TypingFault}
 use Rattle.report.specs.declared.Query.{Query}
 use Rattle.report.specs.declared.Reading.{Reading}
 use Rattle.report.specs.declared.Refusal.{Refusal}
-use Rattle.report.specs.declared.Verdict.{Verdict}
 use Rattle.report.proofs.VerdictLaws.{both_accepted, accepted_both, then_refused}
 use Rattle.report.proofs.LeadLaws.{form_at}
 use Rattle.report.proofs.ReachLaws.{reached_in}
@@ -64,7 +64,7 @@ module _ (T : Tables) where
 
 -- ---- a refusal
 
-module _ {T : Tables} (F : Formed T) (r : Refusal) (e : typing_check T Reading.Filled ≡ Verdict.Refused r) where
+module _ {T : Tables} (F : Formed T) (r : Refusal) (e : typing_check T Reading.Filled ≡ Err r) where
   f : TypingFault T Reading.Filled r
   f = (typing_refused T Reading.Filled r).0 e
 
@@ -149,7 +149,7 @@ module _ {T : Tables} (F : Formed T) where
   -- a form that fails first at c, its lowest item at fault there being x
   refused_at : (c q x : ℕ) → q < query_count T → fails_by T Reading.Filled c 0 q ≡ true → First (bit (faults_by T Reading.Filled c 0 q)) 64 x
       → ((d : ℕ) → d < c → fails_by T Reading.Filled d 0 q ≡ false) → LowerFormsKeep T q
-      → typing_check T Reading.Filled ≡ Verdict.Refused (refusal (rule_number (form_at T q)) q x c)
+      → typing_check T Reading.Filled ≡ Err (refusal (rule_number (form_at T q)) q x c)
   refused_at c q x h failing item before lower =
       let s = faults_by T Reading.Filled c 0 q in
       let n = narrow_by F Reading.Filled c 0 q h in
@@ -171,7 +171,7 @@ module _ {T : Tables} (F : Formed T) where
   inside : (c q : ℕ) → reached T c q ≡ true → q < query_count T
   inside c q r = reached_in F c (reached-permitted T c q r) q r
 
-  pub absent_refused_lem : {c q a : ℕ} → LowestAbsent T c q a → LowerFormsKeep T q → typing_check T Reading.Filled ≡ Verdict.Refused (refusal 15 q a c)
+  pub absent_refused_lem : {c q a : ℕ} → LowestAbsent T c q a → LowerFormsKeep T q → typing_check T Reading.Filled ≡ Err (refusal 15 q a c)
   absent_refused_lem {c} {q} {a} L lower =
       let A = L.is in
       let failing = absent_fails T A in
@@ -181,12 +181,12 @@ module _ {T : Tables} (F : Formed T) where
       let first = trailing_first 64 s n z in
       let e = relation_item T c q a A.form (A.absent c A.reaches) _ first.holds in
       refused_at c q a (inside c q A.reaches) failing (rw (← e) first) (λ d l. none d (reached T d q) (L.lower d l)) lower
-      ∙ ap (λ (y : Query). Verdict.Refused (refusal (rule_number y) q a c)) A.form
+      ∙ ap (λ (y : Query). Err (refusal (rule_number y) q a c)) A.form
     where
       none : (d : ℕ) (t : Bool) → t ≡ false → (t && not (eqb (faults_by T Reading.Filled d 0 q) 0)) ≡ false
       none d t e = ap (λ (t : Bool). t && not (eqb (faults_by T Reading.Filled d 0 q) 0)) e
 
-  pub missing_refused_lem : {c q x : ℕ} → LowestMissing T c q x → LowerFormsKeep T q → typing_check T Reading.Filled ≡ Verdict.Refused (refusal 17 q x c)
+  pub missing_refused_lem : {c q x : ℕ} → LowestMissing T c q x → LowerFormsKeep T q → typing_check T Reading.Filled ≡ Err (refusal 17 q x c)
   missing_refused_lem {c} {q} {x} L lower =
       let M = L.is in
       let h = inside c q M.reaches in
@@ -198,7 +198,7 @@ module _ {T : Tables} (F : Formed T) where
       })
       (λ d l. none (fails_by T Reading.Filled d 0 q) refl (λ f. earlier d l ((fails_by_lem T Reading.Filled d 0 q).0 f)))
       lower
-      ∙ ap (λ (y : Query). Verdict.Refused (refusal (rule_number y) q x c)) M.form
+      ∙ ap (λ (y : Query). Err (refusal (rule_number y) q x c)) M.form
     where
       none : (t : Bool) {u : Bool} → u ≡ t → (u ≡ true → ⊥) → u ≡ false
       none true e f = absurd (f e)
@@ -226,15 +226,15 @@ module _ (G : Given) (forms : Forms G) {call : Call} (own : OwnNumbers call) (ge
   same_fault : is_typing_fault (answer_to G Reading.Filled call) ≡ is_typing_fault (typing_check T Reading.Filled)
   same_fault = given_fault G Reading.Filled own gets
 
-  refuses : {r : Refusal} → typing_check T Reading.Filled ≡ Verdict.Refused r → answer_to G Reading.Filled call ≡ Verdict.Refused r
+  refuses : {r : Refusal} → typing_check T Reading.Filled ≡ Err r → answer_to G Reading.Filled call ≡ Err r
   refuses e = given_answer G Reading.Filled call gets ∙ then_refused _ e
 
-  names : (r : Refusal) → answer_to G Reading.Filled call ≡ Verdict.Refused r → is_of_typing r.number ≡ true → FilledNamed T r
+  names : (r : Refusal) → answer_to G Reading.Filled call ≡ Err r → is_of_typing r.number ≡ true → FilledNamed T r
   names r e t = go (typing_check T Reading.Filled) refl
     where
       go : (v : Verdict) → typing_check T Reading.Filled ≡ v → FilledNamed T r
-      go Verdict.Accepted p = absurd (false≢true (sym (ap is_typing_fault p) ∙ sym same_fault ∙ ap is_typing_fault e ∙ t))
-      go (Verdict.Refused s) p = let same : s ≡ r = (let q = refuses p in cc) in refused_filled F r (p ∙ ap (λ (x : Refusal). Verdict.Refused x) same)
+      go (Ok tt) p = absurd (false≢true (sym (ap is_typing_fault p) ∙ sym same_fault ∙ ap is_typing_fault e ∙ t))
+      go (Err s) p = let same : s ≡ r = (let q = refuses p in cc) in refused_filled F r (p ∙ ap (λ (x : Refusal). Err x) same)
 
   failed : (c q : ℕ) → fails_by T Reading.Filled c 0 q ≡ true → is_typing_fault (answer_to G Reading.Filled call) ≡ true
   failed c q u = same_fault ∙ fails_refused F Reading.Filled c 0 q (omega arith) u

@@ -1,5 +1,6 @@
 -- Document 02, Wish 7, "Demand 2 holds by the reading's rules": the typing check accepts in a reading exactly where there are sets that keep its rules
 -- (specs/ReadRules), and the column rows are those of any such sets.
+use Rattle.std.specs.Prelude.{Ok}
 use Prim.Native.Nat.{ℕ, zero, suc, ◌^◌, ◌<◌}
 use mathlib.Core.Path.{◌≡◌, refl, sym, ap, ap₂, ◌∙◌, fun_ext}
 use mathlib.Core.Bool.{Bool, true, false, cond, ◌&&◌, ◌||◌, not, and-eq-true_iff, false≢true}
@@ -21,7 +22,6 @@ use Rattle.report.specs.ColumnRows.{has_column, column_rows}
 use Rattle.report.specs.Rules.{Rule, ruled_rows}
 use Rattle.report.specs.Formed.{Formed}
 use Rattle.report.specs.declared.Query.{Query}
-use Rattle.report.specs.declared.Verdict.{Verdict}
 use Rattle.report.proofs.ValueLaws.{strong}
 use Rattle.report.proofs.StepLaws.{set_in}
 use Rattle.report.proofs.SetLaws.{kept_sets}
@@ -102,13 +102,13 @@ same_rule T S c q (Query.Union a b) e k = k
 same_rule T S c q (Query.Intersection a b) e k = k
 
 module _ {T : Tables} (F : Formed T) where
-  no_faults : (R : Reading) → typing_check T R ≡ Verdict.Accepted → (c q phase : ℕ) → reached T c q ≡ true → phase < 2 → faults_by T R c phase q ≡ 0
+  no_faults : (R : Reading) → typing_check T R ≡ Ok tt → (c q phase : ℕ) → reached T c q ≡ true → phase < 2 → faults_by T R c phase q ≡ 0
   no_faults R e c q phase r n =
       let ok = reached-permitted T c q r in
       let f = (typing_accepted T R).0 e c q phase (permitted_within T c ok) (reached_in F c ok q r) n in
       eqb-true _ 0 (not-false _ (sym (ap (λ (t : Bool). t && not (eqb (faults_by T R c phase q) 0)) r) ∙ f))
 
-  filled_kept : typing_check T Reading.Filled ≡ Verdict.Accepted → (c q : ℕ) → reached T c q ≡ true → FilledRule T (set_of T) c q (form_at T q)
+  filled_kept : typing_check T Reading.Filled ≡ Ok tt → (c q : ℕ) → reached T c q ≡ true → FilledRule T (set_of T) c q (form_at T q)
   filled_kept e c q r = go (form_at T q) refl
     where
       ok : permitted T c ≡ true
@@ -239,7 +239,7 @@ module _ {T : Tables} (F : Formed T) where
         go phase n (Query.Union a b) i k f = other phase n (Query.Union a b) i refl k f
         go phase n (Query.Intersection a b) i k f = other phase n (Query.Intersection a b) i refl k f
 
-    filled_accepts : typing_check T Reading.Filled ≡ Verdict.Accepted
+    filled_accepts : typing_check T Reading.Filled ≡ Ok tt
     filled_accepts = (typing_accepted T Reading.Filled).1 (λ c q phase h l n. go c q phase n (fails_by T Reading.Filled c phase q) refl)
       where
         go : (c q phase : ℕ) → phase < 2 → (t : Bool) → fails_by T Reading.Filled c phase q ≡ t → t ≡ false
@@ -248,7 +248,7 @@ module _ {T : Tables} (F : Formed T) where
 
   -- ---- acceptance
 
-  pub accepts_by : (R : Reading) → (typing_check T R ≡ Verdict.Accepted) ↔ ((S : ℕ → ℕ → ℕ) × RulesBy T S R)
+  pub accepts_by : (R : Reading) → (typing_check T R ≡ Ok tt) ↔ ((S : ℕ → ℕ → ℕ) × RulesBy T S R)
   accepts_by Reading.Filled = (λ e. (set_of T, filled_kept e), λ p. filled_accepts p.0 p.1)
   accepts_by Reading.Strict = (
     λ e. (set_of T, λ c q r. let ok = reached-permitted T c q r in sets_rules F c ok (λ q phase. (typing_accepted T Reading.Strict).0 e c q phase (permitted_within T c ok)) q r),

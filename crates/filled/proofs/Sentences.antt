@@ -1,4 +1,5 @@
 -- What the filled reading accepts and refuses, set against the strict one and against the plain rules, of the typing check.
+use Rattle.std.specs.Prelude.{Ok, Err}
 use Prim.Native.Nat.{ℕ, zero, suc, ◌<◌}
 use mathlib.Core.Path.{◌≡◌, refl, sym, ap, ◌∙◌}
 use mathlib.Core.Bool.{Bool, true, false, cond, ◌&&◌}
@@ -19,7 +20,6 @@ use Rattle.report.specs.TypingFaults.{TypingFault}
 use Rattle.report.specs.declared.Query.{Query}
 use Rattle.report.specs.declared.Reading.{Reading}
 use Rattle.report.specs.declared.Refusal.{Refusal}
-use Rattle.report.specs.declared.Verdict.{Verdict}
 use Rattle.report.proofs.LeadLaws.{form_at}
 use Rattle.report.proofs.ReadingLaws.{asks, faults_fewer, fails_by_lem, fails_strictly, fails_none}
 use Rattle.report.proofs.TreeLaws.{reached-permitted}
@@ -29,13 +29,13 @@ use Rattle.report.proofs.Refusing.{report_breaks_lem}
 use Rattle.filled.specs.FilledDemands.{PlainBreaks}
 
 -- ---- "What the strict reading accepts, this one accepts with equal rows." The rows are one definition, `column_rows T`, in both readings
-pub strict_accepts : (T : Tables) (R : Reading) → typing_check T Reading.Strict ≡ Verdict.Accepted → typing_check T R ≡ Verdict.Accepted
+pub strict_accepts : (T : Tables) (R : Reading) → typing_check T Reading.Strict ≡ Ok tt → typing_check T R ≡ Ok tt
 strict_accepts T R e = (typing_accepted T R).1 (λ c q phase h l n. fails_none T R c phase q ((typing_accepted T Reading.Strict).0 e c q phase h l n))
 
 module _ {T : Tables} (F : Formed T) where
   -- ---- "the last sentence means the report configured strictly": no report that passes so at every permitted configuration is refused here
   pub never_refused : ((c : ℕ) → permitted T c ≡ true → passes (kind_of T) (configured_schema T c) (configured_report T c Reading.Strict) ≡ true)
-      → (R : Reading) → typing_check T R ≡ Verdict.Accepted
+      → (R : Reading) → typing_check T R ≡ Ok tt
   never_refused f R = strict_accepts T R ((typing_passes F).1 f)
 
   -- ---- "At a refusal's configuration a plain rule breaks: configured strictly for 15 and 17, else in this reading"; "the configuration named is still
@@ -77,7 +77,7 @@ module _ {T : Tables} (F : Formed T) where
       go false = refl
   own_breaks c (suc (suc phase)) q h e n = absurd (omega arith)
 
-  pub refusal_breaks : (r : Refusal) → typing_check T Reading.Filled ≡ Verdict.Refused r → PlainBreaks T r
+  pub refusal_breaks : (r : Refusal) → typing_check T Reading.Filled ≡ Err r → PlainBreaks T r
   unfolding faults
   refusal_breaks r e = record {
     permits = ok;

@@ -1,5 +1,5 @@
 -- docs/FORMAT.md, "Readings": what a call says that gets as far as typing and is told the filled reading, whatever it is given (report/specs/Calls).
-use Rattle.std.specs.Prelude.{ℕ, ◌<◌, ◌≡◌, true, false, ◌↔◌, [], ◌∷◌}
+use Rattle.std.specs.Prelude.{ℕ, ◌<◌, ◌≡◌, true, false, ◌↔◌, [], ◌∷◌, Ok, Err}
 use Rattle.sets.specs.Bits.{bit}
 use Rattle.report.specs.Tables.{Tables, kind_of, query}
 use Rattle.report.specs.Expressions.{configurations, permitted}
@@ -10,7 +10,7 @@ use Rattle.report.specs.PlainAlgebra.{columns, passes}
 use Rattle.report.specs.Rules.{ruled_rows}
 use Rattle.report.specs.Configuring.{configured}
 use Rattle.report.specs.ConfiguredReport.{configured_report, configured_schema}
-use Rattle.report.specs.Verdicts.{refusal}
+use Rattle.report.specs.Verdicts.{Verdict, refusal}
 use Rattle.report.specs.Checks.{is_one_of, is_of_typing, is_typing_fault}
 use Rattle.report.specs.Calls.{Call, Given, answer_to}
 use Rattle.report.specs.WrittenTables.{WrittenTyped}
@@ -18,7 +18,6 @@ use Rattle.report.specs.GivenDemands.{PassesThroughout}
 use Rattle.report.specs.declared.Query.{Query}
 use Rattle.report.specs.declared.Reading.{Reading}
 use Rattle.report.specs.declared.Refusal.{Refusal}
-use Rattle.report.specs.declared.Verdict.{Verdict}
 use Rattle.filled.specs.ReadRules.{RulesBy}
 
 -- ---- 15 and 17 in the wish's words
@@ -73,23 +72,23 @@ pub record FilledNamed (T : Tables) (r : Refusal) : Type 0 where
 
 pub record FilledDemanded (T : Tables) (strict filled : Verdict) : Type 0 where
   -- a refusal for a typing fault: 15 and 17 "only if"
-  pub named : (r : Refusal) → filled ≡ Verdict.Refused r → is_of_typing r.number ≡ true → FilledNamed T r
+  pub named : (r : Refusal) → filled ≡ Err r → is_of_typing r.number ≡ true → FilledNamed T r
   -- and "if": where no lower form fails, that refusal is given; where one does, there is one
-  pub absent_refused : (c q a : ℕ) → LowestAbsent T c q a → LowerFormsKeep T q → filled ≡ Verdict.Refused (refusal 15 q a c)
-  pub missing_refused : (c q x : ℕ) → LowestMissing T c q x → LowerFormsKeep T q → filled ≡ Verdict.Refused (refusal 17 q x c)
+  pub absent_refused : (c q a : ℕ) → LowestAbsent T c q a → LowerFormsKeep T q → filled ≡ Err (refusal 15 q a c)
+  pub missing_refused : (c q x : ℕ) → LowestMissing T c q x → LowerFormsKeep T q → filled ≡ Err (refusal 17 q x c)
   pub absent_fault : (c q a : ℕ) → AbsentThroughout T c q a → is_typing_fault filled ≡ true
   pub missing_fault : (c q x : ℕ) → MissingThroughout T c q x → is_typing_fault filled ≡ true
   -- demand 3's last sentence, of the report configured strictly
   pub never : PassesThroughout T → is_typing_fault filled ≡ false
   -- "What the strict reading accepts, this one accepts with equal rows": the rows are one definition, column_rows. And configuring writes the same
-  pub strictly : strict ≡ Verdict.Accepted → filled ≡ Verdict.Accepted
-  pub same : strict ≡ Verdict.Accepted → (c : ℕ) → configured T c Reading.Filled ≡ configured T c Reading.Strict
+  pub strictly : strict ≡ Ok tt → filled ≡ Ok tt
+  pub same : strict ≡ Ok tt → (c : ℕ) → configured T c Reading.Filled ≡ configured T c Reading.Strict
   -- "What this reading accepts, configured in it anywhere permitted, passes the strict rules with the columns shown": the tree, and the tables written
-  pub passing : filled ≡ Verdict.Accepted → (c : ℕ) → permitted T c ≡ true
+  pub passing : filled ≡ Ok tt → (c : ℕ) → permitted T c ≡ true
       → passes (kind_of T) (configured_schema T c) (configured_report T c Reading.Filled) ≡ true
-  pub showing : filled ≡ Verdict.Accepted → (c : ℕ) → permitted T c ≡ true
+  pub showing : filled ≡ Ok tt → (c : ℕ) → permitted T c ≡ true
       → columns (configured_schema T c) (configured_report T c Reading.Filled) ≡ shown (column_rows T) c
-  pub writing : filled ≡ Verdict.Accepted → (c : ℕ) → permitted T c ≡ true → WrittenTyped T c Reading.Filled
+  pub writing : filled ≡ Ok tt → (c : ℕ) → permitted T c ≡ true → WrittenTyped T c Reading.Filled
   -- "Demand 2 holds by the reading's rules"
   pub ruled : (is_typing_fault filled ≡ false) ↔ ((S : ℕ → ℕ → ℕ) × RulesBy T S Reading.Filled)
   pub rows : (S : ℕ → ℕ → ℕ) → RulesBy T S Reading.Filled → column_rows T ≡ ruled_rows T S

@@ -1,10 +1,10 @@
 -- How the parts of finding make its answer.
+use Rattle.std.specs.Prelude.{Ok, Err}
 use Prim.Native.Nat.{ℕ, ◌<◌}
 use mathlib.Core.Path.{◌≡◌, refl, sym, ap, ap₂, ◌∙◌}
 use mathlib.Core.Bool.{Bool, true, false, ◌&&◌}
 use mathlib.Core.List.{List}
 use lib.Pow.{pow_mono}
-use Rattle.sets.specs.declared.Found.{Found}
 use Rattle.sets.specs.Bits.{subset, has_from}
 use Rattle.sets.specs.Rows.{row_of}
 use Rattle.sets.proofs.SearchLaws.{lowest_same, lowest_narrow}
@@ -13,11 +13,10 @@ use Rattle.report.specs.Tables.{Tables, report}
 use Rattle.report.specs.Expressions.{configurations, permitted}
 use Rattle.report.specs.Typing.{set_of}
 use Rattle.report.specs.ColumnRows.{column_rows, shown}
-use Rattle.report.specs.Verdicts.{refusal, refuse_if, or_else, first_of}
+use Rattle.report.specs.Verdicts.{Verdict, refusal, refuse_if, or_else, first_of}
 use Rattle.report.specs.Formed.{Formed}
 use Rattle.report.specs.Calls.{answer}
 use Rattle.report.specs.declared.Refusal.{Refusal}
-use Rattle.report.specs.declared.Verdict.{Verdict}
 use Rattle.report.specs.declared.Reading.{Reading}
 use Rattle.report.proofs.FirstFault.{first_none, first_one}
 use Rattle.report.proofs.TypingLaws.{shown_columns}
@@ -60,12 +59,12 @@ module _ (T : Tables) (R : Reading) {wanted set : ℕ} (same : set ≡ wanted) {
   verdict = joined ∙ ap₂ or_else before is_late ∙ sym (call_parts T R (finding wanted) first_none)
 
   -- a check refuses
-  pub refused_answers : {r : Refusal} → v ≡ Verdict.Refused r → Finds T R wanted (FindAnswer.Refused r)
+  pub refused_answers : {r : Refusal} → v ≡ Err r → Finds T R wanted (FindAnswer.Refused r)
   refused_answers f = ap (λ (x : Verdict). found_answer x (lowest_wanted T wanted)) (sym f ∙ verdict)
 
   -- none does, and the search answers
-  pub found_answers : v ≡ Verdict.Accepted → {permits columns : List ℕ} → Columns T permits columns → {found : Found}
-      → found ≡ lowest_shown permits columns set → Finds T R wanted (found_answer Verdict.Accepted found)
+  pub found_answers : v ≡ Ok tt → {permits columns : List ℕ} → Columns T permits columns → {found : Found}
+      → found ≡ lowest_shown permits columns set → Finds T R wanted (found_answer (Ok tt) found)
   found_answers f C search =
       ap₂ found_answer (sym f ∙ verdict)
       (search ∙ ap₂ (λ (row rows : List ℕ). lowest_shown row rows set) C.permitting C.shows

@@ -1,9 +1,9 @@
 -- The wanted attributes, taken one after another: each cuts the row by its column row.
+use Rattle.std.specs.Prelude.{None}
 use Prim.Native.Nat.{ℕ, ◌^◌, ◌<◌}
 use mathlib.Core.Path.{◌≡◌, sym, ap, ◌∙◌}
 use mathlib.Core.Bool.{Bool, true, ◌&&◌, and-true, and_assoc, false≢true}
 use mathlib.Core.List.{List}
-use Rattle.sets.specs.declared.Found.{Found}
 use Rattle.sets.specs.Search.{lowest}
 use Rattle.sets.specs.Bits.{bit, difference, subset}
 use Rattle.sets.specs.Rows.{row_bit, row_in, row_intersect, row_lowest}
@@ -32,7 +32,7 @@ shows_one row columns x a below member c h =
     ∙ ap (◌&&◌ (row_bit row c)) (sym (subset_without x a member (shown columns c)))
 
 -- so where none is left, the lowest of the row is the lowest at which all are shown
-pub lowest-shown : (row columns having : List ℕ) (x rest : ℕ) → rest < 2 ^ 64 → lowest (bit rest) 64 ≡ Found.Nothing
+pub lowest-shown : (row columns having : List ℕ) (x rest : ℕ) → rest < 2 ^ 64 → lowest (bit rest) 64 ≡ None
     → ((c : ℕ) → c < 1024 → shows_wanted having columns rest c ≡ shows_wanted row columns x c) → row_lowest 16 having ≡ lowest_shown row columns x
 unfolding lowest_shown
 lowest-shown row columns having x rest narrow none same =

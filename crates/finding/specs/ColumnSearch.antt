@@ -1,6 +1,5 @@
 -- The search in column rows.
-use Rattle.std.specs.Prelude.{ℕ, Bool, ◌&&◌, List}
-use Rattle.sets.specs.declared.Found.{Found}
+use Rattle.std.specs.Prelude.{ℕ, Bool, ◌&&◌, List, Option}
 use Rattle.sets.specs.Search.{lowest}
 use Rattle.sets.specs.Bits.{subset}
 use Rattle.sets.specs.Rows.{row_bit}
@@ -11,5 +10,5 @@ abbrev pub shows_wanted : List ℕ → List ℕ → ℕ → ℕ → Bool
 shows_wanted row columns wanted c = row_bit row c && subset wanted (shown columns c)
 
 -- the lowest such configuration
-unfoldable pub lowest_shown : List ℕ → List ℕ → ℕ → Found
+unfoldable pub lowest_shown : List ℕ → List ℕ → ℕ → Option ℕ
 lowest_shown row columns wanted = lowest (shows_wanted row columns wanted) 1024

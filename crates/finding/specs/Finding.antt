@@ -1,15 +1,13 @@
 -- docs/FORMAT.md, "Finding a configuration": the lowest permitted configuration at which a report has wanted columns. Wanted attributes are a set of 64 bits.
-use Rattle.std.specs.Prelude.{ℕ, ◌≡◌, Bool, ◌&&◌, false, List, []}
-use Rattle.sets.specs.declared.Found.{Found}
+use Rattle.std.specs.Prelude.{ℕ, ◌≡◌, Bool, ◌&&◌, false, List, [], Option, Some, None, Ok, Err}
 use Rattle.sets.specs.Search.{lowest}
 use Rattle.sets.specs.Bits.{subset, has_from}
 use Rattle.report.specs.Tables.{Tables, report}
 use Rattle.report.specs.Expressions.{configurations, permitted}
 use Rattle.report.specs.Typing.{set_of}
-use Rattle.report.specs.Verdicts.{refusal, Condition, ◌gives◌}
+use Rattle.report.specs.Verdicts.{Verdict, refusal, Condition, ◌gives◌}
 use Rattle.report.specs.Checks.{is_typing_fault}
 use Rattle.report.specs.Calls.{Call, answer}
-use Rattle.report.specs.declared.Verdict.{Verdict}
 use Rattle.report.specs.declared.Reading.{Reading}
 use Rattle.finding.specs.declared.FindAnswer.{FindAnswer}
 
@@ -26,14 +24,14 @@ abbrev pub has_wanted : Tables → ℕ → ℕ → Bool
 has_wanted T wanted c = permitted T c && subset wanted (set_of T c (report T))
 
 -- the lowest such configuration, or none
-unfoldable pub lowest_wanted : Tables → ℕ → Found
+unfoldable pub lowest_wanted : Tables → ℕ → Option ℕ
 lowest_wanted T wanted = lowest (has_wanted T wanted) (configurations T)
 
 -- the answer: the configuration, none, or the refusal
-abbrev pub found_answer : Verdict → Found → FindAnswer
-found_answer Verdict.Accepted (Found.At c) = FindAnswer.At c
-found_answer Verdict.Accepted Found.Nothing = FindAnswer.None
-found_answer (Verdict.Refused r) found = FindAnswer.Refused r
+abbrev pub found_answer : Verdict → Option ℕ → FindAnswer
+found_answer (Ok tt) (Some c) = FindAnswer.At c
+found_answer (Ok tt) None = FindAnswer.None
+found_answer (Err r) found = FindAnswer.Refused r
 
 -- the promise of `find`
 abbrev pub Finds : Tables → Reading → ℕ → FindAnswer → Type 0
@@ -43,4 +41,4 @@ Finds T R wanted r = r ≡ found_answer (answer T R (finding wanted)) (lowest_wa
 abbrev pub is_find_fault : FindAnswer → Bool
 is_find_fault (FindAnswer.At c) = false
 is_find_fault FindAnswer.None = false
-is_find_fault (FindAnswer.Refused r) = is_typing_fault (Verdict.Refused r)
+is_find_fault (FindAnswer.Refused r) = is_typing_fault (Err r)

@@ -8,7 +8,7 @@ ghost use Rattle.finding.specs.ColumnSearch.{lowest_shown};
 
 use judging::{COLUMN_WORDS, check_into_columns};
 use report::{Head, Reading, Refusal, Verdict};
-use sets::{AttributeSet, Found, Row};
+use sets::{AttributeSet, Row};
 use verdicts::{or_else, refuse_if};
 
 // What finding answers: the configuration, none, or the refusal.
@@ -20,20 +20,17 @@ pub enum FindAnswer {
 }
 
 // The lowest configuration of the row at which the column rows show all wanted attributes.
-fn lowest_with(row: Row, columns: &[u64], wanted: AttributeSet) -> Found
+fn lowest_with(row: Row, columns: &[u64], wanted: AttributeSet) -> Option<usize>
     requires { length columns.now ≡ 1024 }
     ensures { result ≡ lowest_shown row.words columns.now wanted.bits }
 {
     let mut having = row;
     let mut rest = wanted;
-    loop {
-        let next = rest.lowest();
-        let Found::At(a) = next else {
-            return having.lowest();
-        };
+    while let Some(a) = rest.lowest() {
         having = having.intersect(Row::load(columns, a));
         rest = rest.minus(AttributeSet::single(a));
     }
+    having.lowest()
 }
 
 // The lowest permitted configuration at which the report of these tables, in the reading, has all wanted attributes: attribute a is wanted where bit a is 1.
@@ -69,12 +66,12 @@ pub fn find(
     // 22 comes after the checks of the report.
     let late = refuse_if(wanted.has_from(head.attributes), 22, 0);
     let verdict = or_else(checked, late);
-    if let Verdict::Refused(r) = verdict {
+    if let Err(r) = verdict {
         return FindAnswer::Refused(r);
     }
     let found = lowest_with(judged.permitted, &columns, wanted);
     match found {
-        Found::At(c) => FindAnswer::At(c),
-        Found::Nothing => FindAnswer::None,
+        Some(c) => FindAnswer::At(c),
+        None => FindAnswer::None,
     }
 }

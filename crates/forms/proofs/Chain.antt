@@ -1,4 +1,5 @@
 -- What the checks that accept leave for the next ones.
+use Rattle.std.specs.Prelude.{Ok, Err}
 use Prim.Native.Nat.{ℕ, zero, suc, ◌+◌, ◌*◌, ◌/◌, ◌≤◌, ◌<◌}
 use mathlib.Core.Path.{◌≡◌, sym, ap, ap₂, ◌∙◌}
 use mathlib.Core.Bool.{and-eq-true_iff}
@@ -9,12 +10,11 @@ use borrow.Author.Tests.{not-false}
 use lib.ListN.{length, get_or, drop}
 use lib.Dec.{ltb, lit<}
 use Rattle.report.specs.Tables.{Tables, shapes, shape_of, words, relation_expression, relation_start, projected_before}
-use Rattle.report.specs.Verdicts.{or_else}
+use Rattle.report.specs.Verdicts.{Verdict, or_else}
 use Rattle.report.specs.FormChecks.{length_check, lengths_check, relations_check, relation_fits}
 use Rattle.report.specs.FormChecks.{queries_check, untaken_check, left_entry_check}
 use Rattle.report.specs.Formed.{Sized}
 use Rattle.report.specs.declared.Refusal.{Refusal}
-use Rattle.report.specs.declared.Verdict.{Verdict}
 use Rattle.report.proofs.VerdictLaws.{then_next, then_refused, if_accepted, first_accepted}
 use Rattle.report.proofs.FormFacts.{list_inside}
 use Rattle.report.proofs.Formed.{sized, all_fit}
@@ -24,14 +24,14 @@ use Rattle.forms.specs.MarkedForms.{queries_rest, QueriesReady, ListsReady}
 use Rattle.forms.proofs.Queries.{rest_queries}
 
 -- a check that refuses ends the chain; after one that accepts, the rest answers
-pub stops : {v a : Verdict} {r : Refusal} (b : Verdict) → v ≡ a → v ≡ Verdict.Refused r → v ≡ or_else a b
+pub stops : {v a : Verdict} {r : Refusal} (b : Verdict) → v ≡ a → v ≡ Err r → v ≡ or_else a b
 stops b e f = f ∙ sym (then_refused b (sym e ∙ f))
 
-pub goes_on : {v a w b : Verdict} → v ≡ a → v ≡ Verdict.Accepted → w ≡ b → w ≡ or_else a b
+pub goes_on : {v a w b : Verdict} → v ≡ a → v ≡ Ok tt → w ≡ b → w ≡ or_else a b
 goes_on e f g = g ∙ sym (then_next (sym e ∙ f))
 
 -- check 6 leaves lists that end in table 1
-module _ (e : ℕ) (entries relations : List ℕ) (accepted : relations_check e entries relations ≡ Verdict.Accepted) where
+module _ (e : ℕ) (entries relations : List ℕ) (accepted : relations_check e entries relations ≡ Ok tt) where
   ends : (r : ℕ) → r ≤ length relations / 2 → relation_start relations r ≤ length entries / 2
   unfolding relations_check
   ends zero h = omega arith
@@ -68,7 +68,7 @@ module _ (e : ℕ) (entries relations : List ℕ) (accepted : relations_check e 
         (ap₂ (λ (s c : ℕ). left_entry_check (s + projected_before queries (length queries / 4)) c) f (rest_count entries split (split_in f)))
 
 -- check 2 leaves the limits
-pub lists_ready : (T : Tables) → lengths_check T ≡ Verdict.Accepted → ListsReady T.entries T.relations T.queries
+pub lists_ready : (T : Tables) → lengths_check T ≡ Ok tt → ListsReady T.entries T.relations T.queries
 lists_ready T lengths = record {
   few = (size 1 (lit< tt)).fits;
   most = (size 2 (lit< tt)).fits;

@@ -1,4 +1,5 @@
 -- The loop over the query forms: check 8, and what it leaves for checks 9 and 10.
+use Rattle.std.specs.Prelude.{Err}
 use Prim.Native.Nat.{ℕ, ◌+◌, ◌-◌, ◌*◌, ◌/◌, ◌≤◌, ◌<◌}
 use mathlib.Core.Path.{◌≡◌, refl, sym, ap, ap₂, ◌∙◌}
 use mathlib.Core.Bool.{Bool, true, false, ◌&&◌, ◌||◌, not}
@@ -13,11 +14,10 @@ use Rattle.sets.proofs.SearchLaws.{some_below_suc, lowest_same}
 use Rattle.report.specs.Tables.{query, project_length, projected_before}
 use Rattle.report.specs.Operands.{query_operands}
 use Rattle.report.specs.FormChecks.{is_operand, taken_below, free, list_fits, query_fits, queries_check, untaken_check, left_entry_check}
-use Rattle.report.specs.Verdicts.{refusal, refuse_at, or_else}
+use Rattle.report.specs.Verdicts.{Verdict, refusal, refuse_at, or_else}
 use Rattle.report.specs.Formed.{OperandsBelow}
 use Rattle.report.specs.declared.Query.{Query}
 use Rattle.report.specs.declared.Operands.{Operands}
-use Rattle.report.specs.declared.Verdict.{Verdict}
 use Rattle.report.proofs.VerdictLaws.{then_next, then_refused}
 use Rattle.report.proofs.EntryParts.{rest_count}
 use Rattle.table_checks.proofs.FormLoops.{FormsPassed, passed_none, passed_more, passed_first, passed_all}
@@ -48,7 +48,7 @@ module _ (n : Counts) (entries : List ℕ) (split : ℕ) (queries : List ℕ) (r
       form_is : t ≡ fits n entries 0 queries q (query queries q)
       form_is = test_is ∙ ap (fits n entries 0 queries q) e
 
-      pub walked_first : {v : Verdict} → not t ≡ true → v ≡ Verdict.Refused (refusal 8 q 0 0) → v ≡ queries_rest n entries split queries
+      pub walked_first : {v : Verdict} → not t ≡ true → v ≡ Err (refusal 8 q 0 0) → v ≡ queries_rest n entries split queries
       unfolding queries_check
       walked_first u v = v ∙ sym (then_refused _ (sym (passed_first _ _ s.passed h form_is u (λ j. refusal 8 j 0 0))))
 

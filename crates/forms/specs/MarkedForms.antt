@@ -4,8 +4,7 @@ use Rattle.sets.specs.Search.{lowest}
 use Rattle.report.specs.Tables.{relation_start, projected_before}
 use Rattle.report.specs.FormChecks.{expressions_check, model_form_check, entries_check, relations_check, comparisons_check}
 use Rattle.report.specs.FormChecks.{queries_check, untaken_check, left_entry_check}
-use Rattle.report.specs.Verdicts.{refusal, refuse_at, or_else}
-use Rattle.report.specs.declared.Verdict.{Verdict}
+use Rattle.report.specs.Verdicts.{Verdict, refusal, refuse_at, or_else}
 use Rattle.report.specs.declared.Operands.{Operands}
 use Rattle.forms.specs.declared.Counts.{Counts}
 

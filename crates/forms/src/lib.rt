@@ -19,7 +19,7 @@ use table_checks::{
     check_comparisons, check_entries, check_expressions, check_head, check_lengths,
     check_model_form,
 };
-use verdicts::{or_else, refuse, refuse_if};
+use verdicts::refuse_if;
 
 // A list that starts at `start` lies in the entries.
 fn list_fits(start: usize, count: usize, entries: &[u16]) -> bool
@@ -33,20 +33,15 @@ fn list_fits(start: usize, count: usize, entries: &[u16]) -> bool
 pub fn check_relations(e: usize, entries: &[u16], relations: &[u16]) -> Verdict
     ensures { result ≡ relations_check e entries.now relations.now }
 {
-    let count = relations.len() / 2;
     let mut start = 0;
-    let mut r = 0;
-    while r < count {
+    for r in 0..relations.len() / 2 {
         let x = relation_expression(relations, r);
         let length = relation_length(relations, r);
         let good = list_fits(start, length, entries);
-        if !((x < e) & good) {
-            return refuse(6, r);
-        }
+        refuse_if(!((x < e) & good), 6, r)?;
         start += length;
-        r += 1;
     }
-    Verdict::Accepted
+    Ok(())
 }
 
 // Where the lists of the relations end.
@@ -54,12 +49,9 @@ pub fn relations_end(relations: &[u16]) -> usize
     requires { length relations.now / 2 ≤ 32 }
     ensures { result ≡ relation_start relations.now (length relations.now / 2) }
 {
-    let count = relations.len() / 2;
     let mut end = 0;
-    let mut r = 0;
-    while r < count {
+    for r in 0..relations.len() / 2 {
         end += relation_length(relations, r);
-        r += 1;
     }
     end
 }
@@ -152,14 +144,10 @@ fn check_untaken(last: usize, marks: &[u8]) -> Verdict
     requires { last ≤ length marks.now }
     ensures { result ≡ untaken_by marks.now last }
 {
-    let mut q = 0;
-    while q < last {
-        if marks[q] != 1 {
-            return refuse(9, q);
-        }
-        q += 1;
+    for q in 0..last {
+        refuse_if(marks[q] != 1, 9, q)?;
     }
-    Verdict::Accepted
+    Ok(())
 }
 
 // Checks 9 and 10, by the marks of all forms: their lists end at `end`, and table 1 has `count` entries.
@@ -167,9 +155,8 @@ fn check_end(last: usize, end: usize, count: usize, marks: &[u8]) -> Verdict
     requires { last ≤ length marks.now }
     ensures { result ≡ or_else (untaken_by marks.now last) (left_entry_check end count) }
 {
-    let untaken = check_untaken(last, marks);
-    let left = refuse_if(end < count, 10, end);
-    or_else(untaken, left)
+    check_untaken(last, marks)?;
+    refuse_if(end < count, 10, end)
 }
 
 // Checks 8 to 10 with the project forms' entries, which are entries `split` and following of table 1.
@@ -185,15 +172,12 @@ pub fn check_queries(
     let mut marks: [u8; Limits::MOST_QUERIES] = [0; Limits::MOST_QUERIES];
     let count = queries.len() / 4;
     let mut end = 0;
-    let mut q = 0;
-    while q < count {
+    for q in 0..count {
         let x = decode_query(queries, q);
-        if !query_fits(counts, x, q, end, project_entries, &marks) {
-            return refuse(8, q);
-        }
+        let fits = query_fits(counts, x, q, end, project_entries, &marks);
+        refuse_if(!fits, 8, q)?;
         mark_operands(&mut marks, query_operands(x));
         end += project_length(x);
-        q += 1;
     }
     check_end(
         count - 1,
@@ -215,14 +199,8 @@ fn check_lists(
     requires { ListsReady entries.now relations.now queries.now }
     ensures { result ≡ lists_rest m e entries.now relations.now comparisons.now queries.now }
 {
-    let v = check_relations(e, entries, relations);
-    if let Verdict::Refused(_) = v {
-        return v;
-    }
-    let w = check_comparisons(m, e, comparisons);
-    if let Verdict::Refused(_) = w {
-        return w;
-    }
+    check_relations(e, entries, relations)?;
+    check_comparisons(m, e, comparisons)?;
     let split = relations_end(relations);
     let counts = Counts {
         expressions: e,
@@ -245,19 +223,10 @@ fn check_contents(
     ensures { result ≡ contents_rest head.features head.attributes head.model expressions.now entries.now relations.now comparisons.now
         queries.now }
 {
-    let v = check_expressions(head.features, expressions);
-    if let Verdict::Refused(_) = v {
-        return v;
-    }
+    check_expressions(head.features, expressions)?;
     let e = expressions.len() / 3;
-    let w = check_model_form(e, head.model);
-    if let Verdict::Refused(_) = w {
-        return w;
-    }
-    let x = check_entries(head.attributes, e, entries);
-    if let Verdict::Refused(_) = x {
-        return x;
-    }
+    check_model_form(e, head.model)?;
+    check_entries(head.attributes, e, entries)?;
     check_lists(head.attributes, e, entries, relations, comparisons, queries)
 }
 
@@ -274,14 +243,8 @@ fn check_tables(
         (tables_under head expressions.now entries.now relations.now comparisons.now queries.now
         []) }
 {
-    let v = check_head(head.features, head.attributes);
-    if let Verdict::Refused(_) = v {
-        return v;
-    }
-    let w = check_lengths(expressions, entries, relations, comparisons, queries);
-    if let Verdict::Refused(_) = w {
-        return w;
-    }
+    check_head(head.features, head.attributes)?;
+    check_lengths(expressions, entries, relations, comparisons, queries)?;
     check_contents(head, expressions, entries, relations, comparisons, queries)
 }
 
@@ -300,9 +263,6 @@ pub fn check_forms(
         (tables_under head expressions.now entries.now relations.now comparisons.now queries.now
         kinds.now) }
 {
-    let v = check_tables(head, expressions, entries, relations, comparisons, queries);
-    if let Verdict::Refused(_) = v {
-        return v;
-    }
+    check_tables(head, expressions, entries, relations, comparisons, queries)?;
     check_kinds(head.attributes, comparisons, kinds)
 }

@@ -4,7 +4,7 @@ use mathlib.Core.Path.{◌≡◌, refl, sym, ap, ◌∙◌}
 use mathlib.Core.List.{List}
 use Rattle.report.specs.Tables.{Tables}
 use Rattle.report.specs.declared.Reading.{Reading}
-use Rattle.report.specs.declared.Verdict.{Verdict}
+use Rattle.report.specs.Verdicts.{Verdict}
 use Rattle.checking.specs.Promises.{Checks}
 use Rattle.configuring.specs.Promises.{Configures}
 use Rattle.configuring.specs.declared.Configured.{Configured}

@@ -1,9 +1,9 @@
 -- How an answer becomes numbers for C, and what the four C functions promise.
-use Rattle.std.specs.Prelude.{ℕ, ◌≡◌, List, [], ◌∷◌, length}
+use Rattle.std.specs.Prelude.{ℕ, ◌≡◌, List, [], ◌∷◌, length, Ok, Err}
 use Rattle.report.specs.Tables.{Tables}
 use Rattle.report.specs.Configuring.{configured}
 use Rattle.report.specs.Calls.{answer, checking, configuring}
-use Rattle.report.specs.declared.Verdict.{Verdict}
+use Rattle.report.specs.Verdicts.{Verdict}
 use Rattle.report.specs.declared.Reading.{Reading}
 use Rattle.c_answers.specs.RefusalWords.{refusal_words}
 use Rattle.checking.specs.Promises.{Checks}
@@ -22,13 +22,13 @@ check_answer T R rows = answer T R (checking (length rows))
 
 -- the number that is returned
 abbrev pub answer_number : Verdict → ℕ
-answer_number Verdict.Accepted = 0
-answer_number (Verdict.Refused r) = 1
+answer_number (Ok tt) = 0
+answer_number (Err r) = 1
 
 -- the four lent words afterwards: those of a refusal, or unchanged
 abbrev pub answer_words : Verdict → List ℕ → List ℕ
-answer_words Verdict.Accepted lent = lent
-answer_words (Verdict.Refused r) lent = refusal_words r
+answer_words (Ok tt) lent = lent
+answer_words (Err r) lent = refusal_words r
 
 -- the promise of `gelvomas_check`, with these rows and four words lent: the number that is returned, and the words and the rows afterwards
 pub record CheckTold (T : Tables) (R : Reading) (lent words : List ℕ) (number : ℕ) (words' rows : List ℕ) : Type 0 where

@@ -49,7 +49,7 @@ pub extern "C" fn gelvomas_check(
         kinds,
         rows,
     );
-    if let Verdict::Refused(r) = v {
+    if let Err(r) = v {
         return tell_refusal(r, refusal);
     }
     0

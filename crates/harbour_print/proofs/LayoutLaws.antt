@@ -1,4 +1,5 @@
 -- What is printed in each layout.
+use Rattle.std.specs.Prelude.{Ok, Err}
 use Prim.Native.Nat.{ℕ, zero, suc}
 use mathlib.Core.Path.{◌≡◌, refl, sym, ap, ap₂, ◌∙◌}
 use mathlib.Core.Bool.{Bool, true, false, cond}
@@ -11,15 +12,15 @@ use Rattle.report.specs.Text.{bytes, line}
 use Rattle.report.specs.Calls.{answer, checking}
 use Rattle.report.specs.HarbourFile.{File, file_of}
 use Rattle.report.specs.Print.{at_line, print_answer, print_file, print}
-use Rattle.report.specs.declared.Verdict.{Verdict}
+use Rattle.report.specs.Verdicts.{Verdict}
 use Rattle.report.specs.declared.Reading.{Reading}
 use Rattle.printing.specs.Page.{page_line, page}
 use Rattle.harbour_print.specs.declared.Layout.{Layout}
 use Rattle.harbour_print.specs.Layouts.{answer_as, file_as, text_as, ShownAt, shown_sets, texts_of, AnswersAgree, Agree}
 
 answer_columns : (T : Tables) (v : Verdict) → answer_as Layout.Columns T v ≡ print_answer T v
-answer_columns T Verdict.Accepted = refl
-answer_columns T (Verdict.Refused r) = refl
+answer_columns T (Ok tt) = refl
+answer_columns T (Err r) = refl
 
 file_columns : (f : File) → file_as Layout.Columns f ≡ print_file f
 file_columns (File.unread n) = refl
@@ -58,13 +59,13 @@ module _ (T : Tables) where
   unfolding page
   page_texts = sym (texts_kept page_line (permitted T) (λ c. set_of T c (report T)) (configurations T))
 
-  pub columns_texts : print_answer T Verdict.Accepted ≡ line (bytes "accepted") [] ++ texts_of at_line (shown_sets T)
+  pub columns_texts : print_answer T (Ok tt) ≡ line (bytes "accepted") [] ++ texts_of at_line (shown_sets T)
   columns_texts =
       ap (λ (l : List ℕ). line (bytes "accepted") [] ++ l) (sym (texts_kept at_line (permitted T) (λ c. set_of T c (report T)) (configurations T)))
 
 answers_agree : (T : Tables) (v : Verdict) → AnswersAgree T v (answer_as Layout.Columns T v) (answer_as Layout.Page T v)
-answers_agree T Verdict.Accepted = (columns_texts T, page_texts T)
-answers_agree T (Verdict.Refused r) = (refl, refl)
+answers_agree T (Ok tt) = (columns_texts T, page_texts T)
+answers_agree T (Err r) = (refl, refl)
 
 files_agree : (f : File) → Agree f (file_as Layout.Columns f) (file_as Layout.Page f)
 files_agree (File.unread n) = (refl, refl)

@@ -1,4 +1,5 @@
 -- That what the calls write is the print of the answer.
+use Rattle.std.specs.Prelude.{Ok, Err}
 use Prim.Native.Nat.{ℕ, ◌*◌, ◌%◌, ◌^◌, ◌≤◌}
 use mathlib.Core.Path.{◌≡◌, refl, sym, ap, ◌∙◌}
 use mathlib.Core.List.{List}
@@ -8,12 +9,11 @@ use Rattle.sets.specs.Writing.{WrittenAt}
 use Rattle.sets.proofs.WritingLaws.{from_start}
 use Rattle.report.specs.Tables.{Tables}
 use Rattle.report.specs.Expressions.{configurations, tables_under}
-use Rattle.report.specs.Verdicts.{or_else}
+use Rattle.report.specs.Verdicts.{Verdict, or_else}
 use Rattle.report.specs.Calls.{answer, checking}
 use Rattle.report.specs.HarbourFile.{File, file_of}
 use Rattle.report.specs.declared.Head.{Head}
 use Rattle.report.specs.declared.Refusal.{Refusal}
-use Rattle.report.specs.declared.Verdict.{Verdict}
 use Rattle.report.specs.declared.Reading.{Reading}
 use Rattle.report.proofs.VerdictLaws.{or_else_accepted}
 use Rattle.report.proofs.FirstFault.{first_none, first_one}
@@ -102,11 +102,11 @@ module _ (layout : Layout) (T : Tables) {v : Verdict} (own : v ≡ report_check 
   answers : file_as layout (File.holds T) ≡ answer_as layout T v
   answers = ap (answer_as layout T) (checked T ∙ sym own)
 
-  pub refusal_printed : {f : Refusal} → v ≡ Verdict.Refused f → {out o : List ℕ} {r : ℕ} → Prints (refusal_line f) out o r
+  pub refusal_printed : {f : Refusal} → v ≡ Err f → {out o : List ℕ} {r : ℕ} → Prints (refusal_line f) out o r
       → Prints (file_as layout (File.holds T)) out o r
   refusal_printed {f} e = same_prints (answers ∙ ap (answer_as layout T) e ∙ refusal_print T f)
 
-  pub acceptance_printed : v ≡ Verdict.Accepted → {out o : List ℕ} {r : ℕ} → Prints (accepted_as layout T) out o r
+  pub acceptance_printed : v ≡ Ok tt → {out o : List ℕ} {r : ℕ} → Prints (accepted_as layout T) out o r
       → Prints (file_as layout (File.holds T)) out o r
   acceptance_printed e = same_prints (answers ∙ ap (answer_as layout T) e)
 

@@ -55,7 +55,7 @@ pub fn print_tables(
         &mut columns,
     );
     let checked = judged.verdict;
-    if let Verdict::Refused(r) = checked {
+    if let Err(r) = checked {
         return put_refused(out, 0, r);
     }
     print_columns(head.features, judged.permitted, layout, &columns, out)

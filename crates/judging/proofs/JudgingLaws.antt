@@ -1,4 +1,5 @@
 -- How the parts of judging make its answer, what each part leaves for the next, and what a caller has of tables that pass.
+use Rattle.std.specs.Prelude.{Ok, Err}
 use Prim.Native.Nat.{ℕ, ◌+◌, ◌-◌, ◌*◌, ◌/◌, ◌%◌, ◌^◌, ◌≤◌, max}
 use mathlib.Core.Path.{◌≡◌, refl, sym, ap, ◌∙◌}
 use mathlib.Core.Bool.{true, false}
@@ -13,14 +14,13 @@ use Rattle.report.specs.Tables.{Tables, expression_count, relation_count, query_
 use Rattle.report.specs.Expressions.{configurations, permitted}
 use Rattle.report.specs.ColumnRows.{column_rows}
 use Rattle.report.specs.Configuring.{written}
-use Rattle.report.specs.Verdicts.{refusal, refuse_if, or_else, first_of, after}
+use Rattle.report.specs.Verdicts.{Verdict, refusal, refuse_if, or_else, first_of, after}
 use Rattle.report.specs.FormChecks.{form_check}
 use Rattle.report.specs.Checks.{model_check, schema_check, typing_check, model_and_schema_check}
 use Rattle.report.specs.Calls.{Call, answer}
 use Rattle.report.specs.Formed.{Formed}
 use Rattle.report.specs.declared.Refusal.{Refusal}
 use Rattle.report.specs.declared.Head.{Head}
-use Rattle.report.specs.declared.Verdict.{Verdict}
 use Rattle.report.specs.declared.Reading.{Reading}
 use Rattle.report.proofs.Formed.{formed}
 use Rattle.report.proofs.FormedFacts.{counts}
@@ -46,17 +46,17 @@ pub answer_parts : (T : Tables) (R : Reading) (call : Call)
 answer_parts T R call = answer_run T R call ∙ simp or_else_assoc
 
 -- a call whose own conditions before 12 do not hold answers what 1 to 10, 24, 12 to 19 and 25 answer, and then what its own after typing do
-module _ (T : Tables) (R : Reading) (call : Call) (none : first_of (call.before_model T) ≡ Verdict.Accepted) where
+module _ (T : Tables) (R : Reading) (call : Call) (none : first_of (call.before_model T) ≡ Ok tt) where
   pub call_parts : answer T R call ≡ or_else (report_check T R) (first_of (call.after_typing T))
   call_parts =
       answer_parts T R call ∙ ap (λ (v : Verdict). or_else (form_check T) (or_else v (or_else (meaning_check T R) (first_of (call.after_typing T))))) none
       ∙ simp or_else_assoc
 
   module _ {v : Verdict} (checked : v ≡ report_check T R) where
-    pub call_refused : {r : Refusal} → v ≡ Verdict.Refused r → Verdict.Refused r ≡ answer T R call
+    pub call_refused : {r : Refusal} → v ≡ Err r → Err r ≡ answer T R call
     call_refused f = sym f ∙ stops _ checked f ∙ sym call_parts
 
-    pub call_late : v ≡ Verdict.Accepted → first_of (call.after_typing T) ≡ answer T R call
+    pub call_late : v ≡ Ok tt → first_of (call.after_typing T) ≡ answer T R call
     call_late f = goes_on checked f refl ∙ sym call_parts
 
 -- ---- 12 to 14
@@ -66,10 +66,10 @@ module _ {T : Tables} {expression_rows permits relation_entries relations : List
   own : v ≡ model_check T
   own = model ∙ model_check_lem R.formed R.permitting
 
-  pub model_refuses : {r : Refusal} → v ≡ Verdict.Refused r → v ≡ model_and_schema_check T
+  pub model_refuses : {r : Refusal} → v ≡ Err r → v ≡ model_and_schema_check T
   model_refuses f = stops (schema_check T) own f
 
-  pub schema_answers : v ≡ Verdict.Accepted → {w : Verdict} → w ≡ schema_check T → w ≡ model_and_schema_check T
+  pub schema_answers : v ≡ Ok tt → {w : Verdict} → w ≡ schema_check T → w ≡ model_and_schema_check T
   schema_answers f e = goes_on own f e
 
 -- ---- what the parts read
@@ -128,7 +128,7 @@ reach_room A R = let l = A.forms in let e = ap length (sym A.reads.prepared.quer
 
 module _ {T : Tables} (R : Reading) {v : Verdict} (early : v ≡ model_and_schema_check T) (lent_reach lent_columns : List ℕ) where
   -- 12 to 14 refuse
-  pub early_refuses : {r : Refusal} → v ≡ Verdict.Refused r → Judged T R v lent_reach lent_columns lent_reach lent_columns
+  pub early_refuses : {r : Refusal} → v ≡ Err r → Judged T R v lent_reach lent_columns lent_reach lent_columns
   early_refuses f = record {
     answers = stops (typing_check T R) early f;
     reaching = ap (λ (x : Verdict). after x (reach_rows T (length lent_reach)) lent_reach) (sym f ∙ early);
@@ -136,7 +136,7 @@ module _ {T : Tables} (R : Reading) {v : Verdict} (early : v ≡ model_and_schem
   }
 
   -- 15 to 19 and 25 answer
-  pub typing_answers : v ≡ Verdict.Accepted → {w : Verdict} {reach columns : List ℕ} → reach ≡ reach_rows T (length lent_reach) → Checked T R w columns
+  pub typing_answers : v ≡ Ok tt → {w : Verdict} {reach columns : List ℕ} → reach ≡ reach_rows T (length lent_reach) → Checked T R w columns
       → Judged T R w lent_reach lent_columns reach columns
   typing_answers f reaching C = record {
     answers = goes_on early f C.answers;
@@ -212,7 +212,7 @@ module _ (most : ℕ) {T : Tables} {R : Reading} {lent_columns : List ℕ} (A : 
 -- the form checks, and then these
 module _ {T : Tables} (R : Reading) {v : Verdict} (forms : v ≡ form_check T) {lent_columns : List ℕ} where
   -- a form check refuses
-  pub columns_refuse : {r : Refusal} → v ≡ Verdict.Refused r → {permits : List ℕ} → permits ≡ row_of 16 (λ c. false)
+  pub columns_refuse : {r : Refusal} → v ≡ Err r → {permits : List ℕ} → permits ≡ row_of 16 (λ c. false)
       → ColumnsChecked T R v permits lent_columns lent_columns
   columns_refuse {r} f none = record {
     answers = stops (meaning_check T R) forms f;
@@ -220,11 +220,11 @@ module _ {T : Tables} (R : Reading) {v : Verdict} (forms : v ≡ form_check T) {
     shows = ap (λ (x : Verdict). after x (column_rows T) lent_columns) (sym (then_refused (model_and_schema_check T) (sym refused)));
   }
     where
-      refused : Verdict.Refused r ≡ form_check T
+      refused : Err r ≡ form_check T
       refused = sym f ∙ forms
 
   -- the rest is judged
-  pub columns_answer : v ≡ Verdict.Accepted → {w : Verdict} {permits columns : List ℕ} → TablesJudged T R w permits lent_columns columns
+  pub columns_answer : v ≡ Ok tt → {w : Verdict} {permits columns : List ℕ} → TablesJudged T R w permits lent_columns columns
       → ColumnsChecked T R w permits lent_columns columns
   columns_answer f J = record {
     answers = goes_on forms f J.judged.answers;
@@ -232,7 +232,7 @@ module _ {T : Tables} (R : Reading) {v : Verdict} (forms : v ≡ form_check T) {
     shows = J.judged.shows ∙ ap (λ (x : Verdict). after x (column_rows T) lent_columns) (sym (then_next (sym passed)));
   }
     where
-      passed : Verdict.Accepted ≡ form_check T
+      passed : (Ok tt) ≡ form_check T
       passed = sym f ∙ forms
 
 -- ---- whole tables, with all rows lent
@@ -255,7 +255,7 @@ module _ {T : Tables} {expression_rows reach columns : List ℕ} (F : Formed T) 
 
 module _ {T : Tables} (R : Reading) {v : Verdict} (forms : v ≡ form_check T) {lent_expression_rows lent_reach lent_columns : List ℕ} where
   -- a form check refuses
-  pub forms_refuse : {r : Refusal} → v ≡ Verdict.Refused r
+  pub forms_refuse : {r : Refusal} → v ≡ Err r
       → RowsChecked T R v lent_expression_rows lent_reach lent_columns lent_expression_rows lent_reach lent_columns
   forms_refuse {r} f = record {
     answers = stops (meaning_check T R) forms f;
@@ -264,14 +264,14 @@ module _ {T : Tables} (R : Reading) {v : Verdict} (forms : v ≡ form_check T) {
     shows = ap (λ (x : Verdict). after x (column_rows T) lent_columns) early;
   }
     where
-      refused : Verdict.Refused r ≡ form_check T
+      refused : Err r ≡ form_check T
       refused = sym f ∙ forms
 
-      early : Verdict.Refused r ≡ early_check T
+      early : Err r ≡ early_check T
       early = sym (then_refused (model_and_schema_check T) (sym refused))
 
   -- the rest is judged
-  pub judging_answers : v ≡ Verdict.Accepted → {w : Verdict} {expression_rows reach columns : List ℕ}
+  pub judging_answers : v ≡ Ok tt → {w : Verdict} {expression_rows reach columns : List ℕ}
       → expression_rows ≡ written (rows_of T) lent_expression_rows → Judged T R w lent_reach lent_columns reach columns
       → RowsChecked T R w lent_expression_rows lent_reach lent_columns expression_rows reach columns
   judging_answers f fills J = record {
@@ -281,7 +281,7 @@ module _ {T : Tables} (R : Reading) {v : Verdict} (forms : v ≡ form_check T) {
     shows = J.shows ∙ ap (λ (x : Verdict). after x (column_rows T) lent_columns) early;
   }
     where
-      passed : Verdict.Accepted ≡ form_check T
+      passed : (Ok tt) ≡ form_check T
       passed = sym f ∙ forms
 
       early : model_and_schema_check T ≡ early_check T
@@ -290,11 +290,11 @@ module _ {T : Tables} (R : Reading) {v : Verdict} (forms : v ≡ form_check T) {
 -- ---- for the callers
 
 -- tables that pass have passed the form checks, and 12 to 14
-module _ (T : Tables) (R : Reading) {v : Verdict} (checked : v ≡ report_check T R) (accepted : v ≡ Verdict.Accepted) where
-  passed : (form_check T ≡ Verdict.Accepted) × (meaning_check T R ≡ Verdict.Accepted)
+module _ (T : Tables) (R : Reading) {v : Verdict} (checked : v ≡ report_check T R) (accepted : v ≡ Ok tt) where
+  passed : (form_check T ≡ Ok tt) × (meaning_check T R ≡ Ok tt)
   passed = both_accepted (form_check T) (meaning_check T R) (sym checked ∙ accepted)
 
-  early_passed : early_check T ≡ Verdict.Accepted
+  early_passed : early_check T ≡ Ok tt
   early_passed = then_next passed.0 ∙ (both_accepted (model_and_schema_check T) (typing_check T R) passed.1).0
 
 -- what a caller has of tables that pass: their rows
@@ -306,7 +306,7 @@ pub record Rows (T : Tables) (expression_rows reach columns : List ℕ) : Type 0
 
 checked_rows : {T : Tables} {R : Reading} {v : Verdict} {lent_expression_rows lent_reach lent_columns expression_rows reach columns : List ℕ}
     → RowsLent lent_expression_rows lent_reach lent_columns → RowsChecked T R v lent_expression_rows lent_reach lent_columns expression_rows reach columns
-    → v ≡ Verdict.Accepted → Rows T expression_rows reach columns
+    → v ≡ Ok tt → Rows T expression_rows reach columns
 checked_rows {T} {R} {v} {lent_expression_rows} {lent_reach} {lent_columns} L J e = record {
   formed = F;
   filled = filled T.features T.truth (expression_count T) lent_expression_rows (let s = (counts F).most0 in let l = L.expressions in omega arith)
@@ -316,18 +316,18 @@ checked_rows {T} {R} {v} {lent_expression_rows} {lent_reach} {lent_columns} L J 
   shows = J.shows ∙ ap (λ (x : Verdict). after x (column_rows T) lent_columns) early;
 }
   where
-    forms : form_check T ≡ Verdict.Accepted
+    forms : form_check T ≡ Ok tt
     forms = (passed T R J.answers e).0
 
     F : Formed T
     F = formed T forms
 
-    early : early_check T ≡ Verdict.Accepted
+    early : early_check T ≡ Ok tt
     early = early_passed T R J.answers e
 
 -- with rows of the call's own, which are all 0 and have room for every table
 pub own_rows : {T : Tables} {R : Reading} {v : Verdict} {expression_rows reach columns : List ℕ}
-    → RowsChecked T R v (replicate 4096 0) (replicate 4096 0) (replicate 1024 0) expression_rows reach columns → v ≡ Verdict.Accepted → Rows T expression_rows reach columns
+    → RowsChecked T R v (replicate 4096 0) (replicate 4096 0) (replicate 1024 0) expression_rows reach columns → v ≡ Ok tt → Rows T expression_rows reach columns
 own_rows = checked_rows (record { expressions = le_refl 4096; forms = le_refl 4096; unreached = refl; unshown = refl })
 
 -- what a caller has of tables that pass, where judging has rows of its own: the permitted configurations and the column rows
@@ -336,7 +336,7 @@ pub record Columns (T : Tables) (permits columns : List ℕ) : Type 0 where
   pub permitting : permits ≡ row_of 16 (permitted T)
   pub shows : columns ≡ column_rows T
 
-pub own_columns : {T : Tables} {R : Reading} {v : Verdict} {permits columns : List ℕ} → ColumnsChecked T R v permits (replicate 1024 0) columns → v ≡ Verdict.Accepted
+pub own_columns : {T : Tables} {R : Reading} {v : Verdict} {permits columns : List ℕ} → ColumnsChecked T R v permits (replicate 1024 0) columns → v ≡ Ok tt
     → Columns T permits columns
 own_columns {T} {R} J e = record {
   formed = formed T forms;
@@ -344,7 +344,7 @@ own_columns {T} {R} J e = record {
   shows = J.shows ∙ ap (λ (x : Verdict). after x (column_rows T) (replicate 1024 0)) (early_passed T R J.answers e);
 }
   where
-    forms : form_check T ≡ Verdict.Accepted
+    forms : form_check T ≡ Ok tt
     forms = (passed T R J.answers e).0
 
 module _ {T : Tables} (F : Formed T) where

@@ -5,12 +5,11 @@ use Rattle.report.specs.Tables.{Tables, expression_count, query_count}
 use Rattle.report.specs.Expressions.{permitted}
 use Rattle.report.specs.ColumnRows.{column_rows}
 use Rattle.report.specs.Configuring.{written}
-use Rattle.report.specs.Verdicts.{or_else, after}
+use Rattle.report.specs.Verdicts.{Verdict, or_else, after}
 use Rattle.report.specs.FormChecks.{form_check}
 use Rattle.report.specs.Checks.{model_and_schema_check, typing_check}
 use Rattle.report.specs.Formed.{Formed}
 use Rattle.report.specs.declared.Head.{Head}
-use Rattle.report.specs.declared.Verdict.{Verdict}
 use Rattle.report.specs.declared.Reading.{Reading}
 use Rattle.expression_rows.specs.ExpressionRows.{rows_of, Prepared}
 use Rattle.reach.specs.Reach.{reach_rows}

@@ -50,10 +50,7 @@ fn check_model_and_schema(
     ensures { (T : Tables) → SchemaReads T expression_rows.now permitted.words relation_entries.now relations.now
         → result ≡ model_and_schema_check T }
 {
-    let model_verdict = check_permitted(permitted);
-    if let Verdict::Refused(_) = model_verdict {
-        return model_verdict;
-    }
+    check_permitted(permitted)?;
     check_schema(permitted, expression_rows, relation_entries, relations)
 }
 
@@ -82,10 +79,7 @@ pub fn judge_into_rows(
         → Judged T reading result reach.old columns.old reach.new columns.new }
 {
     let permitted = Row::load(expression_rows, head.model);
-    let schema = check_model_and_schema(permitted, expression_rows, relation_entries, relations);
-    if let Verdict::Refused(_) = schema {
-        return schema;
-    }
+    check_model_and_schema(permitted, expression_rows, relation_entries, relations)?;
     fill_reach(permitted, expression_rows, queries, &mut *reach);
     let scope = Scope {
         full: Row::full(head.features),
@@ -418,7 +412,7 @@ pub fn check_into_columns(
         queries,
         kinds,
     );
-    if let Verdict::Refused(_) = form {
+    if let Err(_) = form {
         return Judgement {
             verdict: form,
             permitted: Row::empty(),
@@ -458,7 +452,7 @@ pub fn check_into_rows(
         reading result expression_rows.old reach.old columns.old expression_rows.new reach.new
         columns.new }
 {
-    let form = check_forms(
+    check_forms(
         head,
         expressions,
         entries,
@@ -466,10 +460,7 @@ pub fn check_into_rows(
         comparisons,
         queries,
         kinds,
-    );
-    if let Verdict::Refused(_) = form {
-        return form;
-    }
+    )?;
     fill_expression_rows(head.features, expressions, &mut *expression_rows);
     let end = relations_end(relations) * 2;
     judge_into_rows(

@@ -1,4 +1,5 @@
 -- How the tests of 20 and 21 make their answer.
+use Rattle.std.specs.Prelude.{Err}
 use Prim.Native.Nat.{ℕ, ◌^◌, ◌≤◌, ◌<◌}
 use mathlib.Core.Path.{◌≡◌, sym, ap, ap₂, ◌∙◌}
 use mathlib.Core.Bool.{Bool, true, false, not, ◌&&◌}
@@ -13,9 +14,8 @@ use Rattle.sets.specs.Rows.{row_bit, row_of}
 use Rattle.sets.proofs.RowLaws.{row_bit-row_of, within_out}
 use Rattle.report.specs.Tables.{Tables}
 use Rattle.report.specs.Expressions.{permitted}
-use Rattle.report.specs.Verdicts.{refusal, refuse_if, or_else, first_of}
+use Rattle.report.specs.Verdicts.{Verdict, refusal, refuse_if, or_else, first_of}
 use Rattle.report.specs.Calls.{permitted_condition, room_conditions}
-use Rattle.report.specs.declared.Verdict.{Verdict}
 use Rattle.report.proofs.VerdictLaws.{then_next, accepted_if}
 use Rattle.report.proofs.FirstFault.{first_room, first_own}
 use Rattle.late_checks.specs.declared.LentWords.{LentWords}
@@ -70,9 +70,9 @@ module _ {T : Tables} {permits entries relations comparisons queries : List ℕ}
     is_told : told ≡ permitted T c
     is_told = tells ∙ told_permitted T R.few R.permitting c
 
-    pub late_refuses : not told ≡ true → Verdict.Refused (refusal 20 0 0 c) ≡ late
+    pub late_refuses : not told ≡ true → Err (refusal 20 0 0 c) ≡ late
     late_refuses f =
-        let own : Verdict.Refused (refusal 20 0 0 c) ≡ permitted_check = ap (λ (b : Bool). refuse_if b (refusal 20 0 0 c)) (sym f ∙ ap not is_told) in
+        let own : Err (refusal 20 0 0 c) ≡ permitted_check = ap (λ (b : Bool). refuse_if b (refusal 20 0 0 c)) (sym f ∙ ap not is_told) in
         ap (λ (v : Verdict). or_else v room) own ∙ sym late_parts
 
     pub room_decides : not told ≡ false → {w : Verdict} → w ≡ room → w ≡ late

@@ -10,7 +10,7 @@ ghost use Rattle.late_checks.specs.LateReads.{SourceReads, LateReads, LateReadab
 
 use report::{Refusal, Verdict};
 use sets::Row;
-use verdicts::{or_else, refuse_if};
+use verdicts::refuse_if;
 
 // Configuration c is in the row. Any number may be asked for, so it is compared before it is narrowed.
 fn is_permitted(permitted: Row, c: u64) -> bool
@@ -43,11 +43,10 @@ fn check_room(
     ensures { (T : Tables) → SourceReads T entries.now relations.now comparisons.now queries.now
         → result ≡ first_of (room_conditions lent.entries lent.relations lent.comparisons lent.queries T) }
 {
-    let a = refuse_if(lent.entries < entries.len(), 21, 1);
-    let b = refuse_if(lent.relations < relations.len(), 21, 2);
-    let c = refuse_if(lent.comparisons < comparisons.len(), 21, 3);
-    let d = refuse_if(lent.queries < queries.len(), 21, 4);
-    or_else(a, or_else(b, or_else(c, d)))
+    refuse_if(lent.entries < entries.len(), 21, 1)?;
+    refuse_if(lent.relations < relations.len(), 21, 2)?;
+    refuse_if(lent.comparisons < comparisons.len(), 21, 3)?;
+    refuse_if(lent.queries < queries.len(), 21, 4)
 }
 
 // Checks 20 and 21, where these configurations are permitted.
@@ -66,7 +65,7 @@ pub fn check_late(
         → result ≡ first_of (permitted_condition c T ++ room_conditions lent.entries lent.relations lent.comparisons lent.queries T) }
 {
     if !is_permitted(permitted, c) {
-        return Verdict::Refused(Refusal {
+        return Err(Refusal {
             number: 20,
             place: 0,
             item: 0,

@@ -1,4 +1,5 @@
 -- That the lines written are the print of docs/FORMAT.md, and how many bytes a print has at most.
+use Rattle.std.specs.Prelude.{Ok}
 use Prim.Native.Nat.{ℕ, zero, suc, ◌+◌, ◌*◌, ◌^◌, ◌≤◌, ◌<◌}
 use mathlib.Core.Path.{◌≡◌, refl, sym, ap, ◌∙◌}
 use mathlib.Core.Bool.{Bool, true, false, cond}
@@ -21,7 +22,6 @@ use Rattle.report.specs.Text.{bytes, decimal, line}
 use Rattle.report.specs.Print.{at_line, print_answer}
 use Rattle.report.specs.Formed.{Formed}
 use Rattle.report.specs.declared.Refusal.{Refusal}
-use Rattle.report.specs.declared.Verdict.{Verdict}
 use Rattle.report.proofs.TextLaws.{decimal-length}
 use Rattle.report.proofs.TypingLaws.{shown_columns}
 use Rattle.writing.specs.Lines.{refusal_line, unread_line, member_text, members_text, configuration_line}
@@ -50,7 +50,7 @@ module _ {T : Tables} (F : Formed T) {permits rows : List ℕ} (permitting : per
       go c true e = ap (text c) (ap (λ (l : List ℕ). shown l c) columns ∙ shown_columns F c e)
       go c false e = refl
 
-  pub accepted_print : accepted_text permits (configurations T) rows ≡ print_answer T Verdict.Accepted
+  pub accepted_print : accepted_text permits (configurations T) rows ≡ print_answer T (Ok tt)
   unfolding accepted_text
   accepted_print =
       ap (λ (l : List ℕ). line (bytes "accepted") [] ++ l)

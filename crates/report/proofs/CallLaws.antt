@@ -1,10 +1,11 @@
 -- What a call answers, whatever it is given (specs/Calls): "first fault first", "sound in form and schema", "gets as far as typing", and the parts of an
 -- answer; then the same of whole tables, which are formed where their first conditions do not hold.
+use Rattle.std.specs.Prelude.{Ok, Err}
 use mathlib.Core.Path.{◌≡◌, refl, sym, ap, ◌∙◌}
 use mathlib.Core.Logic.{◌↔◌}
 use mathlib.Core.List.{List, ◌++◌}
 use Rattle.report.specs.Tables.{Tables}
-use Rattle.report.specs.Verdicts.{or_else, Condition, first_of, NoneHolds, Foremost}
+use Rattle.report.specs.Verdicts.{Verdict, or_else, Condition, first_of, NoneHolds, Foremost}
 use Rattle.report.specs.FormChecks.{form_check}
 use Rattle.report.specs.Formed.{Formed}
 use Rattle.report.specs.Checks.{model_check, schema_check, model_and_schema_check, typing_check}
@@ -12,7 +13,6 @@ use Rattle.report.specs.Conditions.{schema_conditions, typing_conditions}
 use Rattle.report.specs.Calls.{Call, Given, conditions_to, before_typing_to, answer_to, SoundTo, GetsTo, whole, conditions, answer, Sound}
 use Rattle.report.specs.GivenDemands.{Forms, FirstFaultTo}
 use Rattle.report.specs.declared.Refusal.{Refusal}
-use Rattle.report.specs.declared.Verdict.{Verdict}
 use Rattle.report.specs.declared.Reading.{Reading}
 use Rattle.report.proofs.VerdictLaws.{or_else_assoc, both_accepted, accepted_both, then_next, then_refused}
 use Rattle.report.proofs.Formed.{formed}
@@ -23,7 +23,7 @@ use Rattle.report.proofs.FirstFault.{first_append, first_form, first_schema, fir
 
 module _ (G : Given) (R : Reading) (call : Call) where
   -- the first conditions refuse
-  pub given_refused : {r : Refusal} → first_of G.first ≡ Verdict.Refused r → answer_to G R call ≡ Verdict.Refused r
+  pub given_refused : {r : Refusal} → first_of G.first ≡ Err r → answer_to G R call ≡ Err r
   unfolding answer_to
   given_refused e = then_refused _ (then_refused _ e)
 
@@ -33,23 +33,23 @@ module _ (G : Given) (R : Reading) (call : Call) where
   given_answer g = then_next g
 
   -- a call that does not get there answers what it ran before
-  pub given_before : {r : Refusal} → before_typing_to G call ≡ Verdict.Refused r → answer_to G R call ≡ Verdict.Refused r
+  pub given_before : {r : Refusal} → before_typing_to G call ≡ Err r → answer_to G R call ≡ Err r
   unfolding answer_to
   given_before e = then_refused _ e
 
   -- a call that accepts gets as far as typing, which accepts, and none of its own conditions after it holds
-  module _ (e : answer_to G R call ≡ Verdict.Accepted) where
+  module _ (e : answer_to G R call ≡ Ok tt) where
     pub given_gets : GetsTo G call
     unfolding answer_to
     given_gets = (both_accepted _ _ e).0
 
-    after : (typing_check G.tables R ≡ Verdict.Accepted) × (first_of (call.after_typing G.tables) ≡ Verdict.Accepted)
+    after : (typing_check G.tables R ≡ Ok tt) × (first_of (call.after_typing G.tables) ≡ Ok tt)
     after = both_accepted (typing_check G.tables R) _ (sym (given_answer given_gets) ∙ e)
 
-    pub given_typed : typing_check G.tables R ≡ Verdict.Accepted
+    pub given_typed : typing_check G.tables R ≡ Ok tt
     given_typed = after.0
 
-    pub given_own : first_of (call.after_typing G.tables) ≡ Verdict.Accepted
+    pub given_own : first_of (call.after_typing G.tables) ≡ Ok tt
     given_own = after.1
 
 -- ---- "first fault first"
@@ -66,11 +66,11 @@ module _ (G : Given) (forms : Forms G) (R : Reading) (call : Call) where
   given_first = go (first_of G.first) refl
     where
       go : (v : Verdict) → first_of G.first ≡ v → answer_to G R call ≡ first_of (conditions_to G R call)
-      go Verdict.Accepted e =
+      go (Ok tt) e =
           ap (λ (v : Verdict). or_else (before_typing_to G call) (or_else v (first_of (call.after_typing G.tables))))
           (sym (first_typing G.tables R (narrow_by (forms e) R)))
           ∙ sym first_given
-      go (Verdict.Refused r) e =
+      go (Err r) e =
           let before = then_refused {a = first_of G.first} _ e in then_refused _ before ∙ sym (first_given ∙ then_refused _ before)
 
   -- it refuses exactly by the first that holds, and accepts exactly where none holds
@@ -87,7 +87,7 @@ module _ (G : Given) (forms : Forms G) (R : Reading) (call : Call) where
 
 module _ (G : Given) where
   -- the first conditions and 12 to 14 accept exactly what is sound
-  pub given_sound : SoundTo G ↔ (or_else (first_of G.first) (model_and_schema_check G.tables) ≡ Verdict.Accepted)
+  pub given_sound : SoundTo G ↔ (or_else (first_of G.first) (model_and_schema_check G.tables) ≡ Ok tt)
   given_sound = (λ s. sym early ∙ holds_none xs s, λ e. none_holds xs (early ∙ e))
     where
       xs : List Condition
@@ -101,7 +101,7 @@ module _ (G : Given) where
 
   module _ (call : Call) where
     -- of what is sound a call gets as far as typing exactly where no condition of its own before that holds; of other things none does
-    pub own_gets : SoundTo G → GetsTo G call ↔ (first_of (call.before_model G.tables) ≡ Verdict.Accepted)
+    pub own_gets : SoundTo G → GetsTo G call ↔ (first_of (call.before_model G.tables) ≡ Ok tt)
     own_gets s =
         let p = both_accepted (first_of G.first) (model_and_schema_check G.tables) (given_sound.0 s) in (
           λ g. (both_accepted (first_of (call.before_model G.tables)) _ (both_accepted (first_of G.first) _ g).1).0,
@@ -142,27 +142,27 @@ module _ (T : Tables) where
         (or_else (model_check T) (or_else (schema_check T) (or_else (typing_check T R) (first_of (call.after_typing T))))))
     answer_run = answer_checks ∙ simp or_else_assoc
 
-    pub form_refused : {r : Refusal} → form_check T ≡ Verdict.Refused r → answer T R call ≡ Verdict.Refused r
+    pub form_refused : {r : Refusal} → form_check T ≡ Err r → answer T R call ≡ Err r
     form_refused e = given_refused (whole T) R call (first_form T ∙ e)
 
     -- "first fault first"
     pub answer_first : answer T R call ≡ first_of (conditions T R call)
     answer_first = given_first (whole T) whole_forms R call
 
-    pub refused_foremost : (r : Refusal) → (answer T R call ≡ Verdict.Refused r) ↔ Foremost (conditions T R call) r
+    pub refused_foremost : (r : Refusal) → (answer T R call ≡ Err r) ↔ Foremost (conditions T R call) r
     refused_foremost = (first_fault_to (whole T) whole_forms R call).refuses
 
-    pub accepted_none : (answer T R call ≡ Verdict.Accepted) ↔ NoneHolds (conditions T R call)
+    pub accepted_none : (answer T R call ≡ Ok tt) ↔ NoneHolds (conditions T R call)
     accepted_none = (first_fault_to (whole T) whole_forms R call).accepts
 
   -- what 1 to 10, 24 and 12 to 14 accept is sound
-  pub sound_accepted : Sound T ↔ (or_else (form_check T) (model_and_schema_check T) ≡ Verdict.Accepted)
+  pub sound_accepted : Sound T ↔ (or_else (form_check T) (model_and_schema_check T) ≡ Ok tt)
   sound_accepted =
       let s = given_sound (whole T) in
       let e = ap (λ (v : Verdict). or_else v (model_and_schema_check T)) (first_form T) in
       (λ h. sym e ∙ s.0 h, λ h. s.1 (e ∙ h))
 
-  pub sound_checks : Sound T ↔ ((form_check T ≡ Verdict.Accepted) × (model_check T ≡ Verdict.Accepted) × (schema_check T ≡ Verdict.Accepted))
+  pub sound_checks : Sound T ↔ ((form_check T ≡ Ok tt) × (model_check T ≡ Ok tt) × (schema_check T ≡ Ok tt))
   sound_checks = (
     λ s.
         let p = both_accepted (form_check T) (model_and_schema_check T) (sound_accepted.0 s) in

@@ -1,4 +1,5 @@
 -- Laws of specs/HarbourFile, its files: the group of a line, the first bad line, the words of a table.
+use Rattle.std.specs.Prelude.{Option, Some, None}
 use Prim.Native.Nat.{ℕ, zero, suc, ◌*◌, ◌≤◌, ◌<◌, min}
 use mathlib.Core.Path.{◌≡◌, refl, sym, ap, ap₂, ◌∙◌}
 use mathlib.Core.Logic.{◌↔◌}
@@ -10,7 +11,6 @@ use native.Mathlib.Omega.{arith}
 use lib.ListN.{length, get_or, replicate, get_or-eq_default, get_or-map}
 use lib.Dec.{leb, ltb, eqb}
 use borrow.Author.Tests.{lt-ltb, le-ltb, ltb-true, leb-true, le-leb, lt-leb, leb-false, eq-eqb, eqb-true, not-true, not-false}
-use Rattle.sets.specs.declared.Found.{Found}
 use Rattle.sets.specs.Search.{lowest, all_below, count_below, First}
 use Rattle.sets.proofs.SearchLaws.{lowest_nothing, nothing_lowest, lowest_at, at_lowest, all_at, at_all}
 use Rattle.sets.proofs.ListLaws.{kept-length}
@@ -180,13 +180,13 @@ good_iff group k = (to, from)
         (lt-leb (group_at (group k)).shape.most (count_below (λ j. eqb (group j) (group k)) k) r.room))
         (no_head r (eqb k 0) refl)
 
-or_unread : (f : Found) (T : Tables) (k : ℕ) → file_or f T ≡ File.unread (suc k) → f ≡ Found.At k
-or_unread (Found.At j) T k e = let q : j ≡ k = cc in ap Found.At q
-or_unread Found.Nothing T k e = absurd (let z : ◌≡◌ {A = ℕ} 0 1 = cc in omega arith)
+or_unread : (f : Option ℕ) (T : Tables) (k : ℕ) → file_or f T ≡ File.unread (suc k) → f ≡ Some k
+or_unread (Some j) T k e = let q : j ≡ k = cc in ap Some q
+or_unread None T k e = absurd (let z : ◌≡◌ {A = ℕ} 0 1 = cc in omega arith)
 
-or_holds : (f : Found) (T U : Tables) → file_or f T ≡ File.holds U → (f ≡ Found.Nothing) × (T ≡ U)
-or_holds (Found.At j) T U e = absurd (let z : ◌≡◌ {A = ℕ} 0 1 = cc in omega arith)
-or_holds Found.Nothing T U e = (refl, (cc))
+or_holds : (f : Option ℕ) (T U : Tables) → file_or f T ≡ File.holds U → (f ≡ None) × (T ≡ U)
+or_holds (Some j) T U e = absurd (let z : ◌≡◌ {A = ℕ} 0 1 = cc in omega arith)
+or_holds None T U e = (refl, (cc))
 
 module _ (lines : List (List ℕ)) where
   -- the file is not read: the number that it gives is that of its first bad line, from 1

@@ -1,4 +1,5 @@
 -- The checks as lists of conditions (specs/Conditions): each answers the first of its conditions that holds, and accepts exactly when none holds.
+use Rattle.std.specs.Prelude.{Option, Some, None, Ok, Err}
 use Prim.Native.Nat.{ℕ, zero, suc, ◌+◌, ◌-◌, ◌^◌, ◌≤◌, ◌<◌}
 use mathlib.Core.Path.{◌≡◌, refl, sym, ap, ap₂, ◌∙◌, fun_ext}
 use mathlib.Core.Logic.{◌↔◌}
@@ -9,7 +10,6 @@ use native.Mathlib.Omega.{arith}
 use borrow.Author.Tests.{eq-eqb, ne_eqb, le-ltb, ltb-false}
 use lib.ListN.{length, get_or}
 use lib.Dec.{ltb, eqb}
-use Rattle.sets.specs.declared.Found.{Found}
 use Rattle.sets.specs.Search.{seek, lowest, found_or_0}
 use Rattle.sets.specs.Lists.{concat}
 use Rattle.sets.specs.Bits.{bit, lowest_member}
@@ -18,14 +18,13 @@ use Rattle.report.specs.Tables.{relation_count, query_count}
 use Rattle.report.specs.Expressions.{configurations, permitted}
 use Rattle.report.specs.Typing.{reached}
 use Rattle.report.specs.Readings.{faults_by, fails_by}
-use Rattle.report.specs.Verdicts.{refusal, refuse_if, refuse_at, or_else, first_from}
+use Rattle.report.specs.Verdicts.{Verdict, refusal, refuse_if, refuse_at, or_else, first_from}
 use Rattle.report.specs.Verdicts.{Condition, ◌gives◌, each, first_of, condition, NoneHolds, Foremost}
 use Rattle.report.specs.FormChecks.{form_check, tables_check, kinds_check, length_fits, lengths_check, expressions_check, entries_check, relations_check, comparisons_check, queries_check, untaken_check}
 use Rattle.report.specs.Checks.{fault_number, somewhere, absent_everywhere, apart_everywhere, relation_check, model_and_schema_check, phase_at, typing_at, typing_check}
 use Rattle.report.specs.Conditions.{form_conditions, relation_conditions, schema_conditions, typing_conditions}
 use Rattle.report.specs.Calls.{permitted_condition, room_conditions, configuring}
 use Rattle.report.specs.declared.Refusal.{Refusal}
-use Rattle.report.specs.declared.Verdict.{Verdict}
 use Rattle.report.specs.declared.Reading.{Reading}
 use Rattle.sets.proofs.SearchLaws.{lowest_nothing, nothing_lowest, lowest_at}
 use Rattle.sets.proofs.BitLaws.{zero_bits, bit_none}
@@ -33,7 +32,7 @@ use Rattle.report.proofs.VerdictLaws.{or_else_assoc, or_else_accepted, both_acce
 
 -- ---- the first of a list
 
-pub first_none : first_of [] ≡ Verdict.Accepted
+pub first_none : first_of [] ≡ Ok tt
 unfolding first_of
 first_none = refl
 
@@ -126,11 +125,11 @@ module _ (T : Tables) where
 first_item : (s : ℕ) (r : ℕ → Refusal) → s < 2 ^ 64 → refuse_if (not (eqb s 0)) (r (lowest_member s)) ≡ refuse_at r (lowest (bit s) 64)
 first_item s r h = go (lowest (bit s) 64) refl
   where
-    go : (f : Found) → lowest (bit s) 64 ≡ f → refuse_if (not (eqb s 0)) (r (lowest_member s)) ≡ refuse_at r f
-    go Found.Nothing e =
+    go : (f : Option ℕ) → lowest (bit s) 64 ≡ f → refuse_if (not (eqb s 0)) (r (lowest_member s)) ≡ refuse_at r f
+    go None e =
         ap (λ (b : Bool). refuse_if (not b) (r (lowest_member s))) (eq-eqb s 0 (zero_bits 64 s h (λ i l. lowest_nothing (bit s) 64 e i l)))
-    go (Found.At k) e =
-        ap₂ (λ (b : Bool) (f : Found). refuse_if (not b) (r (found_or_0 f)))
+    go (Some k) e =
+        ap₂ (λ (b : Bool) (f : Option ℕ). refuse_if (not b) (r (found_or_0 f)))
         (ne_eqb s 0 (λ z. false≢true (sym (bit_none k) ∙ ap (λ (x : ℕ). bit x k) (sym z) ∙ (lowest_at (bit s) 64 k e).holds))) e
 
 -- the items at fault of a form at one configuration, which may not be reached
@@ -171,15 +170,15 @@ later {x} {xs} e f =
     go zero l = e
     go (suc j) l = f.before j (le_of_suc-le-suc l)
 
-refused_is : {a b : Refusal} → Verdict.Refused a ≡ Verdict.Refused b → a ≡ b
+refused_is : {a b : Refusal} → ◌≡◌ {A = Verdict} (Err a) (Err b) → a ≡ b
 refused_is e = cc
 
-pub first_foremost : (xs : List Condition) (r : Refusal) → first_of xs ≡ Verdict.Refused r → Foremost xs r
+pub first_foremost : (xs : List Condition) (r : Refusal) → first_of xs ≡ Err r → Foremost xs r
 unfolding first_of
 first_foremost [] r e = accepted_not_refused e refl
 first_foremost (x ∷ xs) r e = go x.holds refl (first_foremost xs r)
   where
-    go : (b : Bool) → x.holds ≡ b → (first_of xs ≡ Verdict.Refused r → Foremost xs r) → Foremost (x ∷ xs) r
+    go : (b : Bool) → x.holds ≡ b → (first_of xs ≡ Err r → Foremost xs r) → Foremost (x ∷ xs) r
     go true p ih =
         record {
           at = 0;
@@ -190,12 +189,12 @@ first_foremost (x ∷ xs) r e = go x.holds refl (first_foremost xs r)
         }
     go false p ih = later p (ih (sym (ap (λ (b : Bool). or_else (refuse_if b x.gives) (first_of xs)) p) ∙ e))
 
-pub foremost_first : (xs : List Condition) (r : Refusal) → Foremost xs r → first_of xs ≡ Verdict.Refused r
+pub foremost_first : (xs : List Condition) (r : Refusal) → Foremost xs r → first_of xs ≡ Err r
 unfolding first_of
 foremost_first [] r f = absurd (not-suc-le-zero f.below)
 foremost_first (x ∷ xs) r f = go f.at refl (foremost_first xs r)
   where
-    go : (k : ℕ) → f.at ≡ k → (Foremost xs r → first_of xs ≡ Verdict.Refused r) → first_of (x ∷ xs) ≡ Verdict.Refused r
+    go : (k : ℕ) → f.at ≡ k → (Foremost xs r → first_of xs ≡ Err r) → first_of (x ∷ xs) ≡ Err r
     go zero e ih =
         ap₂ (λ (b : Bool) (g : Refusal). or_else (refuse_if b g) (first_of xs)) (ap (λ (k : ℕ). (condition (x ∷ xs) k).holds) (sym e) ∙ f.holds)
         (ap (λ (k : ℕ). (condition (x ∷ xs) k).gives) (sym e) ∙ f.refuses)
@@ -210,13 +209,13 @@ foremost_first (x ∷ xs) r f = go f.at refl (foremost_first xs r)
           before = λ j l. f.before (suc j) (omega arith);
         })
 
-pub none_holds : (xs : List Condition) → first_of xs ≡ Verdict.Accepted → NoneHolds xs
+pub none_holds : (xs : List Condition) → first_of xs ≡ Ok tt → NoneHolds xs
 unfolding first_of
 none_holds [] e k = refl
 none_holds (x ∷ xs) e zero = if_accepted x.holds x.gives (both_accepted (refuse_if x.holds x.gives) (first_of xs) e).0
 none_holds (x ∷ xs) e (suc k) = none_holds xs (both_accepted (refuse_if x.holds x.gives) (first_of xs) e).1 k
 
-pub holds_none : (xs : List Condition) → NoneHolds xs → first_of xs ≡ Verdict.Accepted
+pub holds_none : (xs : List Condition) → NoneHolds xs → first_of xs ≡ Ok tt
 unfolding first_of
 holds_none [] h = refl
 holds_none (x ∷ xs) h = accepted_both (accepted_if x.gives (h 0)) (holds_none xs (λ k. h (suc k)))
@@ -231,7 +230,7 @@ module _ (T : Tables) (r1 r2 r3 r4 : ℕ) where
   first_room = simp (first_append, first_one, or_else_assoc)
 
   -- 21 accepts exactly where each table lent for writing is as long as its source
-  pub room_fits : (first_of (room_conditions r1 r2 r3 r4 T) ≡ Verdict.Accepted)
+  pub room_fits : (first_of (room_conditions r1 r2 r3 r4 T) ≡ Ok tt)
       ↔ ((length T.entries ≤ r1) × (length T.relations ≤ r2) × (length T.comparisons ≤ r3) × (length T.queries ≤ r4))
   room_fits = (
     λ e.
@@ -246,7 +245,7 @@ module _ (T : Tables) (r1 r2 r3 r4 : ℕ) where
         (accepted_both (accepted_if _ (le-ltb r3 _ h.2)) (accepted_if _ (le-ltb r4 _ h.3)))),
   )
     where
-      fits : (n r : ℕ) (x : Refusal) → refuse_if (ltb r n) x ≡ Verdict.Accepted → n ≤ r
+      fits : (n r : ℕ) (x : Refusal) → refuse_if (ltb r n) x ≡ Ok tt → n ≤ r
       fits n r x e = ltb-false r n (if_accepted (ltb r n) x e)
 
 pub first_own : (T : Tables) (c r1 r2 r3 r4 : ℕ)

@@ -1,4 +1,5 @@
 -- The form checks accept just the tables that are Formed (specs/Formed) and have at most 512 entries. Everything after the form checks relies on that record.
+use Rattle.std.specs.Prelude.{Ok}
 use Prim.Native.Nat.{ℕ, zero, suc, ◌-◌, ◌/◌, ◌%◌, ◌<◌, ◌≤◌}
 use mathlib.Core.Path.{◌≡◌, ap, ap₂}
 use mathlib.Core.Bool.{Bool, true, ◌&&◌, not, and-eq-true_iff}
@@ -10,13 +11,12 @@ use lib.Dec.{leb, eqb, lit<}
 use Rattle.sets.specs.Search.{lowest}
 use Rattle.sets.proofs.SearchLaws.{lowest_nothing, nothing_lowest}
 use Rattle.report.specs.Tables.{Tables, Shape, shape_of, shapes, words, expression_count, entry_count, relation_count, comparison_count, query_count}
-use Rattle.report.specs.Verdicts.{refusal, refuse_if, refuse_at}
+use Rattle.report.specs.Verdicts.{Verdict, refusal, refuse_if, refuse_at}
 use Rattle.report.specs.FormChecks.{length_fits, expression_ok, entry_ok, relation_ok, comparison_ok, query_ok, kind_ok, constant_ok, taken_below, lists_end}
 use Rattle.report.specs.FormChecks.{head_check, lengths_check, expressions_check, entries_check, relations_check, comparisons_check, queries_check, untaken_check, tables_check}
 use Rattle.report.specs.FormChecks.{kind_table_check, constants_check, kinds_check, form_check}
 use Rattle.report.specs.Formed.{Sized, Formed}
 use Rattle.report.specs.declared.Refusal.{Refusal}
-use Rattle.report.specs.declared.Verdict.{Verdict}
 use Rattle.report.proofs.VerdictLaws.{both_accepted, accepted_both, if_accepted, accepted_if, at_accepted, first_accepted, accepted_first}
 
 -- Sized is what the test of a length says, and no less
@@ -41,10 +41,10 @@ table_check T t = refuse_if (not (table_fits T t)) (refusal 2 t 0 0)
 
 -- a check of n forms, one after another, accepts exactly where each of them fits
 module _ (r : ℕ → Refusal) (ok : ℕ → Bool) (n : ℕ) where
-  pub all_fit : refuse_at r (lowest (λ k. not (ok k)) n) ≡ Verdict.Accepted → (k : ℕ) → k < n → ok k ≡ true
+  pub all_fit : refuse_at r (lowest (λ k. not (ok k)) n) ≡ Ok tt → (k : ℕ) → k < n → ok k ≡ true
   all_fit e k h = not-false (ok k) (lowest_nothing (λ k. not (ok k)) n (at_accepted r _ e) k h)
 
-  pub fit_all : ((k : ℕ) → k < n → ok k ≡ true) → refuse_at r (lowest (λ k. not (ok k)) n) ≡ Verdict.Accepted
+  pub fit_all : ((k : ℕ) → k < n → ok k ≡ true) → refuse_at r (lowest (λ k. not (ok k)) n) ≡ Ok tt
   fit_all h = ap (refuse_at r) (nothing_lowest (λ k. not (ok k)) n (λ k l. ap not (h k l)))
 
 -- table 1 of whole tables is within what is asked of any table 1
@@ -52,15 +52,15 @@ wider : {n : ℕ} → Sized (shape_of 2 0 512) n → Sized (shape_of 2 0 1024) n
 wider z = record { whole = z.whole; enough = z.enough; fits = let f = z.fits in omega arith }
 
 module _ (T : Tables) where
-  lengths_fit : lengths_check T ≡ Verdict.Accepted → (t : ℕ) → t < 5 → table_fits T t ≡ true
+  lengths_fit : lengths_check T ≡ Ok tt → (t : ℕ) → t < 5 → table_fits T t ≡ true
   lengths_fit e t h =
       not-false (table_fits T t) (if_accepted _ (refusal 2 t 0 0) (first_accepted (table_check T) 5 0 e t (omega arith) (omega arith)))
 
-  fit_lengths : ((t : ℕ) → t < 5 → table_fits T t ≡ true) → lengths_check T ≡ Verdict.Accepted
+  fit_lengths : ((t : ℕ) → t < 5 → table_fits T t ≡ true) → lengths_check T ≡ Ok tt
   fit_lengths f = accepted_first (table_check T) 5 0 (λ t l h. accepted_if (refusal 2 t 0 0) (ap not (f t (omega arith))))
 
   -- the form checks accept such tables alone
-  pub formed : form_check T ≡ Verdict.Accepted → Formed T
+  pub formed : form_check T ≡ Ok tt → Formed T
   unfolding form_check tables_check kinds_check expressions_check entries_check relations_check comparisons_check queries_check untaken_check
   formed e =
       let all = both_accepted (tables_check T) _ e in
@@ -99,7 +99,7 @@ module _ (T : Tables) where
       }
 
   -- table 1 has at most 512 entries where they accept
-  pub few_entries : form_check T ≡ Verdict.Accepted → entry_count T ≤ 512
+  pub few_entries : form_check T ≡ Ok tt → entry_count T ≤ 512
   unfolding form_check tables_check
   few_entries e =
       let t = (both_accepted (tables_check T) (kinds_check T.attributes T.kinds T.comparisons) e).0 in
@@ -108,7 +108,7 @@ module _ (T : Tables) where
       (sized (shape_of 2 0 512) _ (lengths_fit l 1 (lit< tt))).fits
 
   -- and all of them, if table 1 has at most 512 entries
-  pub formed_accepted : Formed T → entry_count T ≤ 512 → form_check T ≡ Verdict.Accepted
+  pub formed_accepted : Formed T → entry_count T ≤ 512 → form_check T ≡ Ok tt
   unfolding form_check tables_check kinds_check expressions_check entries_check relations_check comparisons_check queries_check untaken_check
   formed_accepted F few =
       accepted_both

@@ -1,5 +1,6 @@
 -- The statements of Refusing, TypingLaws and TreeLaws are about something: tables that are sound and that are not, configurations that are permitted and
 -- that are not, forms that fail and that do not, reports that pass and that break a rule.
+use Rattle.std.specs.Prelude.{Ok, Err}
 use Prim.Native.Nat.{ℕ, zero, suc}
 use mathlib.Core.Path.{◌≡◌, refl, ap}
 use mathlib.Core.Bool.{true, false, cond}
@@ -16,7 +17,6 @@ use Rattle.report.specs.Checks.{is_typing_fault}
 use Rattle.report.specs.Calls.{answer, Sound, checking, configuring}
 use Rattle.report.specs.TypingFaults.{Broken, Named}
 use Rattle.report.specs.Examples.{h1, harbour, h1_expressions, h1_entries, h1_queries, guarded}
-use Rattle.report.specs.declared.Verdict.{Verdict}
 use Rattle.report.specs.declared.Reading.{Reading}
 use Rattle.report.proofs.ExamplesHold.{computed}
 use Rattle.report.proofs.CallLaws.{sound_accepted, sound_formed}
@@ -55,7 +55,7 @@ pub h1_sound : Sound (h1 2)
 unfolding computed
 h1_sound = (sound_accepted (h1 2)).1 refl
 
-pub h1_accepted : answer (h1 2) Reading.Strict (checking 1024) ≡ Verdict.Accepted
+pub h1_accepted : answer (h1 2) Reading.Strict (checking 1024) ≡ Ok tt
 unfolding computed
 h1_accepted = refl
 
@@ -80,7 +80,7 @@ pub h2_sound : Sound h2
 unfolding computed
 h2_sound = (sound_accepted h2).1 refl
 
-pub h2_refused : answer h2 Reading.Strict (checking 1024) ≡ Verdict.Refused (refusal 17 1 2 1)
+pub h2_refused : answer h2 Reading.Strict (checking 1024) ≡ Err (refusal 17 1 2 1)
 unfolding computed
 h2_refused = refl
 
@@ -110,7 +110,7 @@ h2_tree = (refl, refl)
 abbrev h8 : Tables
 h8 = harbour 2 (0 ∷ 0 ∷ 0 ∷ 2 ∷ 0 ∷ 0 ∷ 2 ∷ 1 ∷ 0 ∷ []) (h1_entries 2) h1_queries
 
-h8_refused : answer h8 Reading.Strict (checking 1024) ≡ Verdict.Refused (refusal 12 0 0 0)
+h8_refused : answer h8 Reading.Strict (checking 1024) ≡ Err (refusal 12 0 0 0)
 unfolding computed
 h8_refused = refl
 
@@ -122,7 +122,7 @@ h8_unsound = (check_early h8 Reading.Strict).0 (refusal 12 0 0 0, h8_refused, re
 abbrev untaken : Tables
 untaken = guarded (0 ∷ 0 ∷ []) 1
 
-pub untaken_accepted : answer untaken Reading.Strict (checking 1024) ≡ Verdict.Accepted
+pub untaken_accepted : answer untaken Reading.Strict (checking 1024) ≡ Ok tt
 unfolding computed
 untaken_accepted = refl
 
@@ -134,6 +134,6 @@ untaken_absent = (refl, refl, refl)
 abbrev unguarded : Tables
 unguarded = tables_of 1 2 0 (1 ∷ 0 ∷ 0 ∷ 2 ∷ 0 ∷ 0 ∷ []) (0 ∷ 0 ∷ []) (1 ∷ 1 ∷ []) [] (1 ∷ 0 ∷ 0 ∷ 0 ∷ []) (0 ∷ 0 ∷ [])
 
-pub unguarded_refused : answer unguarded Reading.Strict (checking 1024) ≡ Verdict.Refused (refusal 15 0 0 0)
+pub unguarded_refused : answer unguarded Reading.Strict (checking 1024) ≡ Err (refusal 15 0 0 0)
 unfolding computed
 unguarded_refused = refl

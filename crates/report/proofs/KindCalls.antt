@@ -1,5 +1,6 @@
 -- Kinds, of every call: where a call accepts both sides have one kind; where they do not a call that gets as far as typing refuses; where exactly it
 -- answers by 25; and where 24 refuses.
+use Rattle.std.specs.Prelude.{Ok, Err}
 use Prim.Native.Nat.{ℕ, zero, suc, ◌≤◌, ◌<◌}
 use mathlib.Core.Path.{◌≡◌, refl, sym, ap, ◌∙◌, subst}
 use mathlib.Core.Bool.{Bool, true, false, not, false≢true}
@@ -19,7 +20,7 @@ use Rattle.report.specs.Expressions.{permitted}
 use Rattle.report.specs.Typing.{faults, fails}
 use Rattle.report.specs.PlainAlgebra.{PlainComparison, PlainQuery, Schema, Kinds, one_kind, names_there, columns}
 use Rattle.report.specs.ConfiguredReport.{plain_query_at, configured_schema}
-use Rattle.report.specs.Verdicts.{refusal, refuse_if, refuse_at}
+use Rattle.report.specs.Verdicts.{Verdict, refusal, refuse_if, refuse_at}
 use Rattle.report.specs.FormChecks.{constant_kind, kind_ok, constant_ok, kinds_check, tables_check, form_check}
 use Rattle.report.specs.Checks.{fault_number, is_early, is_of_typing, is_typing_fault}
 use Rattle.report.specs.Formed.{Formed}
@@ -29,7 +30,6 @@ use Rattle.report.specs.TypingFaults.{TypingFault, compared_there, compared_alik
 use Rattle.report.specs.Kinds.{Differing, KindFault}
 use Rattle.report.specs.declared.Query.{Query}
 use Rattle.report.specs.declared.Refusal.{Refusal}
-use Rattle.report.specs.declared.Verdict.{Verdict}
 use Rattle.report.specs.declared.Reading.{Reading}
 use Rattle.report.proofs.VerdictLaws.{accepted_not_refused, then_next, then_refused, accepted_both, accepted_if}
 use Rattle.report.proofs.Formed.{fit_all}
@@ -45,7 +45,7 @@ use Rattle.report.proofs.KindMembers.{fault_differing, fails_differing}
 -- ---- both sides have one kind, or the call refuses
 
 -- "Both sides must have one kind at every configuration that reaches them": where a call accepts, they have
-pub accepted_one_kind : (T : Tables) (R : Reading) (call : Call) → answer T R call ≡ Verdict.Accepted → (c q a g : ℕ) → Differing T c q a g → ⊥
+pub accepted_one_kind : (T : Tables) (R : Reading) (call : Call) → answer T R call ≡ Ok tt → (c q a g : ℕ) → Differing T c q a g → ⊥
 accepted_one_kind T R call e c q a g d =
     let F = sound_formed T (gets_given (whole T) call (given_gets (whole T) R call e)) in
     let ok = reached-permitted T c q d.reaches in
@@ -64,7 +64,7 @@ differing_refused T R sound own gets c q a g d =
 
 -- ---- 25
 
-one_refusal : {v : Verdict} {s t : Refusal} → v ≡ Verdict.Refused s → v ≡ Verdict.Refused t → s ≡ t
+one_refusal : {v : Verdict} {s t : Refusal} → v ≡ Err s → v ≡ Err t → s ≡ t
 one_refusal p q = cc
 
 -- 25 is of the second phase
@@ -151,10 +151,10 @@ two_kinds kind schema (PlainQuery.intersection p q) e f = absurd (false≢true (
 
 -- of a call that gets as far as typing, whatever it is given
 module _ (G : Given) (forms : Forms G) {call : Call} (own : OwnNumbers call) (gets : GetsTo G call) where
-  named_25 : (r : Refusal) → r.number ≡ 25 → answer_to G Reading.Strict call ≡ Verdict.Refused r → NamedBy G.tables (answer_to G Reading.Strict call)
+  named_25 : (r : Refusal) → r.number ≡ 25 → answer_to G Reading.Strict call ≡ Err r → NamedBy G.tables (answer_to G Reading.Strict call)
   named_25 r is25 e = given_named G forms own gets (ap is_typing_fault e ∙ ap is_of_typing is25)
 
-  answers_25 : (r : Refusal) → r.number ≡ 25 → (answer_to G Reading.Strict call ≡ Verdict.Refused r) ↔ KindFault G.tables r
+  answers_25 : (r : Refusal) → r.number ≡ 25 → (answer_to G Reading.Strict call ≡ Err r) ↔ KindFault G.tables r
   answers_25 r is25 = (
     λ e. let n = named_25 r is25 e in typing_kinds formed r is25 (subst (TypingFault G.tables Reading.Strict) (one_refusal n.answers e) n.fault),
     λ k. given_answer G Reading.Strict call gets ∙ then_refused _ ((typing_refused G.tables Reading.Strict r).1 (kinds_typing formed r is25 k)),
@@ -164,11 +164,11 @@ module _ (G : Given) (forms : Forms G) {call : Call} (own : OwnNumbers call) (ge
       formed = given_formed G call forms gets
 
   -- it answers (25 f a c) if, and only if, kinds differ there so
-  pub given_25 : (f a c : ℕ) → (answer_to G Reading.Strict call ≡ Verdict.Refused (refusal 25 f a c)) ↔ KindFault G.tables (refusal 25 f a c)
+  pub given_25 : (f a c : ℕ) → (answer_to G Reading.Strict call ≡ Err (refusal 25 f a c)) ↔ KindFault G.tables (refusal 25 f a c)
   given_25 f a c = answers_25 (refusal 25 f a c) refl
 
   -- and then the node of form f in the report configured at c is a select that compares two kinds, while its operand has all that it compares
-  pub given_25_plain : (f a c : ℕ) → answer_to G Reading.Strict call ≡ Verdict.Refused (refusal 25 f a c)
+  pub given_25_plain : (f a c : ℕ) → answer_to G Reading.Strict call ≡ Err (refusal 25 f a c)
       → (t : PlainComparison)
       × (q : PlainQuery)
       × (plain_query_at G.tables c Reading.Strict f ≡ PlainQuery.select t q)
@@ -181,10 +181,10 @@ module _ (G : Given) (forms : Forms G) {call : Call} (own : OwnNumbers call) (ge
 
 -- and so of whole tables
 module _ (T : Tables) {call : Call} (own : OwnNumbers call) (gets : GetsAsFarAsTyping T call) where
-  pub exactly_25 : (f a c : ℕ) → (answer T Reading.Strict call ≡ Verdict.Refused (refusal 25 f a c)) ↔ KindFault T (refusal 25 f a c)
+  pub exactly_25 : (f a c : ℕ) → (answer T Reading.Strict call ≡ Err (refusal 25 f a c)) ↔ KindFault T (refusal 25 f a c)
   exactly_25 = given_25 (whole T) (whole_forms T) own gets
 
-  pub plain_25 : (f a c : ℕ) → answer T Reading.Strict call ≡ Verdict.Refused (refusal 25 f a c)
+  pub plain_25 : (f a c : ℕ) → answer T Reading.Strict call ≡ Err (refusal 25 f a c)
       → (t : PlainComparison)
       × (q : PlainQuery)
       × (plain_query_at T c Reading.Strict f ≡ PlainQuery.select t q)
@@ -193,7 +193,7 @@ module _ (T : Tables) {call : Call} (own : OwnNumbers call) (gets : GetsAsFarAsT
   plain_25 = given_25_plain (whole T) (whole_forms T) own gets
 
 -- any call refuses by 25 for such a fault alone, since one that does so gets as far as typing
-pub refused_25 : (T : Tables) {call : Call} → OwnNumbers call → (r : Refusal) → answer T Reading.Strict call ≡ Verdict.Refused r → r.number ≡ 25 → KindFault T r
+pub refused_25 : (T : Tables) {call : Call} → OwnNumbers call → (r : Refusal) → answer T Reading.Strict call ≡ Err r → r.number ≡ 25 → KindFault T r
 refused_25 T {call} own r e is25 = (answers_25 (whole T) (whole_forms T) own gets r is25).0 e
   where
     -- 25 is no early number
@@ -201,32 +201,32 @@ refused_25 T {call} own r e is25 = (answers_25 (whole T) (whole_forms T) own get
     gets = go (before_typing_to (whole T) call) refl
       where
         go : (v : Verdict) → before_typing_to (whole T) call ≡ v → GetsAsFarAsTyping T call
-        go Verdict.Accepted p = p
-        go (Verdict.Refused s) p =
+        go (Ok tt) p = p
+        go (Err s) p =
             let early = (refused_early T own Reading.Strict).1 (λ g. accepted_not_refused p g) in
             absurd (false≢true (sym (ap is_early is25) ∙ ap (λ (x : Refusal). is_early x.number) (one_refusal e early.1) ∙ early.2))
 
 -- ---- 24, "checked after 10"
 
-module _ (T : Tables) (R : Reading) (call : Call) (ten : tables_check T ≡ Verdict.Accepted) where
-  refused_24 : {r : Refusal} → kinds_check T.attributes T.kinds T.comparisons ≡ Verdict.Refused r → answer T R call ≡ Verdict.Refused r
+module _ (T : Tables) (R : Reading) (call : Call) (ten : tables_check T ≡ Ok tt) where
+  refused_24 : {r : Refusal} → kinds_check T.attributes T.kinds T.comparisons ≡ Err r → answer T R call ≡ Err r
   unfolding form_check
   refused_24 e = form_refused T R call (then_next ten ∙ e)
 
   -- "24 kind table not m words (place 0)"
-  pub kind_table_refused : length T.kinds ≢ T.attributes → answer T R call ≡ Verdict.Refused (refusal 24 0 0 0)
+  pub kind_table_refused : length T.kinds ≢ T.attributes → answer T R call ≡ Err (refusal 24 0 0 0)
   unfolding kinds_check
   kind_table_refused n =
       refused_24
       (then_refused _ (then_refused _ (ap (λ (t : Bool). refuse_if (not t) (refusal 24 0 0 0)) (ne_eqb (length T.kinds) T.attributes n))))
 
   module _ (long : length T.kinds ≡ T.attributes) where
-    long_enough : refuse_if (not (eqb (length T.kinds) T.attributes)) (refusal 24 0 0 0) ≡ Verdict.Accepted
+    long_enough : refuse_if (not (eqb (length T.kinds) T.attributes)) (refusal 24 0 0 0) ≡ Ok tt
     long_enough = accepted_if _ (ap not (eq-eqb (length T.kinds) T.attributes long))
 
     -- "else a kind over 2 there (place the word)"
     pub kind_word_refused : (a : ℕ) → a < T.attributes → 2 < kind_of T a → ((b : ℕ) → b < a → kind_of T b ≤ 2)
-        → answer T R call ≡ Verdict.Refused (refusal 24 a 0 0)
+        → answer T R call ≡ Err (refusal 24 a 0 0)
     unfolding kinds_check
     kind_word_refused a h over lower =
         refused_24
@@ -239,7 +239,7 @@ module _ (T : Tables) (R : Reading) (call : Call) (ten : tables_check T ≡ Verd
     -- "else one in a comparison (place the form)", whether a query names it or not
     pub constant_refused : ((a : ℕ) → a < T.attributes → kind_of T a ≤ 2) → (f : ℕ) → f < comparison_count T
         → 2 < constant_kind (sides_in T.comparisons f) → ((g : ℕ) → g < f → constant_kind (sides_in T.comparisons g) ≤ 2)
-        → answer T R call ≡ Verdict.Refused (refusal 24 f 0 0)
+        → answer T R call ≡ Err (refusal 24 f 0 0)
     unfolding kinds_check
     constant_refused right f h over lower =
         refused_24

@@ -1,5 +1,6 @@
 -- What kinds have not changed (specs/Kinds): the answers of every call, and the comparisons that configuring writes, are what they were where all kinds
 -- are 0 or nothing is compared; and where nothing is compared no answer depends on the kinds.
+use Rattle.std.specs.Prelude.{Ok}
 use Prim.Native.Nat.{ℕ, zero, suc, ◌*◌, ◌+◌, ◌<◌}
 use mathlib.Core.Path.{◌≡◌, refl, sym, ap, ap₂, ◌∙◌, fun_ext}
 use mathlib.Core.Bool.{Bool, true, false, cond, ◌&&◌, not, false≢true}
@@ -17,7 +18,7 @@ use Rattle.report.specs.Operands.{comparison_sides, sides_in}
 use Rattle.report.specs.Expressions.{configurations, permitted}
 use Rattle.report.specs.Typing.{leads, reached, kinds_differ, joined_set, gathered, set_of, faults, fails}
 use Rattle.report.specs.ColumnRows.{column_rows}
-use Rattle.report.specs.Verdicts.{refusal, refuse_at, or_else, first_from, Condition, first_of}
+use Rattle.report.specs.Verdicts.{Verdict, refusal, refuse_at, or_else, first_from, Condition, first_of}
 use Rattle.report.specs.FormChecks.{is_kind, constant_kind, comparison_ok, kind_ok, constant_ok}
 use Rattle.report.specs.FormChecks.{relations_check, comparisons_check, queries_check, kinds_check, tables_check, form_check}
 use Rattle.report.specs.Checks.{phase_at, typing_at, typing_check, model_and_schema_check}
@@ -28,7 +29,6 @@ use Rattle.report.specs.Kinds.{Differing, ConstantsAre0, AllKinds0, comparisons_
 use Rattle.report.specs.Kinds.{answer_without, answer_before_kinds, with_kinds, NoSelect, KindFree, with_kind_0, comparisons_before}
 use Rattle.report.specs.declared.Comparison.{Comparison}
 use Rattle.report.specs.declared.Sides.{Sides}
-use Rattle.report.specs.declared.Verdict.{Verdict}
 use Rattle.report.specs.declared.Reading.{Reading}
 use Rattle.report.proofs.VerdictLaws.{or_else_accepted, accepted_both, accepted_if}
 use Rattle.report.proofs.Formed.{fit_all}
@@ -49,7 +49,7 @@ module _ (T : Tables) where
   unfolding typing_check typing_check_before
   typing_before f = ap (λ (check : ℕ → Verdict). first_from check (query_count T) 0) (fun_ext (first_alone f))
 
-  pub without_kinds : kinds_check T.attributes T.kinds T.comparisons ≡ Verdict.Accepted → ((c q : ℕ) → fails T c 1 q ≡ false)
+  pub without_kinds : kinds_check T.attributes T.kinds T.comparisons ≡ Ok tt → ((c q : ℕ) → fails T c 1 q ≡ false)
       → (call : Call) → answer T Reading.Strict call ≡ answer_without T (tables_check T) call
   unfolding form_check
   without_kinds e f call =
@@ -77,7 +77,7 @@ module _ (T : Tables) (zeros : ConstantsAre0 T) where
       go false e = refl
 
   -- so every answer is what it was, if 24 finds nothing and kinds differ nowhere
-  answer_before_lem : kinds_check T.attributes T.kinds T.comparisons ≡ Verdict.Accepted → ((c q a g : ℕ) → Differing T c q a g → ⊥)
+  answer_before_lem : kinds_check T.attributes T.kinds T.comparisons ≡ Ok tt → ((c q a g : ℕ) → Differing T c q a g → ⊥)
       → (call : Call) → answer T Reading.Strict call ≡ answer_before_kinds T call
   unfolding answer_before_kinds
   answer_before_lem e never call =
@@ -143,7 +143,7 @@ module _ {T : Tables} (K : AllKinds0 T) where
           let t = T.comparisons in
           rw (get_or-eq_default t 0 {n = f * 5 + 4} (omega arith)) (fifth_word (get_or t (f * 5) 0) (word t 5 f 1) (word t 5 f 2) (word t 5 f 3))
 
-  all_kinds : kinds_check T.attributes T.kinds T.comparisons ≡ Verdict.Accepted
+  all_kinds : kinds_check T.attributes T.kinds T.comparisons ≡ Ok tt
   unfolding kinds_check
   all_kinds =
       accepted_both
@@ -165,13 +165,13 @@ nothing_differs : {T : Tables} → T.comparisons ≡ [] → (c q a g : ℕ) → 
 nothing_differs {T} none c q a g d = false≢true (ap (λ (t : List ℕ). kinds_differ (kind_of T) (sides_in t g)) (sym none) ∙ d.two)
 
 -- "Where 24 finds nothing, a report with no comparisons is judged as before"
-pub no_comparisons_before : (T : Tables) → T.comparisons ≡ [] → kinds_check T.attributes T.kinds T.comparisons ≡ Verdict.Accepted
+pub no_comparisons_before : (T : Tables) → T.comparisons ≡ [] → kinds_check T.attributes T.kinds T.comparisons ≡ Ok tt
     → (call : Call) → answer T Reading.Strict call ≡ answer_before_kinds T call
 no_comparisons_before T none e =
     answer_before_lem T (λ f h. ap (λ (t : List ℕ). constant_kind (sides_in t f)) none) e (nothing_differs none)
 
 -- and so is one without a select, where comparisons that no query names have kind 0
-pub no_select_before : (T : Tables) → NoSelect T → ConstantsAre0 T → kinds_check T.attributes T.kinds T.comparisons ≡ Verdict.Accepted
+pub no_select_before : (T : Tables) → NoSelect T → ConstantsAre0 T → kinds_check T.attributes T.kinds T.comparisons ≡ Ok tt
     → (call : Call) → answer T Reading.Strict call ≡ answer_before_kinds T call
 no_select_before T none zeros e = answer_before_lem T zeros e (λ c q a g d. none q d.selects d.of d.form)
 
@@ -179,7 +179,7 @@ no_select_before T none zeros e = answer_before_lem T zeros e (λ c q a g d. non
 
 module _ (T : Tables) {call : Call} (free : KindFree call) where
   -- where 24 finds nothing and kinds differ nowhere, no answer reads them
-  unread : (kinds : List ℕ) → kinds_check T.attributes kinds T.comparisons ≡ Verdict.Accepted
+  unread : (kinds : List ℕ) → kinds_check T.attributes kinds T.comparisons ≡ Ok tt
       → ((c q a g : ℕ) → Differing (with_kinds T kinds) c q a g → ⊥) → answer (with_kinds T kinds) Reading.Strict call ≡ answer_without T (tables_check T) call
   unfolding tables_check typing_check_before permitted reached leads set_of joined_set gathered faults
   unread kinds e never =
@@ -191,19 +191,19 @@ module _ (T : Tables) {call : Call} (free : KindFree call) where
 
   -- so any two kind tables in which 24 finds nothing give the same answer
   same_answer : ((kinds : List ℕ) (c q a g : ℕ) → Differing (with_kinds T kinds) c q a g → ⊥) → (k k' : List ℕ)
-      → kinds_check T.attributes k T.comparisons ≡ Verdict.Accepted → kinds_check T.attributes k' T.comparisons ≡ Verdict.Accepted
+      → kinds_check T.attributes k T.comparisons ≡ Ok tt → kinds_check T.attributes k' T.comparisons ≡ Ok tt
       → answer (with_kinds T k) Reading.Strict call ≡ answer (with_kinds T k') Reading.Strict call
   same_answer never k k' e e' = unread k e (never k) ∙ sym (unread k' e' (never k'))
 
 -- of a report without a select
 pub kinds_unread : (T : Tables) → NoSelect T → {call : Call} → KindFree call → (k k' : List ℕ)
-    → kinds_check T.attributes k T.comparisons ≡ Verdict.Accepted → kinds_check T.attributes k' T.comparisons ≡ Verdict.Accepted
+    → kinds_check T.attributes k T.comparisons ≡ Ok tt → kinds_check T.attributes k' T.comparisons ≡ Ok tt
     → answer (with_kinds T k) Reading.Strict call ≡ answer (with_kinds T k') Reading.Strict call
 kinds_unread T none free = same_answer T free (λ kinds c q a g d. none q d.selects d.of d.form)
 
 -- and of one with no comparisons
 pub no_comparisons_unread : (T : Tables) → T.comparisons ≡ [] → {call : Call} → KindFree call → (k k' : List ℕ)
-    → kinds_check T.attributes k T.comparisons ≡ Verdict.Accepted → kinds_check T.attributes k' T.comparisons ≡ Verdict.Accepted
+    → kinds_check T.attributes k T.comparisons ≡ Ok tt → kinds_check T.attributes k' T.comparisons ≡ Ok tt
     → answer (with_kinds T k) Reading.Strict call ≡ answer (with_kinds T k') Reading.Strict call
 no_comparisons_unread T none free = same_answer T free (λ kinds. nothing_differs none)
 

@@ -1,5 +1,6 @@
 -- What calls refuse, whatever they are given: by which numbers before typing, and demand 3's second half: a call that gets as far as typing refuses for a
 -- typing fault exactly where, at some permitted configuration, the configured report breaks a plain rule.
+use Rattle.std.specs.Prelude.{Option, Some, None, Ok, Err}
 use Prim.Native.Nat.{ℕ, zero, suc, ◌-◌, ◌<◌}
 use mathlib.Core.Path.{◌≡◌, refl, sym, ap, ◌∙◌}
 use mathlib.Core.Bool.{Bool, true, false, ◌||◌, not, and-eq-true_iff, false≢true}
@@ -10,7 +11,6 @@ use native.Mathlib.Omega.{arith}
 use borrow.Author.Tests.{eqb-true, eq-eqb, ne_eqb, not-true, not-false}
 use lib.ListN.{length, get_or}
 use lib.Dec.{leb, ltb, eqb}
-use Rattle.sets.specs.declared.Found.{Found}
 use Rattle.sets.specs.Search.{seek, lowest}
 use Rattle.report.specs.Tables.{Tables, kind_of, shapes, shape_of, words, entry_attribute, relation_length, relation_start}
 use Rattle.report.specs.Tables.{expression_count, entry_count, relation_count, comparison_count, query_count}
@@ -18,7 +18,7 @@ use Rattle.report.specs.Expressions.{configurations}
 use Rattle.report.specs.Typing.{reached, clashes_in, faults, fails}
 use Rattle.report.specs.PlainAlgebra.{passes}
 use Rattle.report.specs.ConfiguredReport.{plain_query_at, configured_report, configured_schema}
-use Rattle.report.specs.Verdicts.{refusal, refuse_if, refuse_at, or_else, first_from, Condition, ◌gives◌, first_of}
+use Rattle.report.specs.Verdicts.{Verdict, refusal, refuse_if, refuse_at, or_else, first_from, Condition, ◌gives◌, first_of}
 use Rattle.report.specs.FormChecks.{length_fits, expression_ok, entry_ok, relation_ok, comparison_ok, query_ok, kind_ok, constant_ok, taken_below, lists_end}
 use Rattle.report.specs.FormChecks.{length_check, lengths_check, expressions_check, entries_check, relations_check, comparisons_check, queries_check, untaken_check, tables_check, kinds_check, form_check}
 use Rattle.report.specs.Formed.{Formed}
@@ -29,7 +29,6 @@ use Rattle.report.specs.GivenDemands.{Forms, EarlyFirst, PassesThroughout}
 use Rattle.report.specs.TypingFaults.{Broken, TypingFault, Breaks, NamedBy, Named}
 use Rattle.report.specs.declared.Refusal.{Refusal}
 use Rattle.report.specs.declared.Query.{Query}
-use Rattle.report.specs.declared.Verdict.{Verdict}
 use Rattle.report.specs.declared.Reading.{Reading}
 use Rattle.report.specs.Readings.{fails_by}
 use Rattle.report.proofs.VerdictLaws.{accepted_not_refused, then_refused, if_accepted, accepted_if, or_else_accepted}
@@ -60,8 +59,8 @@ module _ (T : Tables) where
 
 -- the answer accepts, or refuses by such a number
 data Numbered (test : ℕ → Bool) : Verdict → Type 0 where
-  accepts : Numbered test Verdict.Accepted
-  refuses : {r : Refusal} → test r.number ≡ true → Numbered test (Verdict.Refused r)
+  accepts : Numbered test (Ok tt)
+  refuses : {r : Refusal} → test r.number ≡ true → Numbered test (Err r)
 
 module _ {test : ℕ → Bool} where
   numbered_or : {a b : Verdict} → Numbered test a → Numbered test b → Numbered test (or_else a b)
@@ -72,9 +71,9 @@ module _ {test : ℕ → Bool} where
   numbered_if true r h = Numbered.refuses h
   numbered_if false r h = Numbered.accepts
 
-  numbered_at : (r : ℕ → Refusal) (x : Found) → ((k : ℕ) → test (r k).number ≡ true) → Numbered test (refuse_at r x)
-  numbered_at r Found.Nothing h = Numbered.accepts
-  numbered_at r (Found.At k) h = Numbered.refuses (h k)
+  numbered_at : (r : ℕ → Refusal) (x : Option ℕ) → ((k : ℕ) → test (r k).number ≡ true) → Numbered test (refuse_at r x)
+  numbered_at r None h = Numbered.accepts
+  numbered_at r (Some k) h = Numbered.refuses (h k)
 
   numbered_first : (check : ℕ → Verdict) (count from : ℕ) → ((k : ℕ) → Numbered test (check k)) → Numbered test (first_from check count from)
   numbered_first check zero from h = Numbered.accepts
@@ -88,7 +87,7 @@ module _ {test : ℕ → Bool} where
       let p = (and-eq-true_iff (test x.gives.number) (all_give test xs)).0 h in
       numbered_or (numbered_if x.holds x.gives p.0) (numbered_list xs p.1)
 
-  number_of : {v : Verdict} {r : Refusal} → Numbered test v → v ≡ Verdict.Refused r → test r.number ≡ true
+  number_of : {v : Verdict} {r : Refusal} → Numbered test v → v ≡ Err r → test r.number ≡ true
   number_of Numbered.accepts e = accepted_not_refused e refl
   number_of {r} (Numbered.refuses {r = s} h) e = let same : s ≡ r = cc in rw (← same) h
 
@@ -137,8 +136,8 @@ module _ (T : Tables) where
   typing_numbered R = go (typing_check T R) refl
     where
       go : (v : Verdict) → typing_check T R ≡ v → Numbered is_of_typing v
-      go Verdict.Accepted e = Numbered.accepts
-      go (Verdict.Refused r) e = Numbered.refuses (fault_number_lem T R r ((typing_refused T R r).0 e))
+      go (Ok tt) e = Numbered.accepts
+      go (Err r) e = Numbered.refuses (fault_number_lem T R r ((typing_refused T R r).0 e))
 
 -- what holds of each number of a list
 one_of : (test : ℕ → Bool) (ns : List ℕ) → every test ns ≡ true → (k : ℕ) → is_one_of ns k ≡ true → test k ≡ true
@@ -162,39 +161,39 @@ late_not k e = go (is_early k) (is_of_typing k) e
 -- ---- refused before typing
 
 module _ (G : Given) (early : EarlyFirst G) {call : Call} (own : OwnNumbers call) (R : Reading) where
-  before_early : (r : Refusal) → before_typing_to G call ≡ Verdict.Refused r → is_early r.number ≡ true
+  before_early : (r : Refusal) → before_typing_to G call ≡ Err r → is_early r.number ≡ true
   before_early r = go (first_of G.first) refl
     where
       go : (v : Verdict) → first_of G.first ≡ v
-          → or_else v (or_else (first_of (call.before_model G.tables)) (model_and_schema_check G.tables)) ≡ Verdict.Refused r → is_early r.number ≡ true
-      go Verdict.Accepted p u =
+          → or_else v (or_else (first_of (call.before_model G.tables)) (model_and_schema_check G.tables)) ≡ Err r → is_early r.number ≡ true
+      go (Ok tt) p u =
           number_of (numbered_or (numbered_list (call.before_model G.tables) (own.early G.tables)) (schema_numbered G.tables)) u
-      go (Verdict.Refused s) p u = early r (p ∙ u)
+      go (Err s) p u = early r (p ∙ u)
 
-  late : GetsTo G call → (r : Refusal) → answer_to G R call ≡ Verdict.Refused r → is_early r.number ≡ false
+  late : GetsTo G call → (r : Refusal) → answer_to G R call ≡ Err r → is_early r.number ≡ false
   late g r e = go (typing_check G.tables R) refl (sym (given_answer G R call g) ∙ e)
     where
-      go : (v : Verdict) → typing_check G.tables R ≡ v → or_else v (first_of (call.after_typing G.tables)) ≡ Verdict.Refused r → is_early r.number ≡ false
-      go Verdict.Accepted p u = (late_not r.number (number_of (numbered_list (call.after_typing G.tables) (own.late G.tables)) u)).0
-      go (Verdict.Refused s) p u = typing_not_early r.number (number_of (typing_numbered G.tables R) (p ∙ u))
+      go : (v : Verdict) → typing_check G.tables R ≡ v → or_else v (first_of (call.after_typing G.tables)) ≡ Err r → is_early r.number ≡ false
+      go (Ok tt) p u = (late_not r.number (number_of (numbered_list (call.after_typing G.tables) (own.late G.tables)) u)).0
+      go (Err s) p u = typing_not_early r.number (number_of (typing_numbered G.tables R) (p ∙ u))
 
   -- a call refuses by an early number exactly where it does not get as far as typing
-  pub given_early : ((r : Refusal) × (answer_to G R call ≡ Verdict.Refused r) × (is_early r.number ≡ true)) ↔ (GetsTo G call → ⊥)
+  pub given_early : ((r : Refusal) × (answer_to G R call ≡ Err r) × (is_early r.number ≡ true)) ↔ (GetsTo G call → ⊥)
   given_early = (
     λ p g. false≢true (sym (late g p.0 p.1) ∙ p.2),
     λ g. go g (before_typing_to G call) refl,
   )
     where
       go : (GetsTo G call → ⊥) → (v : Verdict) → before_typing_to G call ≡ v
-          → (r : Refusal) × (answer_to G R call ≡ Verdict.Refused r) × (is_early r.number ≡ true)
-      go g Verdict.Accepted e = absurd (g e)
-      go g (Verdict.Refused r) e = (r, given_before G R call e, before_early r e)
+          → (r : Refusal) × (answer_to G R call ≡ Err r) × (is_early r.number ≡ true)
+      go g (Ok tt) e = absurd (g e)
+      go g (Err r) e = (r, given_before G R call e, before_early r e)
 
 whole_early : (T : Tables) → EarlyFirst (whole T)
 whole_early T r e = number_of (form_numbered T) (sym (first_form T) ∙ e)
 
 pub refused_early : (T : Tables) {call : Call} → OwnNumbers call → (R : Reading)
-    → ((r : Refusal) × (answer T R call ≡ Verdict.Refused r) × (is_early r.number ≡ true)) ↔ (GetsAsFarAsTyping T call → ⊥)
+    → ((r : Refusal) × (answer T R call ≡ Err r) × (is_early r.number ≡ true)) ↔ (GetsAsFarAsTyping T call → ⊥)
 refused_early T own = given_early (whole T) (whole_early T) own
 
 -- the two calls' own numbers are of their places
@@ -208,17 +207,17 @@ configuring_own c r1 r2 r3 r4 = record { early = λ T. refl; late = λ T. refl }
 
 module _ (T : Tables) (R : Reading) where
   -- a call whose own conditions before 12 do not hold does so exactly where the tables are not sound
-  pub own_early : {call : Call} → OwnNumbers call → first_of (call.before_model T) ≡ Verdict.Accepted
-      → ((r : Refusal) × (answer T R call ≡ Verdict.Refused r) × (is_early r.number ≡ true)) ↔ (Sound T → ⊥)
+  pub own_early : {call : Call} → OwnNumbers call → first_of (call.before_model T) ≡ Ok tt
+      → ((r : Refusal) × (answer T R call ≡ Err r) × (is_early r.number ≡ true)) ↔ (Sound T → ⊥)
   own_early {call} own none =
       let e = refused_early T own R in (λ p s. e.0 p ((own_gets (whole T) call s).1 none), λ n. e.1 (λ g. n (gets_given (whole T) call g)))
 
   -- checking with 1,024 words of rows, and configuring
-  pub check_early : ((r : Refusal) × (answer T R (checking 1024) ≡ Verdict.Refused r) × (is_early r.number ≡ true)) ↔ (Sound T → ⊥)
+  pub check_early : ((r : Refusal) × (answer T R (checking 1024) ≡ Err r) × (is_early r.number ≡ true)) ↔ (Sound T → ⊥)
   check_early = own_early (checking_own 1024) (first_one _ _)
 
   pub configure_early : (c r1 r2 r3 r4 : ℕ)
-      → ((r : Refusal) × (answer T R (configuring c r1 r2 r3 r4) ≡ Verdict.Refused r) × (is_early r.number ≡ true)) ↔ (Sound T → ⊥)
+      → ((r : Refusal) × (answer T R (configuring c r1 r2 r3 r4) ≡ Err r) × (is_early r.number ≡ true)) ↔ (Sound T → ⊥)
   configure_early c r1 r2 r3 r4 = own_early (configuring_own c r1 r2 r3 r4) first_none
 
   -- ---- accepted
@@ -230,7 +229,7 @@ module _ (T : Tables) (R : Reading) where
 
   -- so it accepts them exactly where no form fails at any configuration
   pub accepted_exactly : Sound T
-      → (answer T R (checking 1024) ≡ Verdict.Accepted)
+      → (answer T R (checking 1024) ≡ Ok tt)
       ↔ ((c q phase : ℕ) → c < configurations T → q < query_count T → phase < 2 → fails_by T R c phase q ≡ false)
   accepted_exactly s = let e = check_typing s in (λ a. (typing_accepted T R).0 (sym e ∙ a), λ f. e ∙ (typing_accepted T R).1 f)
 
@@ -391,12 +390,12 @@ module _ {T : Tables} (F : Formed T) where
   typing_broken = (forth (typing_check T Reading.Strict) refl, back (typing_check T Reading.Strict) refl)
     where
       forth : (v : Verdict) → typing_check T Reading.Strict ≡ v → is_typing_fault v ≡ true → Broken T
-      forth Verdict.Accepted e t = absurd (false≢true t)
-      forth (Verdict.Refused r) e t = let b = fault_breaks r ((typing_refused T Reading.Strict r).0 e) in (r.configuration, b.permits, b.report_breaks)
+      forth (Ok tt) e t = absurd (false≢true t)
+      forth (Err r) e t = let b = fault_breaks r ((typing_refused T Reading.Strict r).0 e) in (r.configuration, b.permits, b.report_breaks)
 
       back : (v : Verdict) → typing_check T Reading.Strict ≡ v → Broken T → is_typing_fault v ≡ true
-      back Verdict.Accepted e b = absurd (false≢true (sym b.2 ∙ (typing_passes F).0 e b.0 b.1))
-      back (Verdict.Refused r) e b = fault_number_lem T Reading.Strict r ((typing_refused T Reading.Strict r).0 e)
+      back (Ok tt) e b = absurd (false≢true (sym b.2 ∙ (typing_passes F).0 e b.0 b.1))
+      back (Err r) e b = fault_number_lem T Reading.Strict r ((typing_refused T Reading.Strict r).0 e)
 
 -- what comes after typing is no typing fault
 no_fault : {v : Verdict} → Numbered is_late v → is_typing_fault v ≡ false
@@ -404,8 +403,8 @@ no_fault Numbered.accepts = refl
 no_fault (Numbered.refuses {r} h) = (late_not r.number h).1
 
 late_fault : (t : Verdict) (xs : List Condition) → all_give is_late xs ≡ true → is_typing_fault (or_else t (first_of xs)) ≡ is_typing_fault t
-late_fault Verdict.Accepted xs h = no_fault (numbered_list xs h)
-late_fault (Verdict.Refused r) xs h = refl
+late_fault (Ok tt) xs h = no_fault (numbered_list xs h)
+late_fault (Err r) xs h = refl
 
 -- a call that gets as far as typing refuses for a typing fault exactly where typing refuses
 pub given_fault : (G : Given) (R : Reading) {call : Call} → OwnNumbers call → GetsTo G call
@@ -430,8 +429,8 @@ module _ {T : Tables} (F : Formed T) {v : Verdict} (xs : List Condition) (late_n
     typed_named e = go (typing_check T Reading.Strict) refl (sym same_fault ∙ e)
       where
         go : (t : Verdict) → typing_check T Reading.Strict ≡ t → is_typing_fault (typing_check T Reading.Strict) ≡ true → NamedBy T v
-        go Verdict.Accepted p t = absurd (false≢true (sym (ap is_typing_fault p) ∙ t))
-        go (Verdict.Refused r) p t =
+        go (Ok tt) p t = absurd (false≢true (sym (ap is_typing_fault p) ∙ t))
+        go (Err r) p t =
             let f = (typing_refused T Reading.Strict r).0 p in
             record { refuses = r; answers = is ∙ then_refused _ p; fault = f; lowest_item = fault_item F r f; breaks = fault_breaks F r f }
 

@@ -17,7 +17,7 @@ use Rattle.report.specs.Tables.{relation_start, relations_end, project_length, p
 use Rattle.report.specs.Typing.{entry_holds, present}
 use Rattle.report.specs.FormChecks.{list_fits, relation_ok, query_ok, relations_check, comparisons_check, queries_check, tables_check, kinds_check, form_check}
 use Rattle.report.specs.Formed.{Formed}
-use Rattle.report.specs.Verdicts.{refusal, refuse_at, or_else, first_of}
+use Rattle.report.specs.Verdicts.{Verdict, refusal, refuse_at, or_else, first_of}
 use Rattle.report.specs.Checks.{model_and_schema_check, typing_check}
 use Rattle.report.specs.Calls.{Call, answer}
 use Rattle.report.specs.Configuring.{query_words_of, query_kept, new_relation, new_comparison, new_query}
@@ -25,7 +25,6 @@ use Rattle.report.specs.Configuring.{all_stay, entry_kept, kept_length, kept_lis
 use Rattle.report.specs.ConfiguredReport.{kept_attributes}
 use Rattle.report.specs.Repeats.{repeats, NoRepeats, relation_repeats, project_repeats, relations_check_before, queries_check_before}
 use Rattle.report.specs.Repeats.{tables_check_with, answer_before, held_length, held_list, held_attributes, configured_before}
-use Rattle.report.specs.declared.Verdict.{Verdict}
 use Rattle.report.specs.declared.Query.{Query}
 use Rattle.report.specs.declared.Reading.{Reading}
 use Rattle.report.proofs.FormFacts.{Listing, project, unlisted, listing}

@@ -1,5 +1,6 @@
 -- The typing rules (specs/Rules) hold exactly where the configured report passes the plain rules; checking accepts exactly where they do, and the column
 -- rows are those of the rules.
+use Rattle.std.specs.Prelude.{Ok}
 use Prim.Native.Nat.{ℕ, ◌^◌, ◌<◌}
 use mathlib.Core.Path.{◌≡◌, refl, sym, ap, ap₂, ◌∙◌, fun_ext}
 use mathlib.Core.Bool.{Bool, true, false, cond, ◌&&◌, ◌||◌}
@@ -22,7 +23,6 @@ use Rattle.report.specs.Formed.{Formed}
 use Rattle.report.specs.Calls.{answer, Sound, checking}
 use Rattle.report.specs.GivenDemands.{RulesThroughout, PassesThroughout}
 use Rattle.report.specs.declared.Query.{Query}
-use Rattle.report.specs.declared.Verdict.{Verdict}
 use Rattle.report.specs.declared.Reading.{Reading}
 use Rattle.report.proofs.ValueLaws.{strong}
 use Rattle.report.proofs.StepLaws.{set_in}
@@ -141,11 +141,11 @@ module _ {T : Tables} (F : Formed T) (S : ℕ → ℕ → ℕ) (keep : (c : ℕ)
 
 module _ (T : Tables) (sound : Sound T) where
   -- where a check accepts the definition's sets keep the rules
-  pub accepted_sets : answer T Reading.Strict (checking 1024) ≡ Verdict.Accepted → (c : ℕ) → permitted T c ≡ true → Rules T c (set_of T c)
+  pub accepted_sets : answer T Reading.Strict (checking 1024) ≡ Ok tt → (c : ℕ) → permitted T c ≡ true → Rules T c (set_of T c)
   accepted_sets e c p = sets_rules (sound_formed T sound) c p (λ q phase. (accepted_exactly T Reading.Strict sound).0 e c q phase (permitted_within T c p))
 
   -- of sound tables a check with 1,024 words of rows accepts exactly where at each permitted configuration there are sets that keep the rules
-  pub accepted_rules : (answer T Reading.Strict (checking 1024) ≡ Verdict.Accepted) ↔ RulesThroughout T
+  pub accepted_rules : (answer T Reading.Strict (checking 1024) ≡ Ok tt) ↔ RulesThroughout T
   accepted_rules =
       let same = check_typing T Reading.Strict sound in
       let typed = typing_passes (sound_formed T sound) in

@@ -1,5 +1,6 @@
 -- Of a report that the strict reading accepts configuring writes the same tables in both readings. So the functions that write need not be told the
 -- reading: they may write as in the filled one.
+use Rattle.std.specs.Prelude.{Ok}
 use Prim.Native.Nat.{ℕ, ◌+◌}
 use mathlib.Core.Path.{◌≡◌, refl, ap}
 use mathlib.Core.Bool.{Bool, true, false, cond}
@@ -16,7 +17,6 @@ use Rattle.report.specs.Formed.{Formed}
 use Rattle.report.specs.Checks.{typing_check}
 use Rattle.report.specs.declared.Query.{Query}
 use Rattle.report.specs.declared.Reading.{Reading}
-use Rattle.report.specs.declared.Verdict.{Verdict}
 use Rattle.report.proofs.RulesMembers.{subset_members}
 use Rattle.report.proofs.StayLaws.{list_same, length_same}
 use Rattle.report.proofs.LeadLaws.{form_at}
@@ -25,7 +25,7 @@ use Rattle.report.proofs.ReachLaws.{reached_in, kept_both}
 use Rattle.report.proofs.TreeLaws.{reached-permitted, keeps_where}
 use Rattle.report.proofs.TypingLaws.{permitted_within, typing_accepted}
 
-module _ {T : Tables} (F : Formed T) (e : typing_check T Reading.Strict ≡ Verdict.Accepted) (c : ℕ) where
+module _ {T : Tables} (F : Formed T) (e : typing_check T Reading.Strict ≡ Ok tt) (c : ℕ) where
   -- one form that is kept
   same_form : (q : ℕ) (y : Query) → Rule T c (set_of T c) q y
       → (project_list_of T c Reading.Filled q y ≡ project_list_of T c Reading.Strict q y) × (query_form_of T c Reading.Filled q y ≡ query_form_of T c Reading.Strict q y)

@@ -1,4 +1,5 @@
 -- What the typing check accepts and what it names when it refuses; and what the column rows show.
+use Rattle.std.specs.Prelude.{Option, Some, None, Ok, Err}
 use Prim.Native.Nat.{ℕ, zero, suc, ◌<◌}
 use mathlib.Core.Path.{◌≡◌, refl, sym, ap, ap₂, ◌∙◌, subst}
 use mathlib.Core.Bool.{Bool, true, false, cond, ◌&&◌, not, and-eq-true_iff, false≢true}
@@ -10,7 +11,6 @@ use borrow.Author.Tests.{ltb-true, eqb-true, eq-eqb, not-false}
 use lib.ListN.{length}
 use lib.Dec.{eqb}
 use lib.Pow.{pow_mono}
-use Rattle.sets.specs.declared.Found.{Found}
 use Rattle.sets.specs.Search.{lowest, First}
 use Rattle.sets.specs.Bits.{bit}
 use Rattle.sets.specs.Rows.{row_bit, row_in}
@@ -25,13 +25,12 @@ use Rattle.report.specs.Readings.{faults_by, fails_by}
 use Rattle.report.specs.ColumnRows.{has_column, column_row, column_rows, shown}
 use Rattle.report.specs.PlainAlgebra.{passes}
 use Rattle.report.specs.ConfiguredReport.{configured_report, configured_schema}
-use Rattle.report.specs.Verdicts.{refusal, refuse_at}
+use Rattle.report.specs.Verdicts.{Verdict, refusal, refuse_at}
 use Rattle.report.specs.Checks.{rule_number, fault_number, fault_refusal, phase_at, typing_at, typing_check, is_of_typing, is_typing_fault}
 use Rattle.report.specs.Formed.{Formed}
 use Rattle.report.specs.TypingFaults.{TypingFault}
 use Rattle.report.specs.declared.Query.{Query}
 use Rattle.report.specs.declared.Refusal.{Refusal}
-use Rattle.report.specs.declared.Verdict.{Verdict}
 use Rattle.report.specs.declared.Reading.{Reading}
 use Rattle.report.proofs.VerdictLaws.{accepted_not_refused, at_accepted, first_accepted, accepted_first, refused_first, first_refused}
 use Rattle.report.proofs.FormedFacts.{report_in}
@@ -59,20 +58,20 @@ fails_permitted T R c phase q e = reached-permitted T c q ((fails_by_lem T R c p
 -- ---- what the typing check accepts
 
 module _ (T : Tables) (R : Reading) where
-  phase_accepted : (q phase : ℕ) → (phase_at T R q phase ≡ Verdict.Accepted) ↔ ((c : ℕ) → c < configurations T → fails_by T R c phase q ≡ false)
+  phase_accepted : (q phase : ℕ) → (phase_at T R q phase ≡ Ok tt) ↔ ((c : ℕ) → c < configurations T → fails_by T R c phase q ≡ false)
   phase_accepted q phase = (
     λ e. lowest_nothing (λ c. fails_by T R c phase q) (configurations T) (at_accepted _ _ e),
     λ f. ap (refuse_at _) (nothing_lowest (λ c. fails_by T R c phase q) (configurations T) f),
   )
 
-  form_accepted : (q : ℕ) → (typing_at T R q ≡ Verdict.Accepted) ↔ ((phase c : ℕ) → phase < 2 → c < configurations T → fails_by T R c phase q ≡ false)
+  form_accepted : (q : ℕ) → (typing_at T R q ≡ Ok tt) ↔ ((phase c : ℕ) → phase < 2 → c < configurations T → fails_by T R c phase q ≡ false)
   form_accepted q = (
     λ e phase c h. (phase_accepted q phase).0 (first_accepted (phase_at T R q) 2 0 e phase (omega arith) (omega arith)) c,
     λ f. accepted_first (phase_at T R q) 2 0 (λ phase l h. (phase_accepted q phase).1 (λ c. f phase c (omega arith))),
   )
 
   -- that no form fails at any configuration, in either phase
-  pub typing_accepted : (typing_check T R ≡ Verdict.Accepted)
+  pub typing_accepted : (typing_check T R ≡ Ok tt)
       ↔ ((c q phase : ℕ) → c < configurations T → q < query_count T → phase < 2 → fails_by T R c phase q ≡ false)
   unfolding typing_check
   typing_accepted = (
@@ -82,7 +81,7 @@ module _ (T : Tables) (R : Reading) where
 
 module _ {T : Tables} (F : Formed T) where
   -- strictly, so that the configured report passes at every permitted configuration
-  pub typing_passes : (typing_check T Reading.Strict ≡ Verdict.Accepted) ↔ ((c : ℕ) → permitted T c ≡ true → passes (kind_of T) (configured_schema T c) (configured_report T c Reading.Strict) ≡ true)
+  pub typing_passes : (typing_check T Reading.Strict ≡ Ok tt) ↔ ((c : ℕ) → permitted T c ≡ true → passes (kind_of T) (configured_schema T c) (configured_report T c Reading.Strict) ≡ true)
   typing_passes = (
     λ e c p. (report-passes F c p).1 (λ q phase. (typing_accepted T Reading.Strict).0 e c q phase (permitted_within T c p)),
     λ f. (typing_accepted T Reading.Strict).1
@@ -105,7 +104,7 @@ module _ {T : Tables} (F : Formed T) where
       go true e = refl
       go false e = eq-eqb _ 0 (sym (faults_other T Reading.Filled c 0 q e) ∙ none 0 (omega arith))
 
-  pub typed_passes : (R : Reading) → typing_check T R ≡ Verdict.Accepted → (c : ℕ) → permitted T c ≡ true
+  pub typed_passes : (R : Reading) → typing_check T R ≡ Ok tt → (c : ℕ) → permitted T c ≡ true
       → passes (kind_of T) (configured_schema T c) (configured_report T c R) ≡ true
   typed_passes Reading.Strict e c ok = typing_passes.0 e c ok
   typed_passes Reading.Filled e c ok =
@@ -117,7 +116,7 @@ module _ {T : Tables} (F : Formed T) where
 
 module _ (T : Tables) (R : Reading) where
   told_fault : (q phase c : ℕ) → q < query_count T → phase < 2 → First (λ d. fails_by T R d phase q) (configurations T) c
-      → ((p : ℕ) → p < phase → phase_at T R q p ≡ Verdict.Accepted) → ((p : ℕ) → p < q → typing_at T R p ≡ Verdict.Accepted)
+      → ((p : ℕ) → p < phase → phase_at T R q p ≡ Ok tt) → ((p : ℕ) → p < q → typing_at T R p ≡ Ok tt)
       → TypingFault T R (fault_refusal T R q phase c)
   told_fault q phase c h n f earlier before = record {
     inside = h;
@@ -132,16 +131,16 @@ module _ (T : Tables) (R : Reading) where
     lower_configurations = f.before;
   }
 
-  phase_refused : (q phase : ℕ) (r : Refusal) → phase_at T R q phase ≡ Verdict.Refused r
+  phase_refused : (q phase : ℕ) (r : Refusal) → phase_at T R q phase ≡ Err r
       → (c : ℕ) × (First (λ d. fails_by T R d phase q) (configurations T) c) × (fault_refusal T R q phase c ≡ r)
   phase_refused q phase r e = go (lowest (λ c. fails_by T R c phase q) (configurations T)) refl e
     where
-      go : (x : Found) → lowest (λ c. fails_by T R c phase q) (configurations T) ≡ x → refuse_at (fault_refusal T R q phase) x ≡ Verdict.Refused r
+      go : (x : Option ℕ) → lowest (λ c. fails_by T R c phase q) (configurations T) ≡ x → refuse_at (fault_refusal T R q phase) x ≡ Err r
           → (c : ℕ) × (First (λ d. fails_by T R d phase q) (configurations T) c) × (fault_refusal T R q phase c ≡ r)
-      go Found.Nothing p u = accepted_not_refused u refl
-      go (Found.At c) p u = (c, lowest_at (λ d. fails_by T R d phase q) (configurations T) c p, cc)
+      go None p u = accepted_not_refused u refl
+      go (Some c) p u = (c, lowest_at (λ d. fails_by T R d phase q) (configurations T) c p, cc)
 
-  fault_of : (r : Refusal) → typing_check T R ≡ Verdict.Refused r → TypingFault T R r
+  fault_of : (r : Refusal) → typing_check T R ≡ Err r → TypingFault T R r
   unfolding typing_check
   fault_of r e =
       let f = first_refused (typing_at T R) (query_count T) 0 r e in
@@ -152,7 +151,7 @@ module _ (T : Tables) (R : Reading) where
       subst (TypingFault T R) a.2
       (told_fault f.at g.at a.0 (omega arith) (omega arith) a.1 (λ p l. g.before p (omega arith) l) (λ p l. f.before p (omega arith) l))
 
-  of_fault : (r : Refusal) → TypingFault T R r → typing_check T R ≡ Verdict.Refused r
+  of_fault : (r : Refusal) → TypingFault T R r → typing_check T R ≡ Err r
   unfolding typing_check
   of_fault r f =
       let h = f.inside in
@@ -164,10 +163,10 @@ module _ (T : Tables) (R : Reading) where
       (ap (refuse_at (fault_refusal T R r.place f.phase))
       (at_lowest (λ c. fails_by T R c f.phase r.place) (configurations T) r.configuration
       (record { below = permitted_within T r.configuration f.permits; holds = f.failing; before = f.lower_configurations }))
-      ∙ ap₂ (λ (n i : ℕ). Verdict.Refused (refusal n r.place i r.configuration)) (sym f.numbered) (sym f.item_of)))
+      ∙ ap₂ (λ (n i : ℕ). Err (refusal n r.place i r.configuration)) (sym f.numbered) (sym f.item_of)))
 
   -- the typing check refuses by r exactly where r is that refusal, so there is one
-  pub typing_refused : (r : Refusal) → (typing_check T R ≡ Verdict.Refused r) ↔ TypingFault T R r
+  pub typing_refused : (r : Refusal) → (typing_check T R ≡ Err r) ↔ TypingFault T R r
   typing_refused r = (fault_of r, of_fault r)
 
   pub typing_one : (r s : Refusal) → TypingFault T R r → TypingFault T R s → r ≡ s
@@ -192,19 +191,19 @@ module _ (T : Tables) (R : Reading) where
   phase_number c (suc phase) q f = refl
 
   -- the number is one of 15 to 19, or 25
-  pub fault_number_lem : (r : Refusal) → TypingFault T R r → is_typing_fault (Verdict.Refused r) ≡ true
+  pub fault_number_lem : (r : Refusal) → TypingFault T R r → is_typing_fault (Err r) ≡ true
   fault_number_lem r f =
       ap is_of_typing f.numbered
       ∙ phase_number r.configuration f.phase r.place
       (λ z. ((fails_by_lem T R r.configuration f.phase r.place).0 f.failing).1 (faults_fewer T R r.configuration f.phase r.place z))
 
   -- so it accepts, or refuses for a typing fault
-  pub fault_accepted : (is_typing_fault (typing_check T R) ≡ false) ↔ (typing_check T R ≡ Verdict.Accepted)
+  pub fault_accepted : (is_typing_fault (typing_check T R) ≡ false) ↔ (typing_check T R ≡ Ok tt)
   fault_accepted = (forth (typing_check T R) refl, λ e. ap is_typing_fault e)
     where
-      forth : (v : Verdict) → typing_check T R ≡ v → is_typing_fault v ≡ false → v ≡ Verdict.Accepted
-      forth Verdict.Accepted e t = refl
-      forth (Verdict.Refused r) e t = absurd (false≢true (sym t ∙ fault_number_lem r (fault_of r e)))
+      forth : (v : Verdict) → typing_check T R ≡ v → is_typing_fault v ≡ false → v ≡ Ok tt
+      forth (Ok tt) e t = refl
+      forth (Err r) e t = absurd (false≢true (sym t ∙ fault_number_lem r (fault_of r e)))
 
 -- a form that fails anywhere is refused, or a lower one is
 pub fails_refused : {T : Tables} → Formed T → (R : Reading) (c phase q : ℕ) → phase < 2 → fails_by T R c phase q ≡ true
@@ -212,11 +211,11 @@ pub fails_refused : {T : Tables} → Formed T → (R : Reading) (c phase q : ℕ
 fails_refused {T} F R c phase q n f = go (typing_check T R) refl
   where
     go : (v : Verdict) → typing_check T R ≡ v → is_typing_fault v ≡ true
-    go Verdict.Accepted e =
+    go (Ok tt) e =
         let r = ((fails_by_lem T R c phase q).0 f).0 in
         let ok = reached-permitted T c q r in
         absurd (false≢true (sym ((typing_accepted T R).0 e c q phase (permitted_within T c ok) (reached_in F c ok q r) n) ∙ f))
-    go (Verdict.Refused r) e = fault_number_lem T R r ((typing_refused T R r).0 e)
+    go (Err r) e = fault_number_lem T R r ((typing_refused T R r).0 e)
 
 -- the item is the lowest of those at fault
 module _ {T : Tables} (F : Formed T) {R : Reading} (r : Refusal) (f : TypingFault T R r) where

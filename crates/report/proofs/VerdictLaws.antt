@@ -1,74 +1,77 @@
 -- Laws of answers and of checks that follow one another (specs/Verdicts).
+use Rattle.std.specs.Prelude.{Option, Some, None, Ok, Err}
 use Prim.Native.Nat.{ℕ, zero, suc, ◌+◌, ◌≤◌, ◌<◌}
 use mathlib.Core.Path.{◌≡◌, refl, sym, ap, ◌∙◌}
 use mathlib.Core.Bool.{Bool, true, false}
 use mathlib.Core.Logic.{⊎_elim}
 use native.Mathlib.Nat.{eq-or-lt_of_le, le_refl}
 use native.Mathlib.Omega.{arith}
-use Rattle.sets.specs.declared.Found.{Found}
-use Rattle.report.specs.Verdicts.{refuse_if, refuse_at, or_else, first_from}
+use Rattle.report.specs.Verdicts.{Verdict, refuse_if, refuse_at, or_else, first_from}
 use Rattle.report.specs.declared.Refusal.{Refusal}
-use Rattle.report.specs.declared.Verdict.{Verdict}
 
 -- an answer is not both
-pub accepted_not_refused : {A : Type 0} {v : Verdict} {r : Refusal} → v ≡ Verdict.Refused r → v ≡ Verdict.Accepted → A
+pub accepted_not_refused : {A : Type 0} {v : Verdict} {r : Refusal} → v ≡ Err r → v ≡ Ok tt → A
 accepted_not_refused e f = absurd (let z : ◌≡◌ {A = ℕ} 0 1 = cc in omega arith)
 
 -- ---- one check, and then another
 
 pub or_else_assoc : (a b c : Verdict) → or_else (or_else a b) c ≡ or_else a (or_else b c)
-or_else_assoc Verdict.Accepted b c = refl
-or_else_assoc (Verdict.Refused r) b c = refl
+or_else_assoc (Ok tt) b c = refl
+or_else_assoc (Err r) b c = refl
 
-pub or_else_accepted : (a : Verdict) → or_else a Verdict.Accepted ≡ a
-or_else_accepted Verdict.Accepted = refl
-or_else_accepted (Verdict.Refused r) = refl
+pub or_else_accepted : (a : Verdict) → or_else a (Ok tt) ≡ a
+or_else_accepted (Ok tt) = refl
+or_else_accepted (Err r) = refl
 
-pub both_accepted : (a b : Verdict) → or_else a b ≡ Verdict.Accepted → (a ≡ Verdict.Accepted) × (b ≡ Verdict.Accepted)
-both_accepted Verdict.Accepted b e = (refl, e)
-both_accepted (Verdict.Refused r) b e = accepted_not_refused refl e
+pub both_accepted : (a b : Verdict) → or_else a b ≡ Ok tt → (a ≡ Ok tt) × (b ≡ Ok tt)
+both_accepted (Ok tt) b e = (refl, e)
+both_accepted (Err r) b e = accepted_not_refused refl e
 
-pub accepted_both : {a b : Verdict} → a ≡ Verdict.Accepted → b ≡ Verdict.Accepted → or_else a b ≡ Verdict.Accepted
+pub accepted_both : {a b : Verdict} → a ≡ Ok tt → b ≡ Ok tt → or_else a b ≡ Ok tt
 accepted_both {b} p q = ap (λ (x : Verdict). or_else x b) p ∙ q
 
 -- after a check that accepts, the answer is the next one's; a refusal stands
-pub then_next : {a b : Verdict} → a ≡ Verdict.Accepted → or_else a b ≡ b
+pub then_next : {a b : Verdict} → a ≡ Ok tt → or_else a b ≡ b
 then_next {b} e = ap (λ (x : Verdict). or_else x b) e
 
-pub then_refused : {a : Verdict} {r : Refusal} (b : Verdict) → a ≡ Verdict.Refused r → or_else a b ≡ Verdict.Refused r
+pub then_refused : {a : Verdict} {r : Refusal} (b : Verdict) → a ≡ Err r → or_else a b ≡ Err r
 then_refused b e = ap (λ (x : Verdict). or_else x b) e
 
 -- ---- a condition, and what a search found
 
-pub if_accepted : (t : Bool) (r : Refusal) → refuse_if t r ≡ Verdict.Accepted → t ≡ false
+pub if_accepted : (t : Bool) (r : Refusal) → refuse_if t r ≡ Ok tt → t ≡ false
 if_accepted true r e = accepted_not_refused refl e
 if_accepted false r e = refl
 
-pub accepted_if : {t : Bool} (r : Refusal) → t ≡ false → refuse_if t r ≡ Verdict.Accepted
+pub if_refused : (t : Bool) (r : Refusal) {x : Refusal} → refuse_if t r ≡ Err x → t ≡ true
+if_refused true r e = refl
+if_refused false r e = accepted_not_refused e refl
+
+pub accepted_if : {t : Bool} (r : Refusal) → t ≡ false → refuse_if t r ≡ Ok tt
 accepted_if r e = ap (λ (t : Bool). refuse_if t r) e
 
-pub at_accepted : (r : ℕ → Refusal) (f : Found) → refuse_at r f ≡ Verdict.Accepted → f ≡ Found.Nothing
-at_accepted r Found.Nothing e = refl
-at_accepted r (Found.At k) e = accepted_not_refused refl e
+pub at_accepted : (r : ℕ → Refusal) (f : Option ℕ) → refuse_at r f ≡ Ok tt → f ≡ None
+at_accepted r None e = refl
+at_accepted r (Some k) e = accepted_not_refused refl e
 
 -- ---- checks of ascending numbers
 
-pub first_accepted : (check : ℕ → Verdict) (n from : ℕ) → first_from check n from ≡ Verdict.Accepted
-    → (k : ℕ) → from ≤ k → k < from + n → check k ≡ Verdict.Accepted
+pub first_accepted : (check : ℕ → Verdict) (n from : ℕ) → first_from check n from ≡ Ok tt
+    → (k : ℕ) → from ≤ k → k < from + n → check k ≡ Ok tt
 first_accepted check zero from e k l h = absurd (omega arith)
 first_accepted check (suc n) from e k l h =
     let p = both_accepted (check from) (first_from check n (suc from)) e in
     ⊎_elim (λ (s : from ≡ k). ap check (sym s) ∙ p.0) (λ (m : from < k). first_accepted check n (suc from) p.1 k m (omega arith)) (eq-or-lt_of_le l)
 
-pub accepted_first : (check : ℕ → Verdict) (n from : ℕ) → ((k : ℕ) → from ≤ k → k < from + n → check k ≡ Verdict.Accepted)
-    → first_from check n from ≡ Verdict.Accepted
+pub accepted_first : (check : ℕ → Verdict) (n from : ℕ) → ((k : ℕ) → from ≤ k → k < from + n → check k ≡ Ok tt)
+    → first_from check n from ≡ Ok tt
 accepted_first check zero from h = refl
 accepted_first check (suc n) from h =
     accepted_both (h from (le_refl from) (omega arith)) (accepted_first check n (suc from) (λ k l m. h k (omega arith) (omega arith)))
 
 -- the first check that refuses, where those before it accept
 pub refused_first : (check : ℕ → Verdict) (n from k : ℕ) (r : Refusal) → from ≤ k → k < from + n
-    → ((j : ℕ) → from ≤ j → j < k → check j ≡ Verdict.Accepted) → check k ≡ Verdict.Refused r → first_from check n from ≡ Verdict.Refused r
+    → ((j : ℕ) → from ≤ j → j < k → check j ≡ Ok tt) → check k ≡ Err r → first_from check n from ≡ Err r
 refused_first check zero from k r l h before e = absurd (omega arith)
 refused_first check (suc n) from k r l h before e =
     ⊎_elim
@@ -81,15 +84,15 @@ pub record FirstRefusal (check : ℕ → Verdict) (from n : ℕ) (r : Refusal) :
   pub at : ℕ
   pub least : from ≤ at
   pub below : at < from + n
-  pub gave : check at ≡ Verdict.Refused r
-  pub before : (j : ℕ) → from ≤ j → j < at → check j ≡ Verdict.Accepted
+  pub gave : check at ≡ Err r
+  pub before : (j : ℕ) → from ≤ j → j < at → check j ≡ Ok tt
 
-pub first_refused : (check : ℕ → Verdict) (n from : ℕ) (r : Refusal) → first_from check n from ≡ Verdict.Refused r → FirstRefusal check from n r
+pub first_refused : (check : ℕ → Verdict) (n from : ℕ) (r : Refusal) → first_from check n from ≡ Err r → FirstRefusal check from n r
 first_refused check zero from r e = accepted_not_refused e refl
 first_refused check (suc n) from r e = go (check from) refl (first_refused check n (suc from) r)
   where
-    go : (v : Verdict) → check from ≡ v → (first_from check n (suc from) ≡ Verdict.Refused r → FirstRefusal check (suc from) n r) → FirstRefusal check from (suc n) r
-    go Verdict.Accepted p ih =
+    go : (v : Verdict) → check from ≡ v → (first_from check n (suc from) ≡ Err r → FirstRefusal check (suc from) n r) → FirstRefusal check from (suc n) r
+    go (Ok tt) p ih =
         let f = ih (sym (then_next p) ∙ e) in
         record {
           at = f.at;
@@ -98,7 +101,7 @@ first_refused check (suc n) from r e = go (check from) refl (first_refused check
           gave = f.gave;
           before = λ j l h. ⊎_elim (λ (s : from ≡ j). ap check (sym s) ∙ p) (λ (m : from < j). f.before j m h) (eq-or-lt_of_le l);
         }
-    go (Verdict.Refused x) p ih =
+    go (Err x) p ih =
         record {
           at = from;
           least = le_refl from;

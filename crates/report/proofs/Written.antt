@@ -1,5 +1,6 @@
 -- The tables that configuring writes are, as a tree, the configured report with its relations renumbered, under the configured schema renumbered
 -- (docs/FORMAT.md, "Configuring"). Nothing here asks that the report passes, only that every relation that c reaches is present.
+use Rattle.std.specs.Prelude.{Ok}
 use Prim.Native.Nat.{ℕ, ◌<◌, ◌≤◌}
 use mathlib.Core.Path.{◌≡◌, refl, sym, ap, ap₂, ◌∙◌}
 use mathlib.Core.Bool.{Bool, true, false, ◌&&◌, ◌||◌, false≢true}
@@ -20,7 +21,6 @@ use Rattle.report.specs.PlainAlgebra.{PlainQuery, Schema, Kinds, comparison_keep
 use Rattle.report.specs.ConfiguredReport.{kept_attributes, plain_query_of, plain_query_at, configured_report, configured_schema, plain_relation, plain_staying}
 use Rattle.report.specs.WrittenTables.{renamed, WrittenTables}
 use Rattle.report.specs.declared.Query.{Query}
-use Rattle.report.specs.declared.Verdict.{Verdict}
 use Rattle.report.specs.declared.Reading.{Reading}
 use Rattle.report.proofs.ValueLaws.{strong}
 use Rattle.report.proofs.Formed.{formed_accepted}
@@ -200,7 +200,7 @@ module _ {T : Tables} (F : Formed T) (c : ℕ) (R : Reading) (ok : permitted T c
 
 -- checks 1 to 10 and 24 accept what is written of tables with at most 512 entries
 pub tables_accepted : {T : Tables} → Formed T → entry_count T ≤ 512 → (c : ℕ) (R : Reading) → permitted T c ≡ true → RelationsPresent T c R
-    → form_check (configured T c R) ≡ Verdict.Accepted
+    → form_check (configured T c R) ≡ Ok tt
 tables_accepted {T} F few c R ok P = formed_accepted (configured T c R) (written_formed F c R ok P) (let m = entries_room F c R in omega arith)
 
 pub tables_written : {T : Tables} → Formed T → (c : ℕ) (R : Reading) → permitted T c ≡ true → RelationsPresent T c R → WrittenTables T c R

@@ -1,4 +1,5 @@
 -- The tables that configuring writes for an accepted report are accepted, and show at 0 what the report shows at c (docs/FORMAT.md, "Configuring").
+use Rattle.std.specs.Prelude.{Ok}
 use Prim.Native.Nat.{ℕ, zero, suc, ◌<◌, ◌≤◌}
 use mathlib.Core.Path.{◌≡◌, refl, sym, ap, ap₂, ◌∙◌}
 use mathlib.Core.Logic.{◌≢◌}
@@ -24,7 +25,6 @@ use Rattle.report.specs.Checks.{somewhere, relation_check, apart_everywhere, mod
 use Rattle.report.specs.Calls.{Call, Given, answer_to, whole, answer, Sound, checking, configuring}
 use Rattle.report.specs.GivenDemands.{Forms}
 use Rattle.report.specs.WrittenTables.{WrittenTables, WrittenAccepted, WrittenTyped}
-use Rattle.report.specs.declared.Verdict.{Verdict}
 use Rattle.report.specs.declared.Reading.{Reading}
 use Rattle.report.proofs.VerdictLaws.{accepted_both, accepted_if, accepted_first}
 use Rattle.report.proofs.FirstFault.{first_own, room_fits}
@@ -112,7 +112,7 @@ module _ (T : Tables) (c : ℕ) (R : Reading) where
 
 module _ {T : Tables} (F : Formed T) (c : ℕ) (R : Reading) where
   -- 13 and 14
-  relation_accepted : (r : ℕ) → r < relation_count (configured T c R) → relation_check (configured T c R) r ≡ Verdict.Accepted
+  relation_accepted : (r : ℕ) → r < relation_count (configured T c R) → relation_check (configured T c R) r ≡ Ok tt
   relation_accepted r h =
       let U = configured T c R in
       accepted_both (accepted_if _ (ap not (at_zero T c R (λ d. at U d (relation_expression U.relations r)) (relation_holds F c R r h))))
@@ -124,7 +124,7 @@ module _ {T : Tables} (F : Formed T) (c : ℕ) (R : Reading) where
       (ap₂ ◌&&◌ (relation_holds F c R r h) (entry_holds_lem F c R i))))))
 
   -- 12 to 14
-  schema_accepted : model_and_schema_check (configured T c R) ≡ Verdict.Accepted
+  schema_accepted : model_and_schema_check (configured T c R) ≡ Ok tt
   schema_accepted =
       accepted_both (accepted_if _ (ap not (at_zero T c R (λ d. true) refl)))
       (accepted_first (relation_check (configured T c R)) (relation_count (configured T c R)) 0 (λ r l h. relation_accepted r (omega arith)))
@@ -142,7 +142,7 @@ module _ {T : Tables} (F : Formed T) (c : ℕ) (R : Reading) where
     written_passes zero p = passes_written F c R ok (passes-present F c R ok good) ∙ good
     written_passes (suc d) p = absurd (false≢true (sym (only_zero T c R (suc d) (omega arith)) ∙ p))
 
-    written_typed : typing_check (configured T c R) Reading.Strict ≡ Verdict.Accepted
+    written_typed : typing_check (configured T c R) Reading.Strict ≡ Ok tt
     written_typed = (typing_passes written_formed).1 written_passes
 
     -- the report has at 0 the set that it had at c
@@ -186,7 +186,7 @@ module _ {T : Tables} (F : Formed T) (c : ℕ) (R : Reading) where
 
     -- of whole tables
     module _ (few : entry_count T ≤ 512) where
-      forms_accepted : form_check (configured T c R) ≡ Verdict.Accepted
+      forms_accepted : form_check (configured T c R) ≡ Ok tt
       forms_accepted = tables_accepted F few c R ok (passes-present F c R ok good)
 
       -- "sound in form and schema"
@@ -205,7 +205,7 @@ module _ {T : Tables} (F : Formed T) (c : ℕ) (R : Reading) where
 -- ---- an accepted report
 
 -- of a call that accepts, whatever it was given
-module _ (G : Given) (forms : Forms G) (R : Reading) (call : Call) (e : answer_to G R call ≡ Verdict.Accepted) (c : ℕ) (ok : permitted G.tables c ≡ true) where
+module _ (G : Given) (forms : Forms G) (R : Reading) (call : Call) (e : answer_to G R call ≡ Ok tt) (c : ℕ) (ok : permitted G.tables c ≡ true) where
   formed_there : Formed G.tables
   formed_there = given_formed G call forms (given_gets G R call e)
 
@@ -225,14 +225,14 @@ module _ (G : Given) (forms : Forms G) (R : Reading) (call : Call) (e : answer_t
   given_written = typed_written formed_there c R ok given_passes
 
 -- a call on whole tables that accepts has accepted 1 to 10, 24, 12 to 14, 15 to 19 and 25, and none of its own conditions holds
-module _ (T : Tables) (R : Reading) (call : Call) (e : answer T R call ≡ Verdict.Accepted) where
+module _ (T : Tables) (R : Reading) (call : Call) (e : answer T R call ≡ Ok tt) where
   pub called_sound : Sound T
   called_sound = gets_given (whole T) call (given_gets (whole T) R call e)
 
-  pub called_typed : typing_check T R ≡ Verdict.Accepted
+  pub called_typed : typing_check T R ≡ Ok tt
   called_typed = given_typed (whole T) R call e
 
-  pub called_own : first_of (call.after_typing T) ≡ Verdict.Accepted
+  pub called_own : first_of (call.after_typing T) ≡ Ok tt
   called_own = given_own (whole T) R call e
 
   pub called_formed : Formed T
@@ -248,7 +248,7 @@ module _ (T : Tables) (R : Reading) (call : Call) (e : answer T R call ≡ Verdi
     pub called_columns : columns (configured_schema T c) (configured_report T c R) ≡ set_of T c (report T)
     called_columns = given_columns (whole T) (whole_forms T) R call e c ok
 
-module _ (T : Tables) (R : Reading) (room : ℕ) (e : answer T R (checking room) ≡ Verdict.Accepted) where
+module _ (T : Tables) (R : Reading) (room : ℕ) (e : answer T R (checking room) ≡ Ok tt) where
   pub checked_sound : Sound T
   checked_sound = called_sound T R (checking room) e
 
@@ -269,7 +269,7 @@ module _ (T : Tables) (R : Reading) (room : ℕ) (e : answer T R (checking room)
 
     -- and configuring accepts it there, if each table lent for writing is as long as its source
     pub configure_accepted : (r1 r2 r3 r4 : ℕ) → length T.entries ≤ r1 → length T.relations ≤ r2 → length T.comparisons ≤ r3
-        → length T.queries ≤ r4 → answer T R (configuring c r1 r2 r3 r4) ≡ Verdict.Accepted
+        → length T.queries ≤ r4 → answer T R (configuring c r1 r2 r3 r4) ≡ Ok tt
     configure_accepted r1 r2 r3 r4 h1 h2 h3 h4 =
         given_answer (whole T) R (configuring c r1 r2 r3 r4) (configure_gets T checked_sound c r1 r2 r3 r4)
         ∙ accepted_both (called_typed T R (checking room) e)

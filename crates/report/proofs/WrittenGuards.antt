@@ -1,5 +1,6 @@
 -- The statements of Written and WrittenAccepted are about something: an accepted report to which they apply, and a report that is sound and not
 -- accepted, for which the tables written are not well formed.
+use Rattle.std.specs.Prelude.{Err}
 use mathlib.Core.Path.{◌≡◌, refl}
 use mathlib.Core.Bool.{true, false}
 use mathlib.Core.List.{[], ◌∷◌}
@@ -12,7 +13,6 @@ use Rattle.report.specs.FormChecks.{form_check}
 use Rattle.report.specs.Calls.{answer, Sound, checking}
 use Rattle.report.specs.WrittenTables.{WrittenAccepted}
 use Rattle.report.specs.Examples.{h1}
-use Rattle.report.specs.declared.Verdict.{Verdict}
 use Rattle.report.specs.declared.Reading.{Reading}
 use Rattle.report.proofs.ExamplesHold.{computed}
 use Rattle.report.proofs.CallLaws.{sound_accepted}
@@ -36,7 +36,7 @@ pub absent_written : Sound absent
     × (permitted absent 0 ≡ true)
     × (reached absent 0 0 ≡ true)
     × (present absent 0 0 ≡ false)
-    × (answer absent Reading.Strict (checking 1024) ≡ Verdict.Refused (refusal 15 0 0 0))
-    × (form_check (configured absent 0 Reading.Strict) ≡ Verdict.Refused (refusal 8 0 0 0))
+    × (answer absent Reading.Strict (checking 1024) ≡ Err (refusal 15 0 0 0))
+    × (form_check (configured absent 0 Reading.Strict) ≡ Err (refusal 8 0 0 0))
 unfolding computed
 absent_written = ((sound_accepted absent).1 refl, refl, refl, refl, refl, refl)

@@ -1,13 +1,12 @@
 -- docs/FORMAT.md, "Refusals": what a call is given, what it checks and answers; checking and configuring; and the terms that the demands use.
-use Rattle.std.specs.Prelude.{ℕ, ◌≡◌, Bool, true, ◌&&◌, not, List, [], ◌∷◌, ◌++◌, length, ltb, eqb}
+use Rattle.std.specs.Prelude.{ℕ, ◌≡◌, Bool, true, ◌&&◌, not, List, [], ◌∷◌, ◌++◌, length, ltb, eqb, Ok}
 use Rattle.report.specs.Tables.{Tables}
 use Rattle.report.specs.Expressions.{permitted}
 use Rattle.report.specs.ColumnRows.{column_rows}
-use Rattle.report.specs.Verdicts.{refusal, or_else, after, Condition, ◌gives◌, first_of, NoneHolds}
+use Rattle.report.specs.Verdicts.{Verdict, refusal, or_else, after, Condition, ◌gives◌, first_of, NoneHolds}
 use Rattle.report.specs.Checks.{model_and_schema_check, typing_check, is_early, is_late}
 use Rattle.report.specs.Conditions.{form_conditions, schema_conditions, typing_conditions}
 use Rattle.report.specs.declared.Reading.{Reading}
-use Rattle.report.specs.declared.Verdict.{Verdict}
 
 -- A call, by the conditions of its own: those that it checks between the first checks and 12, and those after typing
 pub record Call : Type 0 where
@@ -39,7 +38,7 @@ module _ (G : Given) where
 
   -- "gets as far as typing": the call runs the typing checks, and no earlier check refuses it
   abbrev pub GetsTo : Call → Type 0
-  GetsTo call = before_typing_to call ≡ Verdict.Accepted
+  GetsTo call = before_typing_to call ≡ Ok tt
 
 -- ---- the calls of document 01: they are given whole tables, whose form is checked first, by 1 to 10 and 24
 

@@ -1,5 +1,5 @@
 -- docs/FORMAT.md, "Refusals": checks 12 to 19 and 25, which every call runs, and the numbers of refusals.
-use Rattle.std.specs.Prelude.{ℕ, zero, suc, Bool, true, false, ◌&&◌, ◌||◌, not, List, [], ◌∷◌, eqb}
+use Rattle.std.specs.Prelude.{ℕ, zero, suc, Bool, true, false, ◌&&◌, ◌||◌, not, List, [], ◌∷◌, eqb, Ok, Err}
 use Rattle.sets.specs.Search.{seek, lowest, some_below}
 use Rattle.sets.specs.Bits.{lowest_member}
 use Rattle.report.specs.Tables.{Tables, entry_attribute, relation_expression, relation_length, query}
@@ -7,9 +7,8 @@ use Rattle.report.specs.Tables.{relation_count, query_count, relation_start}
 use Rattle.report.specs.Expressions.{configurations, permitted}
 use Rattle.report.specs.Typing.{phases, at, entry_holds}
 use Rattle.report.specs.Readings.{faults_by, fails_by}
-use Rattle.report.specs.Verdicts.{refusal, refuse_if, refuse_at, or_else, first_from}
+use Rattle.report.specs.Verdicts.{Verdict, refusal, refuse_if, refuse_at, or_else, first_from}
 use Rattle.report.specs.declared.Refusal.{Refusal}
-use Rattle.report.specs.declared.Verdict.{Verdict}
 use Rattle.report.specs.declared.Query.{Query}
 use Rattle.report.specs.declared.Reading.{Reading}
 
@@ -104,5 +103,5 @@ is_late k = not (is_early k || is_of_typing k)
 
 -- "typing fault": a refusal by a number of typing
 abbrev pub is_typing_fault : Verdict → Bool
-is_typing_fault Verdict.Accepted = false
-is_typing_fault (Verdict.Refused r) = is_of_typing r.number
+is_typing_fault (Ok tt) = false
+is_typing_fault (Err r) = is_of_typing r.number

@@ -1,7 +1,7 @@
 -- docs/FORMAT.md, "Worked examples": H1 to H10, W3 and W5, and of the cases of document 02's second, fourth, fifth and seventh wish those that are refused,
 -- configured or printed, as one list. Their theorem is proofs/ExamplesHold. The other cases, accepted ones with their column rows, stand in crate
 -- worked_examples, specs/RowExamples: to compute 1,024 words takes long, and this crate is proved anew for each of its must-fail edits.
-use Rattle.std.specs.Prelude.{ℕ, ◌-◌, ◌^◌, ◌≡◌, List, [], ◌∷◌, ◌++◌, map, replicate}
+use Rattle.std.specs.Prelude.{ℕ, ◌-◌, ◌^◌, ◌≡◌, List, [], ◌∷◌, ◌++◌, map, replicate, Ok, Err}
 use Rattle.sets.specs.Lists.{concat}
 use Rattle.report.specs.Tables.{Tables, entry_count, relation_count, comparison_count, query_count}
 use Rattle.report.specs.Expressions.{tables_of}
@@ -10,7 +10,7 @@ use Rattle.report.specs.Configuring.{configured}
 use Rattle.report.specs.Calls.{answer, checking, configuring}
 use Rattle.report.specs.Text.{bytes}
 use Rattle.report.specs.Print.{print}
-use Rattle.report.specs.declared.Verdict.{Verdict}
+use Rattle.report.specs.Verdicts.{Verdict}
 use Rattle.report.specs.declared.Reading.{Reading}
 
 -- checking tables in a reading with so many words of rows lent; configuring them in a reading at a configuration, with tables 1 to 4 of so many words lent
@@ -28,8 +28,8 @@ pub data Outcome : Type 0 where
   printed : List ℕ → Outcome
 
 abbrev pub outcome_or : Verdict → Outcome → Outcome
-outcome_or Verdict.Accepted o = o
-outcome_or (Verdict.Refused r) o = Outcome.refused r.number r.place r.item r.configuration
+outcome_or (Ok tt) o = o
+outcome_or (Err r) o = Outcome.refused r.number r.place r.item r.configuration
 
 abbrev pub written_outcome : Tables → Outcome
 written_outcome T = Outcome.counts (entry_count T) (relation_count T) (comparison_count T) (query_count T) T

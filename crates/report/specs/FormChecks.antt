@@ -5,8 +5,7 @@ use Rattle.report.specs.Tables.{Tables, Shape, shape_of, shapes, words, entry_at
 use Rattle.report.specs.Tables.{expression, comparison, query, expression_count, entry_count, relation_count, comparison_count, query_count}
 use Rattle.report.specs.Tables.{kind_in, kind_of, relation_start, projected_before, relations_end, project_start}
 use Rattle.report.specs.Operands.{query_operands, is_among, sides_in}
-use Rattle.report.specs.Verdicts.{refusal, refuse_if, refuse_at, or_else, first_from}
-use Rattle.report.specs.declared.Verdict.{Verdict}
+use Rattle.report.specs.Verdicts.{Verdict, refusal, refuse_if, refuse_at, or_else, first_from}
 use Rattle.report.specs.declared.Expression.{Expression}
 use Rattle.report.specs.declared.Comparison.{Comparison}
 use Rattle.report.specs.declared.Query.{Query}

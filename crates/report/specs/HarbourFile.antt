@@ -1,6 +1,5 @@
 -- docs/FORMAT.md, "Harbour file": which lines a file may have, its first bad line, the tables that it holds.
-use Rattle.std.specs.Prelude.{ℕ, zero, suc, ◌+◌, min, Bool, true, false, ◌&&◌, ◌||◌, not, List, [], ◌∷◌, ◌++◌, map, length, get_or, replicate, leb, ltb, eqb}
-use Rattle.sets.specs.declared.Found.{Found}
+use Rattle.std.specs.Prelude.{ℕ, zero, suc, ◌+◌, min, Bool, true, false, ◌&&◌, ◌||◌, not, List, [], ◌∷◌, ◌++◌, map, length, get_or, replicate, leb, ltb, eqb, Option, Some, None}
 use Rattle.sets.specs.Search.{lowest, all_below, count_below}
 use Rattle.sets.specs.Lists.{kept}
 use Rattle.report.specs.Tables.{Tables, Shape, shape_of, shapes}
@@ -86,9 +85,9 @@ abbrev pub tables_from : (ℕ → List ℕ) → Tables
 tables_from ws =
     tables_of (get_or (ws 0) 0 0) (get_or (ws 0) 1 0) (get_or (ws 0) 2 0) (ws 1) (ws 2) (ws 3) (ws 4) (ws 5) (kinds_or (get_or (ws 0) 1 0) (ws 6))
 
-abbrev pub file_or : Found → Tables → File
-file_or (Found.At k) T = unread (suc k)
-file_or Found.Nothing T = holds T
+abbrev pub file_or : Option ℕ → Tables → File
+file_or (Some k) T = unread (suc k)
+file_or None T = holds T
 
 -- a file without lines has no head, and that is line 1
 abbrev pub at_least_one : ℕ → ℕ

@@ -8,7 +8,7 @@ use Rattle.report.specs.Operands.{sides_in}
 use Rattle.report.specs.Expressions.{configurations}
 use Rattle.report.specs.Typing.{phases, reached, kinds_differ, left_of, compares, fails}
 use Rattle.report.specs.Configuring.{comparison_kept, comparison_form_of}
-use Rattle.report.specs.Verdicts.{refusal, refuse_at, or_else, first_from, first_of}
+use Rattle.report.specs.Verdicts.{Verdict, refusal, refuse_at, or_else, first_from, first_of}
 use Rattle.report.specs.FormChecks.{constant_kind, comparison_ok, relations_check, queries_check}
 use Rattle.report.specs.Checks.{phase_at, model_and_schema_check}
 use Rattle.report.specs.Calls.{Call}
@@ -16,7 +16,6 @@ use Rattle.report.specs.Repeats.{tables_check_with}
 use Rattle.report.specs.declared.Comparison.{Comparison}
 use Rattle.report.specs.declared.Query.{Query}
 use Rattle.report.specs.declared.Refusal.{Refusal}
-use Rattle.report.specs.declared.Verdict.{Verdict}
 use Rattle.report.specs.declared.Reading.{Reading}
 
 -- ---- a comparison with a constant

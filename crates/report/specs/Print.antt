@@ -1,5 +1,5 @@
 -- docs/FORMAT.md, "Print": what the program prints.
-use Rattle.std.specs.Prelude.{ℕ, ◌+◌, List, [], ◌∷◌, ◌++◌}
+use Rattle.std.specs.Prelude.{ℕ, ◌+◌, List, [], ◌∷◌, ◌++◌, Ok, Err}
 use Rattle.sets.specs.Lists.{kept}
 use Rattle.sets.specs.Bits.{bit}
 use Rattle.report.specs.Tables.{Tables, report}
@@ -8,7 +8,7 @@ use Rattle.report.specs.Typing.{set_of}
 use Rattle.report.specs.Calls.{answer, checking}
 use Rattle.report.specs.Text.{bytes, spaced, bracket, line}
 use Rattle.report.specs.HarbourFile.{File, file_of}
-use Rattle.report.specs.declared.Verdict.{Verdict}
+use Rattle.report.specs.Verdicts.{Verdict}
 use Rattle.report.specs.declared.Reading.{Reading}
 
 -- the members of a set of attributes, ascending
@@ -21,9 +21,9 @@ at_line c s = 40 ∷ bytes "at" ++ spaced (c ∷ []) ++ (32 ∷ bracket (bytes "
 
 -- the print of an answer: a refusal, or the columns of each permitted configuration, ascending
 abbrev pub print_answer : Tables → Verdict → List ℕ
-print_answer T Verdict.Accepted =
+print_answer T (Ok tt) =
     line (bytes "accepted") [] ++ kept (permitted T) (λ c. at_line c (set_of T c (report T))) (configurations T)
-print_answer T (Verdict.Refused r) = line (bytes "refused") (r.number ∷ r.place ∷ r.item ∷ r.configuration ∷ [])
+print_answer T (Err r) = line (bytes "refused") (r.number ∷ r.place ∷ r.item ∷ r.configuration ∷ [])
 
 abbrev pub print_file : File → List ℕ
 print_file (File.unread n) = line (bytes "unread") (n ∷ [])

@@ -11,10 +11,9 @@ use Rattle.report.specs.declared.Reading.{Reading}
 use Rattle.report.specs.Configuring.{query_words_of, query_kept, new_relation, new_comparison, new_query, configured}
 use Rattle.report.specs.FormChecks.{list_fits, relation_ok, query_ok, lists_end, head_check, lengths_check, expressions_check, model_form_check}
 use Rattle.report.specs.FormChecks.{entries_check, comparisons_check, untaken_check, left_entry_check, kinds_check}
-use Rattle.report.specs.Verdicts.{refusal, refuse_at, or_else, first_of}
+use Rattle.report.specs.Verdicts.{Verdict, refusal, refuse_at, or_else, first_of}
 use Rattle.report.specs.Checks.{model_and_schema_check, typing_check}
 use Rattle.report.specs.Calls.{Call}
-use Rattle.report.specs.declared.Verdict.{Verdict}
 
 -- of the `count` entries from `start` on two have one attribute
 abbrev pub repeats : List ℕ → ℕ → ℕ → Bool

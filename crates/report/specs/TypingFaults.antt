@@ -1,5 +1,5 @@
 -- What a refusal for a typing fault names, said of the typing rules and of the plain rules (the demands' third, its second half).
-use Rattle.std.specs.Prelude.{ℕ, ◌<◌, ◌≡◌, Bool, true, false, ◌≢◌, List, eqb}
+use Rattle.std.specs.Prelude.{ℕ, ◌<◌, ◌≡◌, Bool, true, false, ◌≢◌, List, eqb, Err}
 use Rattle.sets.specs.Search.{First}
 use Rattle.sets.specs.Bits.{bit, lowest_member}
 use Rattle.report.specs.Tables.{Tables, kind_of, query, query_count}
@@ -11,7 +11,7 @@ use Rattle.report.specs.ConfiguredReport.{plain_query_at, configured_report, con
 use Rattle.report.specs.Checks.{fault_number}
 use Rattle.report.specs.Calls.{Call, answer}
 use Rattle.report.specs.declared.Refusal.{Refusal}
-use Rattle.report.specs.declared.Verdict.{Verdict}
+use Rattle.report.specs.Verdicts.{Verdict}
 use Rattle.report.specs.declared.Reading.{Reading}
 
 -- at some permitted configuration the report configured strictly breaks a plain rule
@@ -89,7 +89,7 @@ pub record Breaks (T : Tables) (r : Refusal) : Type 0 where
 -- what an answer in the strict reading that refuses for a typing fault names
 pub record NamedBy (T : Tables) (v : Verdict) : Type 0 where
   pub refuses : Refusal
-  pub answers : v ≡ Verdict.Refused refuses
+  pub answers : v ≡ Err refuses
   pub fault : TypingFault T Reading.Strict refuses
   pub lowest_item : First (bit (faults T refuses.configuration fault.phase refuses.place)) 64 refuses.item
   pub breaks : Breaks T refuses

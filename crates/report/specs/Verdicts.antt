@@ -1,37 +1,39 @@
 -- Answers of checks, how checks follow one another, and conditions with the refusals that they give.
-use Rattle.std.specs.Prelude.{ℕ, zero, suc, ◌<◌, ◌≡◌, Bool, true, false, List, [], ◌∷◌, length, get_or}
-use Rattle.sets.specs.declared.Found.{Found}
+use Rattle.std.specs.Prelude.{ℕ, zero, suc, ◌<◌, ◌≡◌, Bool, true, false, List, [], ◌∷◌, length, get_or, Option, Some, None, Result, Ok, Err, ⊤}
 use Rattle.sets.specs.Lists.{concat}
 use Rattle.report.specs.declared.Refusal.{Refusal}
-use Rattle.report.specs.declared.Verdict.{Verdict}
+
+-- accepted, or refused: what a check answers
+abbrev pub Verdict : Type 0
+Verdict = Result ⊤ Refusal
 
 -- number, place, item, configuration
 abbrev pub refusal : ℕ → ℕ → ℕ → ℕ → Refusal
 refusal number place item configuration = record { number = number; place = place; item = item; configuration = configuration }
 
 abbrev pub refuse_if : Bool → Refusal → Verdict
-refuse_if true r = Verdict.Refused r
-refuse_if false r = Verdict.Accepted
+refuse_if true r = Err r
+refuse_if false r = Ok tt
 
 -- refused at what a search found
-abbrev pub refuse_at : (ℕ → Refusal) → Found → Verdict
-refuse_at r Found.Nothing = Verdict.Accepted
-refuse_at r (Found.At k) = Verdict.Refused (r k)
+abbrev pub refuse_at : (ℕ → Refusal) → Option ℕ → Verdict
+refuse_at r None = Ok tt
+refuse_at r (Some k) = Err (r k)
 
 -- one check, and then another: the first refusal
 abbrev pub or_else : Verdict → Verdict → Verdict
-or_else Verdict.Accepted next = next
-or_else (Verdict.Refused r) next = Verdict.Refused r
+or_else (Ok tt) next = next
+or_else (Err r) next = Err r
 
 -- n checks, those of number `from`, from + 1, ..: the first refusal
 abbrev pub first_from : (ℕ → Verdict) → ℕ → ℕ → Verdict
-first_from check zero from = Verdict.Accepted
+first_from check zero from = Ok tt
 first_from check (suc n) from = let rest = first_from check n (suc from) in or_else (check from) rest
 
 -- what stands after a call that lent x to write to: `new` where it accepts; a refused call changes no lent word
 abbrev pub after : {A : Type 0} → Verdict → A → A → A
-after Verdict.Accepted new x = new
-after (Verdict.Refused r) new x = x
+after (Ok tt) new x = new
+after (Err r) new x = x
 
 -- ---- conditions
 
@@ -50,7 +52,7 @@ each n test r = concat n (λ k. test k gives r k)
 
 -- the first of the conditions that holds
 unfoldable pub first_of : List Condition → Verdict
-first_of [] = Verdict.Accepted
+first_of [] = Ok tt
 first_of (x ∷ xs) = or_else (refuse_if x.holds x.gives) (first_of xs)
 
 -- the condition at a place of the list

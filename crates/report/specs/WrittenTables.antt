@@ -1,6 +1,6 @@
 -- What the tables are that configuring writes at c for an accepted report (the end of specs/Configuring): the configured report as a tree and the
 -- configured schema (specs/ConfiguredReport), with the relations renumbered; accepted by the checker, with the columns shown at c.
-use Rattle.std.specs.Prelude.{ℕ, ◌<◌, ◌≤◌, ◌≡◌, ◌≢◌, true, false, length}
+use Rattle.std.specs.Prelude.{ℕ, ◌<◌, ◌≤◌, ◌≡◌, ◌≢◌, true, false, length, Ok}
 use mathlib.Core.Option.{none}
 use Rattle.sets.specs.Search.{Nth}
 use Rattle.sets.specs.Lists.{kept}
@@ -16,7 +16,6 @@ use Rattle.report.specs.Formed.{Formed}
 use Rattle.report.specs.Checks.{model_and_schema_check, typing_check}
 use Rattle.report.specs.Calls.{answer, Sound, checking}
 use Rattle.report.specs.Repeats.{NoRepeats}
-use Rattle.report.specs.declared.Verdict.{Verdict}
 
 -- a tree with other numbers for its relations
 abbrev pub renamed : (ℕ → ℕ) → PlainQuery → PlainQuery
@@ -51,8 +50,8 @@ pub record Shorter (T : Tables) (c : ℕ) (R : Reading) : Type 0 where
 pub record WrittenTyped (T : Tables) (c : ℕ) (R : Reading) : Type 0 where
   pub writes : WrittenTables T c R
   pub formed : Formed (configured T c R)
-  pub schema_sound : model_and_schema_check (configured T c R) ≡ Verdict.Accepted
-  pub typed : typing_check (configured T c R) Reading.Strict ≡ Verdict.Accepted
+  pub schema_sound : model_and_schema_check (configured T c R) ≡ Ok tt
+  pub typed : typing_check (configured T c R) Reading.Strict ≡ Ok tt
   pub column : (a : ℕ) → has_column (configured T c R) a 0 ≡ has_column T a c
   pub no_other : (a d : ℕ) → d ≢ 0 → has_column (configured T c R) a d ≡ false
   pub shows : shown (column_rows (configured T c R)) 0 ≡ shown (column_rows T) c
@@ -67,6 +66,6 @@ pub record WrittenTyped (T : Tables) (c : ℕ) (R : Reading) : Type 0 where
 -- and where it was given whole tables: checks 1 to 10 and 24 accept them too, so that given to the checker they are accepted
 pub record WrittenAccepted (T : Tables) (c : ℕ) (R : Reading) : Type 0 where
   pub written : WrittenTyped T c R
-  pub forms : form_check (configured T c R) ≡ Verdict.Accepted
+  pub forms : form_check (configured T c R) ≡ Ok tt
   pub sound : Sound (configured T c R)
-  pub checked : answer (configured T c R) Reading.Strict (checking 1024) ≡ Verdict.Accepted
+  pub checked : answer (configured T c R) Reading.Strict (checking 1024) ≡ Ok tt

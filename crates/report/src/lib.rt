@@ -18,12 +18,8 @@ pub struct Refusal {
     pub configuration: u64,
 }
 
-// What a check answers.
-#[derive(Clone, Copy)]
-pub enum Verdict {
-    Accepted,
-    Refused(Refusal),
-}
+// What a check answers: nothing where it accepts, and else the refusal.
+pub type Verdict = Result<(), Refusal>;
 
 // A form of table 0. ExactlyOne is first feature, number of features. Malformed: its kind is unknown, or a word that its kind leaves unused is not 0.
 #[derive(Clone, Copy)]

@@ -1,4 +1,5 @@
 -- Laws of rows, for any number of words and of features.
+use Rattle.std.specs.Prelude.{Some, None}
 use Prim.Native.Nat.{ℕ, zero, suc, ◌+◌, ◌-◌, ◌*◌, ◌/◌, ◌%◌, ◌^◌, ◌<◌, ◌≤◌}
 use mathlib.Core.Path.{◌≡◌, refl, sym, ap, ap₂, ◌∙◌}
 use mathlib.Core.Bool.{Bool, true, false, cond, not, ◌&&◌, ◌||◌, and-true, and-false, or-false, false≢true}
@@ -14,7 +15,6 @@ use lib.Count.{count_trailing_zeros, ones}
 use lib.ListN.{length, get_or, set, take, drop, replicate, length-append, length-drop, length-replicate, get_or-replicate, take-append-drop, get_or-append}
 use lib.Seq.{length-take-le, get_or-append-add, get_or-take, get_or-drop, drop-drop}
 use borrow.Author.Tests.{lt-ltb, le-ltb, eq-eqb, ne_eqb, not-true}
-use Rattle.sets.specs.declared.Found.{Found}
 use Rattle.sets.specs.Search.{seek, lowest, some_below, count_below, First}
 use Rattle.sets.specs.Lists.{table, concat}
 use Rattle.sets.specs.Bits.{bit, bits_of, difference}
@@ -325,7 +325,7 @@ module _ {l : List ℕ} {from c : ℕ} (P : Passed l from c) where
 
   module _ (n : ℕ) where
     -- it has something: the lowest is found at the trailing zeros
-    pub found_at : c < n * 64 → get_or l (c / 64) 0 < 2 ^ 64 → rest l c ≢ 0 → row_lowest_from n l from ≡ Found.At (c + count_trailing_zeros 64 (rest l c))
+    pub found_at : c < n * 64 → get_or l (c / 64) 0 < 2 ^ 64 → rest l c ≢ 0 → row_lowest_from n l from ≡ Some (c + count_trailing_zeros 64 (rest l c))
     found_at g f e =
         least_seek (row_bit l) (n * 64 - from) from (c + t) (record {
           within = (omega (arith, P.after), omega (arith, P.after, r.below));
@@ -347,7 +347,7 @@ module _ {l : List ℕ} {from c : ℕ} (P : Passed l from c) where
         go k h b (no d) = rest_bit l c k (omega arith) (omega (arith, r.below)) ∙ r.before (k - c) (omega arith)
 
     -- every word is passed
-    pub found_nothing : n * 64 ≤ c → row_lowest_from n l from ≡ Found.Nothing
+    pub found_nothing : n * 64 ≤ c → row_lowest_from n l from ≡ None
     found_nothing g = nothing_seek (row_bit l) (n * 64 - from) from (λ k h u. P.none k h (omega arith))
 
 -- ---- how many configurations

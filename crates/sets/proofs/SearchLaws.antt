@@ -1,4 +1,5 @@
 -- Laws of searches and counts over the numbers below a bound.
+use Rattle.std.specs.Prelude.{Option, Some, None}
 use Prim.Native.Nat.{ℕ, zero, suc, ◌+◌, ◌<◌, ◌≤◌}
 use mathlib.Core.Path.{◌≡◌, refl, sym, ap, ap₂, ◌∙◌}
 use mathlib.Core.Bool.{Bool, true, false, cond, not, ◌&&◌, ◌||◌, and-eq-true_iff, or-true, false≢true}
@@ -9,7 +10,6 @@ use native.Mathlib.Decide.{le_ind, dec_lt}
 use native.Mathlib.Omega.{arith}
 use borrow.Author.Tests.{not-true, not-false, eqb-true, eq-eqb}
 use lib.Dec.{eqb}
-use Rattle.sets.specs.declared.Found.{Found}
 use Rattle.sets.specs.Search.{seek, lowest, First, is_found, some_below, all_below, count_below, Nth}
 
 -- two truths of which each follows from the other
@@ -28,32 +28,32 @@ pub record Least (test : ℕ → Bool) (from n k : ℕ) : Type 0 where
 
 module _ (test : ℕ → Bool) where
   -- one step: the test holds at `from`, or it does not
-  pub seek_here : (n from : ℕ) → test from ≡ true → seek test (suc n) from ≡ Found.At from
+  pub seek_here : (n from : ℕ) → test from ≡ true → seek test (suc n) from ≡ Some from
   seek_here n from e = rw (e, seek)
 
   pub seek_skip : (n from : ℕ) → test from ≡ false → seek test (suc n) from ≡ seek test n (suc from)
   seek_skip n from e = rw (e, seek)
 
   -- a search finds nothing exactly where the test holds at none of the numbers
-  pub seek_nothing : (n from : ℕ) → seek test n from ≡ Found.Nothing → (k : ℕ) → from ≤ k → k < from + n → test k ≡ false
+  pub seek_nothing : (n from : ℕ) → seek test n from ≡ None → (k : ℕ) → from ≤ k → k < from + n → test k ≡ false
   seek_nothing zero from e k l h = absurd (omega arith)
   seek_nothing (suc n) from e k l h = go (test from) refl (λ r q. seek_nothing n (suc from) r k q (omega arith))
     where
-      go : (b : Bool) → test from ≡ b → (seek test n (suc from) ≡ Found.Nothing → from < k → test k ≡ false) → test k ≡ false
+      go : (b : Bool) → test from ≡ b → (seek test n (suc from) ≡ None → from < k → test k ≡ false) → test k ≡ false
       go true t later = absurd (let s = seek_here n from t in let z : ◌≡◌ {A = ℕ} 0 1 = cc in omega arith)
       go false t later = ⊎_elim (λ q. rw (← q) t) (λ q. later (sym (seek_skip n from t) ∙ e) q) (eq-or-lt_of_le l)
 
-  pub nothing_seek : (n from : ℕ) → ((k : ℕ) → from ≤ k → k < from + n → test k ≡ false) → seek test n from ≡ Found.Nothing
+  pub nothing_seek : (n from : ℕ) → ((k : ℕ) → from ≤ k → k < from + n → test k ≡ false) → seek test n from ≡ None
   nothing_seek zero from h = refl
   nothing_seek (suc n) from h =
       seek_skip n from (h from (omega arith) (omega arith)) ∙ nothing_seek n (suc from) (λ k l u. h k (omega arith) (omega arith))
 
   -- it finds a number exactly where that is the lowest at which the test holds
-  pub seek_least : (n from k : ℕ) → seek test n from ≡ Found.At k → Least test from n k
+  pub seek_least : (n from k : ℕ) → seek test n from ≡ Some k → Least test from n k
   seek_least zero from k e = absurd (let z : ◌≡◌ {A = ℕ} 0 1 = cc in omega arith)
   seek_least (suc n) from k e = go (test from) refl (seek_least n (suc from) k)
     where
-      go : (b : Bool) → test from ≡ b → (seek test n (suc from) ≡ Found.At k → Least test (suc from) n k) → Least test from (suc n) k
+      go : (b : Bool) → test from ≡ b → (seek test n (suc from) ≡ Some k → Least test (suc from) n k) → Least test from (suc n) k
       go true t later =
           let s = seek_here n from t in
           let q : from ≡ k = cc in
@@ -66,30 +66,30 @@ module _ (test : ℕ → Bool) where
             before = λ j l h. ⊎_elim (λ (q : from ≡ j). rw (← q) t) (λ q. r.before j q h) (eq-or-lt_of_le l);
           }
 
-  pub least_seek : (n from k : ℕ) → Least test from n k → seek test n from ≡ Found.At k
+  pub least_seek : (n from k : ℕ) → Least test from n k → seek test n from ≡ Some k
   least_seek zero from k r = absurd (omega arith)
   least_seek (suc n) from k r = ⊎_elim here (later (least_seek n (suc from) k)) (eq-or-lt_of_le r.within.0)
     where
-      here : from ≡ k → seek test (suc n) from ≡ Found.At k
+      here : from ≡ k → seek test (suc n) from ≡ Some k
       here q = seek_here n from (rw q r.holds) ∙ rw q
 
-      later : (Least test (suc from) n k → seek test n (suc from) ≡ Found.At k) → from < k → seek test (suc n) from ≡ Found.At k
+      later : (Least test (suc from) n k → seek test n (suc from) ≡ Some k) → from < k → seek test (suc n) from ≡ Some k
       later ih q =
           seek_skip n from (r.before from (omega arith) q)
           ∙ ih (record { within = (q, omega arith); holds = r.holds; before = λ j l h. r.before j (omega arith) h })
 
   -- the same of the search from 0 on
   module _ (n : ℕ) where
-    pub lowest_nothing : lowest test n ≡ Found.Nothing → (k : ℕ) → k < n → test k ≡ false
+    pub lowest_nothing : lowest test n ≡ None → (k : ℕ) → k < n → test k ≡ false
     lowest_nothing e k h = seek_nothing n 0 e k (omega arith) (omega arith)
 
-    pub nothing_lowest : ((k : ℕ) → k < n → test k ≡ false) → lowest test n ≡ Found.Nothing
+    pub nothing_lowest : ((k : ℕ) → k < n → test k ≡ false) → lowest test n ≡ None
     nothing_lowest h = nothing_seek n 0 (λ k l u. h k (omega arith))
 
-    pub lowest_at : (k : ℕ) → lowest test n ≡ Found.At k → First test n k
+    pub lowest_at : (k : ℕ) → lowest test n ≡ Some k → First test n k
     lowest_at k e = let r = seek_least n 0 k e in record { below = omega arith; holds = r.holds; before = λ j h. r.before j (omega arith) h }
 
-    pub at_lowest : (k : ℕ) → First test n k → lowest test n ≡ Found.At k
+    pub at_lowest : (k : ℕ) → First test n k → lowest test n ≡ Some k
     at_lowest k r =
         least_seek n 0 k (record { within = (omega arith, omega arith); holds = r.holds; before = λ j l h. r.before j h })
 
@@ -98,16 +98,16 @@ module _ (test : ℕ → Bool) where
     pub some_at : some_below test n ≡ true → (k : ℕ) × (k < n) × (test k ≡ true)
     some_at = go (lowest test n) refl
       where
-        go : (x : Found) → lowest test n ≡ x → is_found x ≡ true → (k : ℕ) × (k < n) × (test k ≡ true)
-        go (Found.At k) e t = let r = lowest_at k e in (k, r.below, r.holds)
-        go Found.Nothing e t = absurd (false≢true t)
+        go : (x : Option ℕ) → lowest test n ≡ x → is_found x ≡ true → (k : ℕ) × (k < n) × (test k ≡ true)
+        go (Some k) e t = let r = lowest_at k e in (k, r.below, r.holds)
+        go None e t = absurd (false≢true t)
 
     pub some_none : some_below test n ≡ false → (k : ℕ) → k < n → test k ≡ false
     some_none = go (lowest test n) refl
       where
-        go : (x : Found) → lowest test n ≡ x → is_found x ≡ false → (k : ℕ) → k < n → test k ≡ false
-        go (Found.At k) e t = absurd (false≢true (sym t))
-        go Found.Nothing e t = lowest_nothing e
+        go : (x : Option ℕ) → lowest test n ≡ x → is_found x ≡ false → (k : ℕ) → k < n → test k ≡ false
+        go (Some k) e t = absurd (false≢true (sym t))
+        go None e t = lowest_nothing e
 
     pub none_some : ((k : ℕ) → k < n → test k ≡ false) → some_below test n ≡ false
     none_some h = ap is_found (nothing_lowest h)
@@ -142,15 +142,15 @@ module _ (test : ℕ → Bool) (m n : ℕ) (more : m ≤ n) (out : (k : ℕ) →
   pub lowest_narrow : lowest test n ≡ lowest test m
   lowest_narrow = go (lowest test m) refl
     where
-      none : lowest test m ≡ Found.Nothing → (k : ℕ) → Dec (k < m) → test k ≡ false
+      none : lowest test m ≡ None → (k : ℕ) → Dec (k < m) → test k ≡ false
       none e k (yes l) = lowest_nothing test m e k l
       none e k (no l) = out k (omega arith)
 
-      go : (x : Found) → lowest test m ≡ x → lowest test n ≡ x
-      go (Found.At k) e =
+      go : (x : Option ℕ) → lowest test m ≡ x → lowest test n ≡ x
+      go (Some k) e =
           let r = lowest_at test m k e in
           at_lowest test n k (record { below = let b = r.below in omega arith; holds = r.holds; before = r.before })
-      go Found.Nothing e = nothing_lowest test n (λ k l. none e k (dec_lt k m))
+      go None e = nothing_lowest test n (λ k l. none e k (dec_lt k m))
 
   pub some_narrow : some_below test n ≡ some_below test m
   some_narrow = ap is_found lowest_narrow
@@ -161,7 +161,7 @@ module _ (f g : ℕ → Bool) where
   pub seek_same : (n from : ℕ) → ((k : ℕ) → from ≤ k → k < from + n → f k ≡ g k) → seek f n from ≡ seek g n from
   seek_same zero from h = refl
   seek_same (suc n) from h =
-      ap₂ (λ (b : Bool) (r : Found). elim b as (λ x. Found) [ true ↦ Found.At from | false ↦ r ]) (h from (omega arith) (omega arith))
+      ap₂ (λ (b : Bool) (r : Option ℕ). elim b as (λ x. Option ℕ) [ true ↦ Some from | false ↦ r ]) (h from (omega arith) (omega arith))
       (seek_same n (suc from) (λ k l u. h k (omega arith) (omega arith)))
 
   module _ (n : ℕ) (h : (k : ℕ) → k < n → f k ≡ g k) where

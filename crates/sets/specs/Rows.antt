@@ -1,7 +1,6 @@
 -- Rows: sets of configurations as lists of 64-bit words, for any number of words and of features.
-use Rattle.std.specs.Prelude.{ℕ, ◌+◌, ◌-◌, ◌*◌, ◌/◌, ◌%◌, ◌^◌, ◌<◌, ◌≤◌, ◌≡◌, Bool, ◌&&◌, not, List, ◌++◌, length, get_or, take, drop, ltb}
+use Rattle.std.specs.Prelude.{ℕ, ◌+◌, ◌-◌, ◌*◌, ◌/◌, ◌%◌, ◌^◌, ◌<◌, ◌≤◌, ◌≡◌, Bool, ◌&&◌, not, List, ◌++◌, length, get_or, take, drop, ltb, Option}
 use Rattle.std.specs.Int.Bits.{bit_and, bit_or}
-use Rattle.sets.specs.declared.Found.{Found}
 use Rattle.sets.specs.Search.{seek, lowest, some_below, count_below}
 use Rattle.sets.specs.Lists.{table}
 use Rattle.sets.specs.Bits.{bit, bits_of, difference}
@@ -41,11 +40,11 @@ abbrev pub row_is_empty : ℕ → List ℕ → Bool
 row_is_empty words row = not (some_below (row_bit row) (words * 64))
 
 -- the lowest configuration that the row has
-abbrev pub row_lowest : ℕ → List ℕ → Found
+abbrev pub row_lowest : ℕ → List ℕ → Option ℕ
 row_lowest words row = lowest (row_bit row) (words * 64)
 
 -- the lowest that is not below `from`
-abbrev pub row_lowest_from : ℕ → List ℕ → ℕ → Found
+abbrev pub row_lowest_from : ℕ → List ℕ → ℕ → Option ℕ
 row_lowest_from words row from = seek (row_bit row) (words * 64 - from) from
 
 -- how many configurations the row has

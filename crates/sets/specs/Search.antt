@@ -1,14 +1,13 @@
 -- Searches and counts over the numbers below a bound. The definitions of the rules are written with these.
-use Rattle.std.specs.Prelude.{ℕ, zero, suc, ◌+◌, ◌<◌, ◌≡◌, Bool, true, false, cond, not}
-use Rattle.sets.specs.declared.Found.{Found}
+use Rattle.std.specs.Prelude.{ℕ, zero, suc, ◌+◌, ◌<◌, ◌≡◌, Bool, true, false, cond, not, Option, Some, None}
 
 -- the lowest of the n numbers from `from` on at which the test holds
-abbrev pub seek : (ℕ → Bool) → ℕ → ℕ → Found
-seek test zero from = Found.Nothing
-seek test (suc n) from = elim (test from) [ true ↦ Found.At from | false ↦ seek test n (suc from) ]
+abbrev pub seek : (ℕ → Bool) → ℕ → ℕ → Option ℕ
+seek test zero from = None
+seek test (suc n) from = elim (test from) [ true ↦ Some from | false ↦ seek test n (suc from) ]
 
 -- the lowest number below n at which the test holds
-abbrev pub lowest : (ℕ → Bool) → ℕ → Found
+abbrev pub lowest : (ℕ → Bool) → ℕ → Option ℕ
 lowest test n = seek test n 0
 
 -- k is the lowest number below n at which the test holds
@@ -17,14 +16,14 @@ pub record First (test : ℕ → Bool) (n k : ℕ) : Type 0 where
   pub holds : test k ≡ true
   pub before : (j : ℕ) → j < k → test j ≡ false
 
-abbrev pub is_found : Found → Bool
-is_found (Found.At k) = true
-is_found Found.Nothing = false
+abbrev pub is_found : Option ℕ → Bool
+is_found (Some k) = true
+is_found None = false
 
 -- the number that was found; 0 stands for nothing
-abbrev pub found_or_0 : Found → ℕ
-found_or_0 (Found.At k) = k
-found_or_0 Found.Nothing = 0
+abbrev pub found_or_0 : Option ℕ → ℕ
+found_or_0 (Some k) = k
+found_or_0 None = 0
 
 -- the test holds at some number below n
 abbrev pub some_below : (ℕ → Bool) → ℕ → Bool

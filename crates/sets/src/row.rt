@@ -4,8 +4,6 @@ ghost use Rattle.sets.specs.Bits.{bit};
 ghost use Rattle.sets.specs.Rows.{row_bit, word_of, row_of, within, row_join, row_intersect, row_minus, row_is_empty};
 ghost use Rattle.sets.specs.Rows.{row_lowest, row_lowest_from, row_count, row_in, with_row};
 
-use crate::Found;
-
 // A set of configurations below 1,024: configuration c is bit c mod 64 of word c div 64.
 #[derive(Clone, Copy)]
 pub struct Row {
@@ -125,14 +123,14 @@ impl Row {
     }
 
     // The lowest configuration of the row.
-    pub fn lowest(self) -> Found
+    pub fn lowest(self) -> Option<usize>
         ensures { result ≡ row_lowest 16 self.words }
     {
         self.lowest_from(0)
     }
 
     // The lowest configuration of the row that is not below `from`. The word of `from` is read from there on, and each after it whole.
-    pub fn lowest_from(self, from: usize) -> Found
+    pub fn lowest_from(self, from: usize) -> Option<usize>
         ensures { result ≡ row_lowest_from 16 self.words from }
     {
         let words = self.words;
@@ -140,11 +138,11 @@ impl Row {
         while c < Row::WORDS * 64 {
             let rest = words[c / 64] >> (c % 64);
             if rest != 0 {
-                return Found::At(c + u64::trailing_zeros(rest) as usize);
+                return Some(c + u64::trailing_zeros(rest) as usize);
             }
             c = (c / 64 + 1) * 64;
         }
-        Found::Nothing
+        None
     }
 
     // How many configurations the row has.

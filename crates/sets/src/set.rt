@@ -4,8 +4,6 @@ ghost use Rattle.std.specs.Int.Bits.{bit_and, bit_or, bit_xor};
 ghost use Rattle.sets.specs.Search.{lowest};
 ghost use Rattle.sets.specs.Bits.{bit, difference, member_count, has_from};
 
-use crate::Found;
-
 // A set of attributes: attribute a is in it where bit a is 1. MOST_ATTRIBUTES is how many a set has room for. MOST_FEATURES says nothing of a set: it
 // stands here because the specification names the two limits in one breath. The limits of tables are constants of `report::Limits`.
 #[derive(Clone, Copy)]
@@ -122,13 +120,13 @@ impl AttributeSet {
     }
 
     // The lowest attribute of the set.
-    pub fn lowest(self) -> Found
+    pub fn lowest(self) -> Option<usize>
         ensures { result ≡ lowest (bit self.bits) 64 }
     {
         if self.bits == 0 {
-            Found::Nothing
+            None
         } else {
-            Found::At(u64::trailing_zeros(self.bits) as usize)
+            Some(u64::trailing_zeros(self.bits) as usize)
         }
     }
 

@@ -1,4 +1,5 @@
 -- What the forms find at all configurations: the loop over the permitted ones.
+use Rattle.std.specs.Prelude.{Some, None}
 use Prim.Native.Nat.{ℕ, suc, ◌+◌, ◌-◌, ◌<◌, ◌≤◌}
 use mathlib.Core.Path.{◌≡◌, refl, sym, ap, ◌∙◌}
 use mathlib.Core.Bool.{Bool, true, false, cond, false≢true}
@@ -10,7 +11,6 @@ use native.Mathlib.Omega.{arith}
 use lib.Bits.{bit_or, or_zero_r}
 use lib.ListN.{length, get_or, replicate, length-replicate, get_or-replicate}
 use lib.Pow.{pow_mono}
-use Rattle.sets.specs.declared.Found.{Found}
 use Rattle.sets.specs.Lists.{table}
 use Rattle.sets.specs.Rows.{row_lowest_from}
 use Rattle.sets.proofs.SearchLaws.{Least}
@@ -91,14 +91,14 @@ module _ {scope : Scope} {expression_rows relation_entries project_entries relat
         (table_same (query_count T) (found_below T from) (found_below T k) (λ q l. sym (found_skips T from k h f q)))
 
     -- none is left
-    pub found_all : next ≡ Found.Nothing → (T : Tables) → SparingReads T scope expression_rows relation_entries project_entries relations queries reach
+    pub found_all : next ≡ None → (T : Tables) → SparingReads T scope expression_rows relation_entries project_entries relations queries reach
         → spared_sets ≡ written (table (query_count T) (found_below T (configurations T))) lent
     found_all e T R =
         let few : configurations T ≤ 1024 = pow_mono {j = 10} R.formed.few in
         skipped R (configurations T) (S.within T R) (λ d l h. none_permitted R.scoped from found e d l (lt_of_lt_of_le h few))
 
     -- c is the next
-    module _ {c : ℕ} (e : next ≡ Found.At c) where
+    module _ {c : ℕ} (e : next ≡ Some c) where
       least : {T : Tables} → SparingReads T scope expression_rows relation_entries project_entries relations queries reach
           → Least (permitted T) from (1024 - from) c
       least R = next_permitted R.scoped from found e

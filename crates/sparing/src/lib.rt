@@ -18,7 +18,7 @@ use decoders::decode_query;
 use expression_rows::Scope;
 use faults_at::fill_form_sets;
 use report::{Limits, Query, Reading};
-use sets::{AttributeSet, Found};
+use sets::AttributeSet;
 
 // Relation r if it is present at c, as a set of items.
 fn present_item(c: usize, r: usize, expression_rows: &[u64], relations: &[u16]) -> AttributeSet
@@ -126,11 +126,7 @@ fn fill_found(
 {
     let mut form_sets = [0; Limits::MOST_QUERIES];
     let mut from = 0;
-    loop {
-        let next = scope.permitted.lowest_from(from);
-        let Found::At(c) = next else {
-            break;
-        };
+    while let Some(c) = scope.permitted.lowest_from(from) {
         fill_form_sets(
             c,
             expression_rows,

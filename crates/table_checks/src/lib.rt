@@ -6,20 +6,18 @@ ghost use Rattle.report.specs.Tables.{shape_of};
 ghost use Rattle.report.specs.Expressions.{tables_of};
 ghost use Rattle.report.specs.FormChecks.{head_check, length_check, lengths_check, range_fits, expression_fits, expressions_check, model_form_check};
 ghost use Rattle.report.specs.FormChecks.{entry_fits, entries_check, comparison_fits, comparisons_check};
-ghost use Rattle.report.specs.declared.Verdict.{Verdict};
 
 use decoders::{decode_comparison, decode_expression, entry_attribute, entry_expression};
 use report::{Comparison, Expression, Limits, Verdict};
 use sets::AttributeSet;
-use verdicts::{or_else, refuse, refuse_if};
+use verdicts::refuse_if;
 
 // Check 1.
 pub fn check_head(features: usize, attributes: usize) -> Verdict
     ensures { result ≡ head_check features attributes }
 {
-    let a = refuse_if(AttributeSet::MOST_FEATURES < features, 1, 0);
-    let b = refuse_if(AttributeSet::MOST_ATTRIBUTES < attributes, 1, 1);
-    or_else(a, b)
+    refuse_if(AttributeSet::MOST_FEATURES < features, 1, 0)?;
+    refuse_if(AttributeSet::MOST_ATTRIBUTES < attributes, 1, 1)
 }
 
 // Check 2 of one table, of `count` words.
@@ -43,12 +41,11 @@ pub fn check_lengths(
     ensures { result ≡ lengths_check (tables_of 0 0 0 expressions.now entries.now relations.now comparisons.now
         queries.now []) }
 {
-    let a = check_length(3, 1, Limits::MOST_EXPRESSIONS, 0, expressions.len());
-    let b = check_length(2, 0, Limits::MOST_ENTRIES, 1, entries.len());
-    let c = check_length(2, 0, Limits::MOST_RELATIONS, 2, relations.len());
-    let d = check_length(5, 0, Limits::MOST_COMPARISONS, 3, comparisons.len());
-    let e = check_length(4, 1, Limits::MOST_QUERIES, 4, queries.len());
-    or_else(a, or_else(b, or_else(c, or_else(d, e))))
+    check_length(3, 1, Limits::MOST_EXPRESSIONS, 0, expressions.len())?;
+    check_length(2, 0, Limits::MOST_ENTRIES, 1, entries.len())?;
+    check_length(2, 0, Limits::MOST_RELATIONS, 2, relations.len())?;
+    check_length(5, 0, Limits::MOST_COMPARISONS, 3, comparisons.len())?;
+    check_length(4, 1, Limits::MOST_QUERIES, 4, queries.len())
 }
 
 // A range of `count` features from `first` on, where there are n.
@@ -79,16 +76,11 @@ pub fn expression_fits(n: usize, f: usize, x: Expression) -> bool
 pub fn check_expressions(n: usize, expressions: &[u16]) -> Verdict
     ensures { result ≡ expressions_check n expressions.now }
 {
-    let count = expressions.len() / 3;
-    let mut f = 0;
-    while f < count {
+    for f in 0..expressions.len() / 3 {
         let x = decode_expression(expressions, f);
-        if !expression_fits(n, f, x) {
-            return refuse(3, f);
-        }
-        f += 1;
+        refuse_if(!expression_fits(n, f, x), 3, f)?;
     }
-    Verdict::Accepted
+    Ok(())
 }
 
 // Check 4, where there are e expressions.
@@ -112,15 +104,10 @@ fn entry_fits(m: usize, e: usize, k: usize, entries: &[u16]) -> bool
 pub fn check_entries(m: usize, e: usize, entries: &[u16]) -> Verdict
     ensures { result ≡ entries_check m e entries.now }
 {
-    let count = entries.len() / 2;
-    let mut k = 0;
-    while k < count {
-        if !entry_fits(m, e, k, entries) {
-            return refuse(5, k);
-        }
-        k += 1;
+    for k in 0..entries.len() / 2 {
+        refuse_if(!entry_fits(m, e, k, entries), 5, k)?;
     }
-    Verdict::Accepted
+    Ok(())
 }
 
 // A comparison that stands as form f, where there are m attributes and e expressions.
@@ -144,14 +131,9 @@ fn comparison_fits(m: usize, e: usize, f: usize, x: Comparison) -> bool
 pub fn check_comparisons(m: usize, e: usize, comparisons: &[u16]) -> Verdict
     ensures { result ≡ comparisons_check m e comparisons.now }
 {
-    let count = comparisons.len() / 5;
-    let mut f = 0;
-    while f < count {
+    for f in 0..comparisons.len() / 5 {
         let x = decode_comparison(comparisons, f);
-        if !comparison_fits(m, e, f, x) {
-            return refuse(7, f);
-        }
-        f += 1;
+        refuse_if(!comparison_fits(m, e, f, x), 7, f)?;
     }
-    Verdict::Accepted
+    Ok(())
 }

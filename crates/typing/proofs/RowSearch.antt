@@ -1,11 +1,11 @@
 -- The search of rows, one after another, for one that is not empty.
+use Rattle.std.specs.Prelude.{Some, None}
 use Prim.Native.Nat.{ℕ, ◌+◌, ◌<◌, ◌≤◌}
 use mathlib.Core.Path.{◌≡◌, sym, ap, ◌∙◌}
 use mathlib.Core.Bool.{Bool, true, false, not}
 use mathlib.Core.List.{List}
 use native.Mathlib.Omega.{arith}
 use borrow.Author.Count.{below_more}
-use Rattle.sets.specs.declared.Found.{Found}
 use Rattle.sets.specs.Search.{lowest}
 use Rattle.sets.specs.Rows.{row_in, row_is_empty}
 use Rattle.sets.proofs.SearchLaws.{nothing_lowest, at_lowest}
@@ -30,8 +30,8 @@ module _ (rows : List ℕ) (count : ℕ) where
       pub passed_more : not empty ≡ false → RowsPassed rows count (q + 1)
       passed_more e = record { within = omega arith; none = below_more _ _ P.none (here ∙ e) }
 
-      pub passed_here : not empty ≡ true → Found.At q ≡ lowest (rowed rows) count
+      pub passed_here : not empty ≡ true → Some q ≡ lowest (rowed rows) count
       passed_here e = sym (at_lowest (rowed rows) count q (record { below = taken; holds = here ∙ e; before = P.none }))
 
-  pub passed_all : {q : ℕ} → RowsPassed rows count q → count ≤ q → Found.Nothing ≡ lowest (rowed rows) count
+  pub passed_all : {q : ℕ} → RowsPassed rows count q → count ≤ q → None ≡ lowest (rowed rows) count
   passed_all P left = sym (nothing_lowest (rowed rows) count (λ k h. P.none k (omega arith)))

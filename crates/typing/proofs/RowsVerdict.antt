@@ -1,12 +1,12 @@
 -- The typing check from the rows of the configurations at which each form fails: it names the lowest form whose row is not empty, and the
 -- lowest configuration of that row, at which it answers as at that configuration alone.
+use Rattle.std.specs.Prelude.{Some, None, Ok}
 use Prim.Native.Nat.{ℕ, zero, suc, ◌≤◌, ◌<◌}
 use mathlib.Core.Path.{◌≡◌, refl, sym, ap, ◌∙◌}
 use mathlib.Core.Bool.{Bool, true, false, cond, not, not-not, false≢true}
 use mathlib.Core.List.{List}
 use native.Mathlib.Omega.{arith}
 use lib.Pow.{pow_mono}
-use Rattle.sets.specs.declared.Found.{Found}
 use Rattle.sets.specs.Search.{lowest, is_found, some_below, First}
 use Rattle.sets.specs.Rows.{row_in, row_is_empty, row_lowest, RowsAre}
 use Rattle.sets.proofs.SearchLaws.{lowest_nothing, lowest_at, some_none, some_at}
@@ -17,7 +17,6 @@ use Rattle.report.specs.Readings.{fails_by}
 use Rattle.report.specs.Checks.{fault_refusal, typing_check}
 use Rattle.report.specs.Formed.{Formed}
 use Rattle.report.specs.TypingFaults.{TypingFault}
-use Rattle.report.specs.declared.Verdict.{Verdict}
 use Rattle.report.specs.declared.Reading.{Reading}
 use Rattle.report.proofs.TypingLaws.{fails_permitted, typing_accepted, typing_refused}
 use Rattle.fault_rows.specs.FaultRows.{fails_at, failing_row}
@@ -84,11 +83,11 @@ module _ {T : Tables} (F : Formed T) (R : Reading) {rows : List ℕ} (A : RowsAr
   empty_keeps q phase c h e = none_fails T R q (sym (rowed_fails q h) ∙ e) (pow_mono {j = 10} F.few) phase c
 
   -- where every row is empty the check accepts
-  pub rows_accepted : lowest (rowed rows) (query_count T) ≡ Found.Nothing → typing_check T R ≡ Verdict.Accepted
+  pub rows_accepted : lowest (rowed rows) (query_count T) ≡ None → typing_check T R ≡ Ok tt
   rows_accepted e =
       (typing_accepted T R).1 (λ c q phase l h n. empty_keeps q phase c h (lowest_nothing (rowed rows) (query_count T) e q h) n l)
 
-  module _ {q : ℕ} (e : lowest (rowed rows) (query_count T) ≡ Found.At q) where
+  module _ {q : ℕ} (e : lowest (rowed rows) (query_count T) ≡ Some q) where
     lowest_form : First (rowed rows) (query_count T) q
     lowest_form = lowest_at (rowed rows) (query_count T) q e
 
@@ -100,13 +99,13 @@ module _ {T : Tables} (F : Formed T) (R : Reading) {rows : List ℕ} (A : RowsAr
     row_lowest_lem = ap (row_lowest 16) (A.each q form_in) ∙ lowest-row_of 16 (fails_at T R q)
 
     -- it has a lowest configuration
-    pub row_some : row_lowest 16 (row_in 16 rows q) ≡ Found.Nothing → ⊥
+    pub row_some : row_lowest 16 (row_in 16 rows q) ≡ None → ⊥
     row_some n =
         let s : true ≡ false = sym lowest_form.holds ∙ rowed_fails q form_in ∙ ap is_found (sym row_lowest_lem ∙ n) in
         let z : ◌≡◌ {A = ℕ} 0 1 = cc in
         omega arith
 
-    module _ {c : ℕ} (f : row_lowest 16 (row_in 16 rows q) ≡ Found.At c) where
+    module _ {c : ℕ} (f : row_lowest 16 (row_in 16 rows q) ≡ Some c) where
       failing : Failing T R q c
       failing = some_fails T R q (lowest_at (fails_at T R q) 1024 c (sym row_lowest_lem ∙ f))
 

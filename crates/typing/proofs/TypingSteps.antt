@@ -1,10 +1,10 @@
 -- What the parts of the typing check hand to one another.
+use Rattle.std.specs.Prelude.{Some, None, Ok}
 use Prim.Native.Nat.{ℕ, ◌+◌, ◌*◌, ◌/◌, ◌≤◌}
 use mathlib.Core.Path.{◌≡◌, refl, sym, ap, ◌∙◌}
 use mathlib.Core.List.{List}
 use native.Mathlib.Omega.{arith}
 use lib.ListN.{length, replicate, length-replicate}
-use Rattle.sets.specs.declared.Found.{Found}
 use Rattle.sets.specs.Search.{lowest}
 use Rattle.sets.specs.Lists.{concat}
 use Rattle.sets.proofs.ListLaws.{numbers_are}
@@ -13,7 +13,7 @@ use Rattle.report.specs.Tables.{Tables, comparison_count, query_count}
 use Rattle.report.specs.Configuring.{written}
 use Rattle.report.specs.Readings.{spared}
 use Rattle.report.specs.Checks.{typing_check}
-use Rattle.report.specs.declared.Verdict.{Verdict}
+use Rattle.report.specs.Verdicts.{Verdict}
 use Rattle.report.specs.declared.Reading.{Reading}
 use Rattle.report.proofs.FormedFacts.{counts}
 use Rattle.report.proofs.TypingLaws.{permitted_within}
@@ -46,11 +46,11 @@ module _ {T : Tables} {R : Reading} {expression_rows relation_entries project_en
       found_form : form ≡ lowest (rowed fault_rows) (query_count T)
       found_form = f ∙ ap (lowest (rowed fault_rows)) count_is
 
-      pub no_form : form ≡ Found.Nothing → Verdict.Accepted ≡ typing_check T R
+      pub no_form : form ≡ None → (Ok tt) ≡ typing_check T R
       no_form e = sym (rows_accepted A.report.prepared.formed R A.failing (sym found_form ∙ e))
 
-      module _ {q : ℕ} (e : form ≡ Found.At q) where
-        at_form : lowest (rowed fault_rows) (query_count T) ≡ Found.At q
+      module _ {q : ℕ} (e : form ≡ Some q) where
+        at_form : lowest (rowed fault_rows) (query_count T) ≡ Some q
         at_form = sym found_form ∙ e
 
         pub form_room : q * 16 + 16 ≤ length fault_rows
@@ -61,10 +61,10 @@ module _ {T : Tables} {R : Reading} {expression_rows relation_entries project_en
           found_row : configuration ≡ row_lowest 16 (row_in 16 fault_rows q)
           found_row = l ∙ ap (row_lowest 16) read
 
-          pub no_configuration : {A : Type 0} → configuration ≡ Found.Nothing → A
+          pub no_configuration : {A : Type 0} → configuration ≡ None → A
           no_configuration d = absurd (row_some A.report.prepared.formed R A.failing at_form (sym found_row ∙ d))
 
-          module _ {c : ℕ} (d : configuration ≡ Found.At c) where
+          module _ {c : ℕ} (d : configuration ≡ Some c) where
             pub here_reads : HereReads T R c expression_rows relation_entries project_entries relations comparisons queries kinds reach spared_sets
             here_reads = record {
               inside = permitted_within T c (configuration_permitted A.report.prepared.formed R A.failing at_form (sym found_row ∙ d));

@@ -19,12 +19,12 @@ use comparisons::Gathered;
 use expression_rows::Scope;
 use fault_rows::{add_clashes, fill_faults};
 use report::{Limits, Verdict};
-use sets::{Found, Row};
+use sets::Row;
 use typing_at::check_here;
 use typing_each::{FEW, check_each};
 
 // The lowest of `count` rows that is not empty.
-fn lowest_row(count: usize, rows: &[u64]) -> Found
+fn lowest_row(count: usize, rows: &[u64]) -> Option<usize>
     requires { count * 16 ≤ length rows.now }
     ensures { result ≡ lowest (rowed rows.now) count }
 {
@@ -32,11 +32,11 @@ fn lowest_row(count: usize, rows: &[u64]) -> Found
     while q < count {
         let row = Row::load(rows, q);
         if !row.is_empty() {
-            return Found::At(q);
+            return Some(q);
         }
         q += 1;
     }
-    Found::Nothing
+    None
 }
 
 // The answer from the rows of the configurations at which each form fails. A row that is not empty has a lowest configuration, so the second
@@ -62,12 +62,12 @@ fn check_rows(
         → result ≡ typing_check T R }
 {
     let form = lowest_row(queries.len() / 4, fault_rows);
-    let Found::At(q) = form else {
-        return Verdict::Accepted;
+    let Some(q) = form else {
+        return Ok(());
     };
     let configuration = Row::load(fault_rows, q).lowest();
-    let Found::At(c) = configuration else {
-        return Verdict::Accepted;
+    let Some(c) = configuration else {
+        return Ok(());
     };
     let here = check_here(
         c,

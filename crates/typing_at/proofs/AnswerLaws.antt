@@ -1,4 +1,5 @@
 -- Laws of the answer at one configuration alone: where it accepts, and that it is the typing check's own answer at the configuration which that names.
+use Rattle.std.specs.Prelude.{Ok, Err}
 use Prim.Native.Nat.{ℕ, ◌<◌}
 use mathlib.Core.Path.{◌≡◌, sym, ap, ap₂, ◌∙◌}
 use mathlib.Core.Bool.{Bool, false, false≢true}
@@ -12,7 +13,6 @@ use Rattle.report.specs.Verdicts.{refusal, refuse_if}
 use Rattle.report.specs.Checks.{fault_refusal}
 use Rattle.report.specs.TypingFaults.{TypingFault}
 use Rattle.report.specs.declared.Refusal.{Refusal}
-use Rattle.report.specs.declared.Verdict.{Verdict}
 use Rattle.report.specs.declared.Reading.{Reading}
 use Rattle.report.proofs.VerdictLaws.{if_accepted, accepted_if, first_accepted, accepted_first, refused_first}
 use Rattle.report.proofs.TreeLaws.{reached-permitted, holds_where}
@@ -22,7 +22,7 @@ use Rattle.typing_at.specs.TypingAt.{phase_here, form_here, typing_here}
 
 module _ (T : Tables) (R : Reading) (c : ℕ) where
   -- form q is accepted at c exactly where it fails there in no phase
-  pub form_accepted : (q : ℕ) → (form_here T R c q ≡ Verdict.Accepted) ↔ ((phase : ℕ) → phase < phases → fails_by T R c phase q ≡ false)
+  pub form_accepted : (q : ℕ) → (form_here T R c q ≡ Ok tt) ↔ ((phase : ℕ) → phase < phases → fails_by T R c phase q ≡ false)
   form_accepted q = (
     λ e phase h.
         if_accepted (fails_by T R c phase q) (fault_refusal T R q phase c)
@@ -31,7 +31,7 @@ module _ (T : Tables) (R : Reading) (c : ℕ) where
   )
 
   -- nothing is refused at c exactly where no form fails there
-  pub here_accepted : (typing_here T R c ≡ Verdict.Accepted) ↔ ((q phase : ℕ) → q < query_count T → phase < phases → fails_by T R c phase q ≡ false)
+  pub here_accepted : (typing_here T R c ≡ Ok tt) ↔ ((q phase : ℕ) → q < query_count T → phase < phases → fails_by T R c phase q ≡ false)
   unfolding typing_here
   here_accepted = (
     λ e q phase h. (form_accepted q).0 (first_accepted (form_here T R c) (query_count T) 0 e q (omega arith) (omega arith)) phase,
@@ -39,13 +39,13 @@ module _ (T : Tables) (R : Reading) (c : ℕ) where
   )
 
   -- nothing is refused at a configuration that is not permitted
-  pub nothing_here : permitted T c ≡ false → typing_here T R c ≡ Verdict.Accepted
+  pub nothing_here : permitted T c ≡ false → typing_here T R c ≡ Ok tt
   nothing_here e =
       here_accepted.1
       (λ q phase h n. fails_none T R c phase q ((holds_where T c q phase).1 (λ r. absurd (false≢true (sym e ∙ reached-permitted T c q r)))))
 
 -- at the configuration that the typing check names, that configuration alone gives the same refusal
-pub fault_here : {T : Tables} {R : Reading} {r : Refusal} → TypingFault T R r → typing_here T R r.configuration ≡ Verdict.Refused r
+pub fault_here : {T : Tables} {R : Reading} {r : Refusal} → TypingFault T R r → typing_here T R r.configuration ≡ Err r
 unfolding typing_here
 fault_here {T} {R} {r} f =
     let c = r.configuration in
@@ -57,4 +57,4 @@ fault_here {T} {R} {r} f =
     (refused_first (phase_here T R c r.place) phases 0 f.phase r (omega arith) (omega arith)
     (λ phase a b. accepted_if (fault_refusal T R r.place phase c) (f.lower_phases phase c b l))
     (ap (λ (t : Bool). refuse_if t (fault_refusal T R r.place f.phase c)) f.failing
-    ∙ ap₂ (λ (n i : ℕ). Verdict.Refused (refusal n r.place i c)) (sym f.numbered) (sym f.item_of)))
+    ∙ ap₂ (λ (n i : ℕ). Err (refusal n r.place i c)) (sym f.numbered) (sym f.item_of)))

@@ -1,4 +1,5 @@
 -- Laws of the typing check at one configuration: of one form, of the loop over the forms, and of what the parts hand to one another.
+use Rattle.std.specs.Prelude.{Ok, Err}
 use Prim.Native.Nat.{ℕ, ◌+◌, ◌-◌, ◌*◌, ◌/◌, ◌<◌, ◌≤◌}
 use mathlib.Core.Path.{◌≡◌, refl, sym, ap, ap₂, ◌∙◌}
 use mathlib.Core.Bool.{Bool, true, false, not, ◌&&◌}
@@ -20,11 +21,10 @@ use Rattle.report.specs.Tables.{Tables, query, kind_of, project_length, projecte
 use Rattle.report.specs.Typing.{reached, gathered, set_of, faults_of, clashes_in, faults_in, faults}
 use Rattle.report.specs.Readings.{faults_by}
 use Rattle.report.specs.Configuring.{written}
-use Rattle.report.specs.Verdicts.{refusal, refuse_if, or_else}
+use Rattle.report.specs.Verdicts.{Verdict, refusal, refuse_if, or_else}
 use Rattle.report.specs.Checks.{rule_number, fault_number, fault_refusal}
 use Rattle.report.specs.declared.Query.{Query}
 use Rattle.report.specs.declared.Refusal.{Refusal}
-use Rattle.report.specs.declared.Verdict.{Verdict}
 use Rattle.report.specs.declared.Reading.{Reading}
 use Rattle.report.proofs.FormedFacts.{counts, report_in}
 use Rattle.report.proofs.ReadingLaws.{faults-spared, faults_later}
@@ -80,7 +80,7 @@ module _ {T : Tables} {R : Reading} {q : ℕ} {expression_rows entries relations
         read ∙ ap (λ (r : List ℕ). row_bit r c) (H.reaching.each q H.rule.at.inside) ∙ row_bit-row_of 16 (λ d. reached T d q) c few
 
     -- a form that c does not reach breaks nothing
-    pub unreached : not t ≡ true → Verdict.Accepted ≡ form_here T R c q
+    pub unreached : not t ≡ true → (Ok tt) ≡ form_here T R c q
     unreached e =
         sym
         (accepted_first (phase_here T R c q) 2 0
@@ -112,7 +112,7 @@ pub record FormsPassed (expression_rows entries relations queries reach spared :
   pub most : q ≤ length queries / 4
   pub starts : start ≡ projected_before queries q
   pub none : (T : Tables) (R : Reading) → FormsHereReads T R expression_rows entries relations queries reach spared c named clashing sets → (k : ℕ) → k < q
-      → form_here T R c k ≡ Verdict.Accepted
+      → form_here T R c k ≡ Ok tt
 
 module _ {expression_rows entries relations queries reach spared : List ℕ} {c : ℕ} {named clashing sets : List ℕ} where
   pub forms_none : FormsPassed expression_rows entries relations queries reach spared c named clashing sets 0 0
@@ -150,7 +150,7 @@ module _ {expression_rows entries relations queries reach spared : List ℕ} {c 
           (answers : (T : Tables) (R : Reading) → FormHereReads T R q expression_rows entries relations reach spared c named clashing sets start x
           → v ≡ form_here T R c q) where
         -- the form fails: it is the lowest
-        pub forms_refused : {r : Refusal} → v ≡ Verdict.Refused r → (T : Tables) (R : Reading)
+        pub forms_refused : {r : Refusal} → v ≡ Err r → (T : Tables) (R : Reading)
             → FormsHereReads T R expression_rows entries relations queries reach spared c named clashing sets → v ≡ typing_here T R c
         unfolding typing_here
         forms_refused {r} f T R H =
@@ -165,7 +165,7 @@ module _ {expression_rows entries relations queries reach spared : List ℕ} {c 
           pub forms_inside : FormsHereReadable expression_rows entries relations queries reach spared c named clashing sets → start + n ≤ length entries / 2
           forms_inside A = (form_list (here A.reads).rule.at l).lies
 
-          pub forms_more : v ≡ Verdict.Accepted → FormsPassed expression_rows entries relations queries reach spared c named clashing sets (q + 1) (start + n)
+          pub forms_more : v ≡ Ok tt → FormsPassed expression_rows entries relations queries reach spared c named clashing sets (q + 1) (start + n)
           forms_more f = record {
             most = omega arith;
             starts = ap₂ ◌+◌ S.starts (l ∙ ap project_length e) ∙ ap (projected_before queries) (sym (add-one q));
@@ -173,7 +173,7 @@ module _ {expression_rows entries relations queries reach spared : List ℕ} {c 
           }
 
     pub forms_all : length queries / 4 ≤ q → (T : Tables) (R : Reading)
-        → FormsHereReads T R expression_rows entries relations queries reach spared c named clashing sets → Verdict.Accepted ≡ typing_here T R c
+        → FormsHereReads T R expression_rows entries relations queries reach spared c named clashing sets → (Ok tt) ≡ typing_here T R c
     unfolding typing_here
     forms_all h T R H =
         let e = ap (λ (t : List ℕ). length t / 4) H.queries_are in

@@ -6,9 +6,8 @@ use Rattle.report.specs.Expressions.{configurations}
 use Rattle.report.specs.Typing.{phases, names, clashes, set_of}
 use Rattle.report.specs.Readings.{spared, fails_by}
 use Rattle.report.specs.Configuring.{written}
-use Rattle.report.specs.Verdicts.{refuse_if, first_from}
+use Rattle.report.specs.Verdicts.{Verdict, refuse_if, first_from}
 use Rattle.report.specs.Checks.{fault_refusal}
-use Rattle.report.specs.declared.Verdict.{Verdict}
 use Rattle.report.specs.declared.Reading.{Reading}
 use Rattle.expression_rows.specs.TypingReads.{ReportReads}
 use Rattle.typing_at.specs.declared.Here.{Here}

@@ -18,7 +18,7 @@ use decoders::{decode_query, project_length};
 use faults_at::{clashes_in, faults_of, fill_form_sets, fill_gathered};
 use report::{Limits, Query, Verdict};
 use sets::AttributeSet;
-use verdicts::{or_else, refuse_items};
+use verdicts::refuse_items;
 
 // The number of a query form's rule, the first that is looked for.
 fn rule_number(x: Query) -> u64
@@ -60,7 +60,7 @@ fn form_here(
         → result ≡ form_here T R c q }
 {
     if !holds_at(reach, q, c) {
-        return Verdict::Accepted;
+        return Ok(());
     }
     let broken = faults_of(
         x,
@@ -73,9 +73,8 @@ fn form_here(
         form_sets,
     );
     let spared = AttributeSet::of_bits(spared_sets[q]);
-    let rule = refuse_items(rule_number(x), q, broken.minus(spared), c);
-    let kinds = refuse_items(25, q, clashes_in(x, clash_sets), c);
-    or_else(rule, kinds)
+    refuse_items(rule_number(x), q, broken.minus(spared), c)?;
+    refuse_items(25, q, clashes_in(x, clash_sets), c)
 }
 
 // All forms at c: the lowest that fails there.
@@ -98,12 +97,10 @@ fn forms_here(
         reach.now spared_sets.now c named_sets.now clash_sets.now form_sets.now
         → result ≡ typing_here T R c }
 {
-    let count = queries.len() / 4;
     let mut start = 0;
-    let mut q = 0;
-    while q < count {
+    for q in 0..queries.len() / 4 {
         let x = decode_query(queries, q);
-        let v = form_here(
+        form_here(
             x,
             q,
             c,
@@ -116,14 +113,10 @@ fn forms_here(
             named_sets,
             clash_sets,
             form_sets,
-        );
-        if let Verdict::Refused(_) = v {
-            return v;
-        }
+        )?;
         start += project_length(x);
-        q += 1;
     }
-    Verdict::Accepted
+    Ok(())
 }
 
 // What typing finds at one configuration alone: its answer there, and the report's set, that of the last form.

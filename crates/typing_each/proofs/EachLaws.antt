@@ -1,4 +1,5 @@
 -- The typing check from its answers at each configuration alone: taken together they are its answer (each_typing).
+use Rattle.std.specs.Prelude.{Ok, Err}
 use Prim.Native.Nat.{ℕ, zero, suc, ◌+◌, ◌*◌, ◌≤◌, ◌<◌}
 use mathlib.Core.Path.{◌≡◌, refl, sym, ap, ◌∙◌, subst}
 use mathlib.Core.Bool.{Bool, true, false, cond}
@@ -11,11 +12,10 @@ use Rattle.report.specs.Tables.{Tables, query, query_count}
 use Rattle.report.specs.Expressions.{configurations, permitted}
 use Rattle.report.specs.Typing.{phases}
 use Rattle.report.specs.Readings.{fails_by}
-use Rattle.report.specs.Verdicts.{refuse_if}
+use Rattle.report.specs.Verdicts.{Verdict, refuse_if}
 use Rattle.report.specs.Checks.{rule_number, fault_number, fault_refusal, typing_check}
 use Rattle.report.specs.declared.Query.{Query}
 use Rattle.report.specs.declared.Refusal.{Refusal}
-use Rattle.report.specs.declared.Verdict.{Verdict}
 use Rattle.report.specs.declared.Reading.{Reading}
 use Rattle.report.proofs.VerdictLaws.{accepted_not_refused, if_accepted, first_refused}
 use Rattle.report.proofs.TypingLaws.{fails_permitted, typing_accepted, typing_refused}
@@ -66,8 +66,8 @@ record FirstFault (T : Tables) (R : Reading) (from to q phase c : ℕ) : Type 0 
 
 -- the answer from the configurations from `from` on and below `to`: by form, then by phase, then by configuration
 data Answer (T : Tables) (R : Reading) (from to : ℕ) : Verdict → Type 0 where
-  none : NoneBefore T R from to (query_count T * phases) → Answer T R from to Verdict.Accepted
-  first : {q phase c : ℕ} → FirstFault T R from to q phase c → Answer T R from to (Verdict.Refused (fault_refusal T R q phase c))
+  none : NoneBefore T R from to (query_count T * phases) → Answer T R from to (Ok tt)
+  first : {q phase c : ℕ} → FirstFault T R from to q phase c → Answer T R from to (Err (fault_refusal T R q phase c))
 
 module _ (T : Tables) (R : Reading) (c : ℕ) where
   -- the range that is c alone
@@ -76,7 +76,7 @@ module _ (T : Tables) (R : Reading) (c : ℕ) where
 
   -- the first fault there is that of the lowest form that fails, in its first phase that fails
   first_here : (q phase : ℕ) → q < query_count T → phase < phases → fails_by T R c phase q ≡ true
-      → ((p : ℕ) → p < q → form_here T R c p ≡ Verdict.Accepted) → ((i : ℕ) → i < phase → phase_here T R c q i ≡ Verdict.Accepted)
+      → ((p : ℕ) → p < q → form_here T R c p ≡ Ok tt) → ((i : ℕ) → i < phase → phase_here T R c q i ≡ Ok tt)
       → FirstFault T R c (suc c) q phase c
   first_here q phase h n e forms_before phases_before = record {
     inside = h;
@@ -96,17 +96,17 @@ module _ (T : Tables) (R : Reading) (c : ℕ) where
   unfolding typing_here
   here_answer = go (typing_here T R c) refl
     where
-      refused : (t : Bool) (s : Refusal) {r : Refusal} → refuse_if t s ≡ Verdict.Refused r → (t ≡ true) × (s ≡ r)
+      refused : (t : Bool) (s : Refusal) {r : Refusal} → refuse_if t s ≡ Err r → (t ≡ true) × (s ≡ r)
       refused true s e = (refl, cc)
       refused false s e = accepted_not_refused e refl
 
       go : (v : Verdict) → typing_here T R c ≡ v → Answer T R c (suc c) v
-      go Verdict.Accepted e = Answer.none (at_one (query_count T * phases) (λ q phase h l. (here_accepted T R c).0 e q phase (omega arith) h))
-      go (Verdict.Refused r) e =
+      go (Ok tt) e = Answer.none (at_one (query_count T * phases) (λ q phase h l. (here_accepted T R c).0 e q phase (omega arith) h))
+      go (Err r) e =
           let f = first_refused (form_here T R c) (query_count T) 0 r e in
           let g = first_refused (phase_here T R c f.at) phases 0 r f.gave in
           let a = refused (fails_by T R c g.at f.at) (fault_refusal T R f.at g.at c) g.gave in
-          subst (λ (s : Refusal). Answer T R c (suc c) (Verdict.Refused s)) a.1
+          subst (λ (s : Refusal). Answer T R c (suc c) (Err s)) a.1
           (Answer.first
           (first_here f.at g.at (omega (arith, f.below)) (omega (arith, g.below)) a.0 (λ p. f.before p (omega arith))
           (λ i. g.before i (omega arith))))
@@ -145,12 +145,12 @@ module _ (T : Tables) (R : Reading) (from mid to : ℕ) where
 
   -- of two first faults it is the one whose refusal precedes, and otherwise the lower one
   sooner_fault : {q phase c p i d : ℕ} → FirstFault T R from mid q phase c → FirstFault T R mid to p i d
-      → Answer T R from to (sooner (Verdict.Refused (fault_refusal T R q phase c)) (Verdict.Refused (fault_refusal T R p i d)))
+      → Answer T R from to (sooner (Err (fault_refusal T R q phase c)) (Err (fault_refusal T R p i d)))
   sooner_fault {q} {phase} {c} {p} {i} {d} f g =
       rw (precedes_order T R p i d q phase c g.is_phase f.is_phase) (go (ltb (position p i) (position q phase)) refl)
     where
       go : (t : Bool) → ltb (position p i) (position q phase) ≡ t
-          → Answer T R from to (cond t (Verdict.Refused (fault_refusal T R p i d)) (Verdict.Refused (fault_refusal T R q phase c)))
+          → Answer T R from to (cond t (Err (fault_refusal T R p i d)) (Err (fault_refusal T R q phase c)))
       go true e = Answer.first (first_higher (ltb-true (position p i) (position q phase) e) f.earlier g)
       go false e = Answer.first (first_lower (ltb-false (position p i) (position q phase) e) f g.earlier)
 
@@ -195,9 +195,9 @@ module _ (T : Tables) (R : Reading) where
 
   -- ---- configurations that are not permitted
 
-  sooner_accepted : (v : Verdict) → sooner v Verdict.Accepted ≡ v
-  sooner_accepted Verdict.Accepted = refl
-  sooner_accepted (Verdict.Refused r) = refl
+  sooner_accepted : (v : Verdict) → sooner v (Ok tt) ≡ v
+  sooner_accepted (Ok tt) = refl
+  sooner_accepted (Err r) = refl
 
   -- they change nothing
   pub below_skips : (j k : ℕ) → j ≤ k → ((c : ℕ) → j ≤ c → c < k → permitted T c ≡ false) → typing_below T R k ≡ typing_below T R j

@@ -1,4 +1,5 @@
 -- Laws of the loop over the permitted configurations: the answer, and the report's sets, at those that were gone through.
+use Rattle.std.specs.Prelude.{Some, None, Ok}
 use Prim.Native.Nat.{ℕ, suc, ◌+◌, ◌-◌, ◌<◌, ◌≤◌}
 use mathlib.Core.Path.{◌≡◌, refl, sym, ap, ap₂, ◌∙◌, subst}
 use mathlib.Core.Bool.{false}
@@ -8,7 +9,6 @@ use native.Mathlib.Numerals.{add-one}
 use native.Mathlib.Omega.{arith}
 use lib.ListN.{length, set, replicate, length-replicate}
 use lib.Pow.{pow_mono}
-use Rattle.sets.specs.declared.Found.{Found}
 use Rattle.sets.specs.Search.{count_below}
 use Rattle.sets.specs.Lists.{concat, table, NumbersAre}
 use Rattle.sets.specs.Rows.{row_of, row_bit, row_count, row_lowest_from}
@@ -21,7 +21,7 @@ use Rattle.report.specs.Expressions.{configurations, permitted}
 use Rattle.report.specs.Typing.{set_of}
 use Rattle.report.specs.Readings.{spared}
 use Rattle.report.specs.Configuring.{written}
-use Rattle.report.specs.declared.Verdict.{Verdict}
+use Rattle.report.specs.Verdicts.{Verdict}
 use Rattle.report.specs.declared.Reading.{Reading}
 use Rattle.report.proofs.FormedFacts.{counts}
 use Rattle.report.proofs.TypingLaws.{permitted_within, permitted_1024}
@@ -132,7 +132,7 @@ pub record EachPassed (scope : Scope) (expression_rows relation_entries project_
 module _ {scope : Scope} {expression_rows relation_entries project_entries relations comparisons queries kinds reach lent : List ℕ}
     (A : EachReadable scope expression_rows relation_entries project_entries relations comparisons queries kinds reach lent) where
   pub each_none : EachPassed scope expression_rows relation_entries project_entries relations comparisons queries kinds reach (replicate 64 0)
-      (replicate 64 0) 0 Verdict.Accepted 0
+      (replicate 64 0) 0 (Ok tt) 0
   unfolding typing_below
   each_none = record {
     most = omega arith;
@@ -155,7 +155,7 @@ module _ {scope : Scope} {expression_rows relation_entries project_entries relat
       (S : EachPassed scope expression_rows relation_entries project_entries relations comparisons queries kinds reach numbers sets count answer from)
       {next : Found} (found : next ≡ row_lowest_from 16 scope.permitted.words from) where
     -- none is left
-    module _ (e : next ≡ Found.Nothing) where
+    module _ (e : next ≡ None) where
       none : {T : Tables} → TypingReads T scope expression_rows relation_entries project_entries relations comparisons queries kinds reach
           → (d : ℕ) → from ≤ d → d < 1024 → permitted T d ≡ false
       none R = none_permitted R.scoped from found e
@@ -196,7 +196,7 @@ module _ {scope : Scope} {expression_rows relation_entries project_entries relat
           }
 
     -- c is the next
-    module _ {c : ℕ} (e : next ≡ Found.At c) where
+    module _ {c : ℕ} (e : next ≡ Some c) where
       least : {T : Tables} → TypingReads T scope expression_rows relation_entries project_entries relations comparisons queries kinds reach
           → Least (permitted T) from (1024 - from) c
       least R = next_permitted R.scoped from found e

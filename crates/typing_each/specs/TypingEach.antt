@@ -1,11 +1,11 @@
 -- The typing check, configuration by configuration: how the answers at all of them make one, and what the functions read; `..Readable`: there are such
 -- tables; `..Fillable`: and words are lent.
-use Rattle.std.specs.Prelude.{ℕ, zero, suc, ◌/◌, ◌≤◌, List, length}
+use Rattle.std.specs.Prelude.{ℕ, zero, suc, ◌/◌, ◌≤◌, List, length, Ok}
 use Rattle.sets.specs.Lists.{NumbersAre}
 use Rattle.sets.specs.Rows.{row_count}
 use Rattle.report.specs.Tables.{Tables, query_count}
 use Rattle.report.specs.Readings.{spared}
-use Rattle.report.specs.declared.Verdict.{Verdict}
+use Rattle.report.specs.Verdicts.{Verdict}
 use Rattle.report.specs.declared.Reading.{Reading}
 use Rattle.verdicts.specs.Sooner.{sooner}
 use Rattle.expression_rows.specs.TypingReads.{TypingReads, TypingReadable}
@@ -14,7 +14,7 @@ use Rattle.typing_at.specs.TypingAt.{typing_here, SetsLent}
 
 -- the answer in a reading from those at the configurations below k (proofs/EachLaws: each_typing)
 unfoldable pub typing_below : Tables → Reading → ℕ → Verdict
-typing_below T R zero = Verdict.Accepted
+typing_below T R zero = Ok tt
 typing_below T R (suc k) = sooner (typing_below T R k) (typing_here T R k)
 
 -- what typing reads, where at most 64 configurations are permitted

@@ -9,7 +9,6 @@ ghost use Rattle.typing_each.specs.TypingEach.{EachReadable, EachFillable, SizeR
 use column_rows::store_columns;
 use expression_rows::Scope;
 use report::{Limits, Verdict};
-use sets::Found;
 use sparing::fill_spared;
 use typing_at::fill_here;
 use verdicts::sooner_of;
@@ -48,13 +47,9 @@ fn check_with(
     let mut configurations = [0; FEW];
     let mut sets = [0; FEW];
     let mut count = 0;
-    let mut answer = Verdict::Accepted;
+    let mut answer = Ok(());
     let mut from = 0;
-    loop {
-        let next = permitted.lowest_from(from);
-        let Found::At(c) = next else {
-            break;
-        };
+    while let Some(c) = permitted.lowest_from(from) {
         let here = fill_here(
             c,
             expression_rows,

@@ -1,7 +1,7 @@
 -- Of two answers of typing, that at lower configurations and that at one more, the one that comes first.
-use Rattle.std.specs.Prelude.{Bool, cond, ◌&&◌, ◌||◌, ltb, eqb}
+use Rattle.std.specs.Prelude.{Bool, cond, ◌&&◌, ◌||◌, ltb, eqb, Ok, Err}
 use Rattle.report.specs.declared.Refusal.{Refusal}
-use Rattle.report.specs.declared.Verdict.{Verdict}
+use Rattle.report.specs.Verdicts.{Verdict}
 
 -- s is of a lower form than r, or of an earlier phase of the same form: the number of a rule is lower than that of kinds
 abbrev pub precedes : Refusal → Refusal → Bool
@@ -9,6 +9,6 @@ precedes s r = ltb s.place r.place || (eqb s.place r.place && ltb s.number r.num
 
 -- of the answers at lower configurations and at one more: by form, then by phase, then by configuration
 abbrev pub sooner : Verdict → Verdict → Verdict
-sooner Verdict.Accepted w = w
-sooner (Verdict.Refused r) Verdict.Accepted = Verdict.Refused r
-sooner (Verdict.Refused r) (Verdict.Refused s) = cond (precedes s r) (Verdict.Refused s) (Verdict.Refused r)
+sooner (Ok tt) w = w
+sooner (Err r) (Ok tt) = Err r
+sooner (Err r) (Err s) = cond (precedes s r) (Err s) (Err r)

@@ -1,20 +1,19 @@
-// Answers of checks: a refusal, the first of two answers, and the sooner of two answers of typing, each at its own configuration.
+// Answers of checks: a refusal, and the sooner of two answers of typing, each at its own configuration.
 #![tactic(auto)]
 
 ghost use Rattle.std.specs.Prelude.{◌≡◌, not, eqb};
 ghost use Rattle.sets.specs.Bits.{lowest_member};
 ghost use Rattle.report.specs.Verdicts.{refusal, refuse_if, or_else};
-ghost use Rattle.report.specs.declared.Verdict.{Verdict};
 ghost use Rattle.verdicts.specs.Sooner.{precedes, sooner};
 
 use report::{Refusal, Verdict};
-use sets::{AttributeSet, Found};
+use sets::AttributeSet;
 
 // The refusal of a form or table: item and configuration are not named.
 pub fn refuse(number: u64, place: usize) -> Verdict
-    ensures { result ≡ Verdict.Refused (refusal number place 0 0) }
+    ensures { result ≡ Err (refusal number place 0 0) }
 {
-    Verdict::Refused(Refusal {
+    Err(Refusal {
         number: number,
         place: place as u64,
         item: 0,
@@ -29,27 +28,16 @@ pub fn refuse_if(bad: bool, number: u64, place: usize) -> Verdict
     if bad {
         return refuse(number, place);
     }
-    Verdict::Accepted
-}
-
-// The answers of two checks, of which the first runs first: the first refusal.
-pub fn or_else(first: Verdict, next: Verdict) -> Verdict
-    ensures { result ≡ or_else first next }
-{
-    match first {
-        Verdict::Accepted => next,
-        Verdict::Refused(r) => Verdict::Refused(r),
-    }
+    Ok(())
 }
 
 // The lowest of the items at fault; 0 stands for none.
 fn lowest_item(found: AttributeSet) -> u64
     ensures { result ≡ lowest_member found.bits }
 {
-    let item = found.lowest();
-    match item {
-        Found::At(a) => a as u64,
-        Found::Nothing => 0,
+    match found.lowest() {
+        Some(a) => a as u64,
+        None => 0,
     }
 }
 
@@ -58,9 +46,9 @@ pub fn refuse_items(number: u64, q: usize, found: AttributeSet, c: usize) -> Ver
     ensures { result ≡ refuse_if (not (eqb found.bits 0)) (refusal number q (lowest_member found.bits) c) }
 {
     if found.is_empty() {
-        return Verdict::Accepted;
+        return Ok(());
     }
-    Verdict::Refused(Refusal {
+    Err(Refusal {
         number: number,
         place: q as u64,
         item: lowest_item(found),
@@ -79,10 +67,10 @@ fn goes_before(s: Refusal, r: Refusal) -> bool
 pub fn sooner_of(x: Verdict, y: Verdict) -> Verdict
     ensures { result ≡ sooner x y }
 {
-    let Verdict::Refused(r) = x else {
+    let Err(r) = x else {
         return y;
     };
-    let Verdict::Refused(s) = y else {
+    let Err(s) = y else {
         return x;
     };
     if goes_before(s, r) {

@@ -1,4 +1,5 @@
 -- The lines of the page counted, and what the call answers and leaves.
+use Rattle.std.specs.Prelude.{Ok, Err}
 use Prim.Native.Nat.{ℕ, suc, ◌+◌, ◌*◌, ◌%◌, ◌^◌, ◌≤◌, ◌<◌}
 use mathlib.Core.Path.{◌≡◌, refl, sym, ap, ◌∙◌}
 use mathlib.Core.Bool.{true, false}
@@ -16,11 +17,10 @@ use Rattle.sets.proofs.WritingLaws.{from_start}
 use Rattle.report.specs.Tables.{Tables}
 use Rattle.report.specs.Expressions.{configurations, permitted}
 use Rattle.report.specs.Configuring.{written}
-use Rattle.report.specs.Verdicts.{refusal, refuse_if, after}
+use Rattle.report.specs.Verdicts.{Verdict, refusal, refuse_if, after}
 use Rattle.report.specs.Calls.{answer}
 use Rattle.report.specs.Formed.{Formed}
 use Rattle.report.specs.declared.Refusal.{Refusal}
-use Rattle.report.specs.declared.Verdict.{Verdict}
 use Rattle.report.specs.declared.Reading.{Reading}
 use Rattle.report.proofs.VerdictLaws.{if_accepted}
 use Rattle.report.proofs.FirstFault.{first_none, first_one}
@@ -76,7 +76,7 @@ page-length {T} F = page_bytes F ∙ ap (λ (k : ℕ). k * 73) (sym (line_count_
 -- ---- the answer
 
 -- a refused call leaves what was lent
-pub refused_left : {v : Verdict} {r : Refusal} (new lent : List ℕ) → v ≡ Verdict.Refused r → lent ≡ after v new lent
+pub refused_left : {v : Verdict} {r : Refusal} (new lent : List ℕ) → v ≡ Err r → lent ≡ after v new lent
 refused_left new lent f = ap (λ (x : Verdict). after x new lent) (sym f)
 
 module _ (T : Tables) (R : Reading) {checked : Verdict} (before : checked ≡ report_check T R) (lent : List ℕ) where
@@ -89,10 +89,10 @@ module _ (T : Tables) (R : Reading) {checked : Verdict} (before : checked ≡ re
   }
 
   -- a check of the report refuses
-  pub refused_answers : {r : Refusal} → checked ≡ Verdict.Refused r → PageWritten T R lent (PageAnswer.Refused r) lent
+  pub refused_answers : {r : Refusal} → checked ≡ Err r → PageWritten T R lent (PageAnswer.Refused r) lent
   refused_answers f = answered (call_refused T R (writing_page (length lent)) first_none before f) refl refl
 
-  module _ (passed : checked ≡ Verdict.Accepted) {permits columns : List ℕ} (C : Columns T permits columns) {lines : ℕ}
+  module _ (passed : checked ≡ Ok tt) {permits columns : List ℕ} (C : Columns T permits columns) {lines : ℕ}
       (counted : lines ≡ permitted_count permits ((1 * 2 ^ T.features) % 2 ^ 64)) where
     all : (1 * 2 ^ T.features) % 2 ^ 64 ≡ configurations T
     all = shifted_configurations C.formed refl
@@ -112,7 +112,7 @@ module _ (T : Tables) (R : Reading) {checked : Verdict} (before : checked ≡ re
       pub late_answers : {r : PageAnswer} {now : List ℕ} → r ≡ page_answer late lines → now ≡ after late (written (page T) lent) lent → PageWritten T R lent r now
       late_answers e g = answered verdict (e ∙ ap (page_answer late) lines_are) g
 
-      module _ (f : late ≡ Verdict.Accepted) where
+      module _ (f : late ≡ Ok tt) where
         room : Room (page_text permits ((1 * 2 ^ T.features) % 2 ^ 64) columns) lent 0
         room = record {
           fits =

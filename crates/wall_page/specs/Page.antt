@@ -1,13 +1,12 @@
 -- docs/FORMAT.md, "The wall page": the call that writes it. The page itself, and its lines, are in crate printing, specs/Page.
-use Rattle.std.specs.Prelude.{ℕ, ◌*◌, ◌≡◌, Bool, false, List, [], length, ltb}
+use Rattle.std.specs.Prelude.{ℕ, ◌*◌, ◌≡◌, Bool, false, List, [], length, ltb, Ok, Err}
 use Rattle.sets.specs.Search.{count_below}
 use Rattle.report.specs.Tables.{Tables}
 use Rattle.report.specs.Expressions.{configurations, permitted}
 use Rattle.report.specs.Configuring.{written}
-use Rattle.report.specs.Verdicts.{refusal, after, Condition, ◌gives◌}
+use Rattle.report.specs.Verdicts.{Verdict, refusal, after, Condition, ◌gives◌}
 use Rattle.report.specs.Checks.{is_typing_fault}
 use Rattle.report.specs.Calls.{Call, answer}
-use Rattle.report.specs.declared.Verdict.{Verdict}
 use Rattle.report.specs.declared.Reading.{Reading}
 use Rattle.printing.specs.Page.{page}
 use Rattle.wall_page.specs.declared.PageAnswer.{PageAnswer}
@@ -26,8 +25,8 @@ writing_page room = record { before_model = λ T. []; after_typing = page_condit
 
 -- the answer: the number of lines, or the refusal
 abbrev pub page_answer : Verdict → ℕ → PageAnswer
-page_answer Verdict.Accepted lines = PageAnswer.Lines lines
-page_answer (Verdict.Refused r) lines = PageAnswer.Refused r
+page_answer (Ok tt) lines = PageAnswer.Lines lines
+page_answer (Err r) lines = PageAnswer.Refused r
 
 module _ (T : Tables) (R : Reading) (lent : List ℕ) where
   -- what the call answers, with these bytes lent
@@ -46,4 +45,4 @@ pub record PageWritten (T : Tables) (R : Reading) (lent : List ℕ) (r : PageAns
 -- an answer that is a typing fault
 abbrev pub is_page_fault : PageAnswer → Bool
 is_page_fault (PageAnswer.Lines lines) = false
-is_page_fault (PageAnswer.Refused r) = is_typing_fault (Verdict.Refused r)
+is_page_fault (PageAnswer.Refused r) = is_typing_fault (Err r)

@@ -43,8 +43,8 @@ fn page_answer(verdict: Verdict, lines: usize) -> PageAnswer
     ensures { result ≡ page_answer verdict lines }
 {
     match verdict {
-        Verdict::Accepted => PageAnswer::Lines(lines),
-        Verdict::Refused(r) => PageAnswer::Refused(r),
+        Ok(()) => PageAnswer::Lines(lines),
+        Err(r) => PageAnswer::Refused(r),
     }
 }
 
@@ -77,14 +77,14 @@ pub fn write_page(
         &mut columns,
     );
     let checked = judged.verdict;
-    if let Verdict::Refused(r) = checked {
+    if let Err(r) = checked {
         return PageAnswer::Refused(r);
     }
     let count = 1 << head.features;
     // The lines are counted before any is written: a refused call changes no byte.
     let lines = permitted_count(judged.permitted, count);
     let late = refuse_if(page.len() < LINE_BYTES * lines, 23, 0);
-    if let Verdict::Accepted = late {
+    if let Ok(()) = late {
         put_page(page, 0, judged.permitted, count, &columns);
     }
     page_answer(late, lines)

@@ -1,4 +1,5 @@
 -- The lines of the print as the pieces that they are written in, and the members of a set one by one.
+use Rattle.std.specs.Prelude.{Err}
 use Prim.Native.Nat.{ℕ, zero, suc}
 use mathlib.Core.Path.{◌≡◌, refl, sym, ap, ◌∙◌}
 use mathlib.Core.Bool.{Bool, true, false, cond}
@@ -10,12 +11,11 @@ use Rattle.report.specs.Text.{bytes, decimal, spaced}
 use Rattle.report.specs.Print.{members, at_line, print_answer, print_file}
 use Rattle.report.specs.HarbourFile.{File}
 use Rattle.report.specs.declared.Refusal.{Refusal}
-use Rattle.report.specs.declared.Verdict.{Verdict}
 use Rattle.writing.specs.Lines.{refusal_line, unread_line, member_text, members_text, configuration_line}
 
 -- ---- the lines are those of the print
 
-pub refusal_print : (T : Tables) (f : Refusal) → print_answer T (Verdict.Refused f) ≡ refusal_line f
+pub refusal_print : (T : Tables) (f : Refusal) → print_answer T (Err f) ≡ refusal_line f
 unfolding refusal_line
 refusal_print T f = refl
 

@@ -1,5 +1,5 @@
+use Rattle.std.specs.Prelude.{Ok}
 use mathlib.Core.Path.{sym, ap, ◌∙◌}
-use Rattle.report.specs.declared.Verdict.{Verdict}
 use Rattle.report.proofs.VerdictLaws.{both_accepted}
 use Rattle.judging.proofs.JudgingLaws.{own_columns}
 use Rattle.finding.specs.Finding.{found_answer}
@@ -12,11 +12,11 @@ returns-in-Refused c =
     c.refuse_if-late.ensures c.or_else-verdict.ensures c.in-Refused.is
 
 pub returns-in-At : goal.returns-in-At
-returns-in-At c = ap (found_answer Verdict.Accepted) (sym c.in-At.is) ∙ (found_answers _ c.args.reading c.of_bits-wanted.ensures c.check_into_columns-judged.ensures.answers c.has_from.ensures
+returns-in-At c = ap (found_answer (Ok tt)) (sym c.in-At.is) ∙ (found_answers _ c.args.reading c.of_bits-wanted.ensures c.check_into_columns-judged.ensures.answers c.has_from.ensures
     c.refuse_if-late.ensures c.or_else-verdict.ensures c.in_default.is (own_columns c.check_into_columns-judged.ensures (both_accepted _ _ (sym c.or_else-verdict.ensures ∙ c.in_default.is)).0)
     c.lowest_with-found.ensures)
 
 pub returns-in-Nothing : goal.returns-in-Nothing
-returns-in-Nothing c = ap (found_answer Verdict.Accepted) (sym c.in-Nothing.is) ∙ (found_answers _ c.args.reading c.of_bits-wanted.ensures c.check_into_columns-judged.ensures.answers c.has_from.ensures
+returns-in-Nothing c = ap (found_answer (Ok tt)) (sym c.in-Nothing.is) ∙ (found_answers _ c.args.reading c.of_bits-wanted.ensures c.check_into_columns-judged.ensures.answers c.has_from.ensures
     c.refuse_if-late.ensures c.or_else-verdict.ensures c.in_default.is (own_columns c.check_into_columns-judged.ensures (both_accepted _ _ (sym c.or_else-verdict.ensures ∙ c.in_default.is)).0)
     c.lowest_with-found.ensures)

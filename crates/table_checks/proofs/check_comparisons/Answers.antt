@@ -1,21 +1,19 @@
+use Rattle.std.proofs.Common.{rules, ◌≡◌, Err, sym}
 use mathlib.Core.Path.{◌∙◌}
+use Rattle.report.proofs.VerdictLaws.{if_accepted}
 use Rattle.report.specs.FormChecks.{comparison_fits, comparisons_check}
 use Rattle.table_checks.proofs.FormLoops.{passed_more, passed_first, passed_all}
-use Rattle.std.proofs.Common.{ap}
-use Rattle.std.specs.Prelude.{not}
 use Rattle.table_checks.proofs.check_comparisons.Goals as goal
 
-pub returns-then-not-comparison_fits : goal.returns-then-not-comparison_fits
+pub returns-in_err-refuse_if : goal.returns-in_err-refuse_if
 unfolding comparisons_check
-returns-then-not-comparison_fits c =
-    c.refuse.ensures
-    ∙ passed_first _ _ c.loop-f.invariant c.loop-f-test.true
-    (rw c.decode_comparison-x.ensures at c.comparison_fits.ensures) (ap not c.if-not-comparison_fits.true) _
+returns-in_err-refuse_if c =
+    let told : c.from_residual.result ≡ Err c.in_err-refuse_if.field-0.0 = search rules in
+    told ∙ passed_first _ _ c.loop-f.invariant c.loop-f-test.true (rw c.decode_comparison-x.ensures at c.comparison_fits.ensures) _ c.in_err-refuse_if.ensures
 
 pub loop-f-preserved : goal.loop-f-preserved
 loop-f-preserved c =
-    passed_more _ _ c.loop-f.invariant c.loop-f-test.true
-    (rw c.decode_comparison-x.ensures at c.comparison_fits.ensures) (ap not c.if-not-comparison_fits.false)
+    passed_more _ _ c.loop-f.invariant c.loop-f-test.true (rw c.decode_comparison-x.ensures at c.comparison_fits.ensures) (if_accepted _ _ (sym c.in_ok-refuse_if.ensures))
 
 pub returns : goal.returns
 unfolding comparisons_check

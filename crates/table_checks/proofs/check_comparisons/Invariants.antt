@@ -8,5 +8,3 @@ use Rattle.table_checks.proofs.check_comparisons.Given as goal
 abbrev pub invariant-loop-f : goal.invariant-loop-f
 invariant-loop-f l = FormsPassed (λ j. comparison_fits l.m l.e j (comparison l.comparisons j)) (length l.comparisons / 5) l.f
 
-abbrev pub decreases-loop-f : goal.decreases-loop-f
-decreases-loop-f l = length l.comparisons / 5 - l.f

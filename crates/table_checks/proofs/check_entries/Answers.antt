@@ -1,15 +1,14 @@
+use Rattle.std.proofs.Common.{rules, ◌≡◌, Err}
 use mathlib.Core.Path.{◌∙◌}
 use Rattle.report.specs.FormChecks.{entry_fits, entries_check}
 use Rattle.table_checks.proofs.FormLoops.{passed_first, passed_all}
-use Rattle.std.proofs.Common.{ap}
-use Rattle.std.specs.Prelude.{not}
 use Rattle.table_checks.proofs.check_entries.Goals as goal
 
-pub returns-then-not-entry_fits : goal.returns-then-not-entry_fits
+pub returns-in_err-refuse_if : goal.returns-in_err-refuse_if
 unfolding entries_check
-returns-then-not-entry_fits c =
-    c.refuse.ensures
-    ∙ passed_first _ _ c.loop-k.invariant c.loop-k-test.true c.entry_fits.ensures (ap not c.if-not-entry_fits.true) _
+returns-in_err-refuse_if c =
+    let told : c.from_residual.result ≡ Err c.in_err-refuse_if.field-0.0 = search rules in
+    told ∙ passed_first _ _ c.loop-k.invariant c.loop-k-test.true c.entry_fits.ensures _ c.in_err-refuse_if.ensures
 
 pub returns : goal.returns
 unfolding entries_check

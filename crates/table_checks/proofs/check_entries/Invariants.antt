@@ -7,5 +7,3 @@ use Rattle.table_checks.proofs.check_entries.Given as goal
 abbrev pub invariant-loop-k : goal.invariant-loop-k
 invariant-loop-k l = FormsPassed (entry_fits l.m l.e l.entries) (length l.entries / 2) l.k
 
-abbrev pub decreases-loop-k : goal.decreases-loop-k
-decreases-loop-k l = length l.entries / 2 - l.k

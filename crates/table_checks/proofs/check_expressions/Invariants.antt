@@ -8,5 +8,3 @@ use Rattle.table_checks.proofs.check_expressions.Given as goal
 abbrev pub invariant-loop-f : goal.invariant-loop-f
 invariant-loop-f l = FormsPassed (λ j. expression_fits l.n j (expression l.expressions j)) (length l.expressions / 3) l.f
 
-abbrev pub decreases-loop-f : goal.decreases-loop-f
-decreases-loop-f l = length l.expressions / 3 - l.f
