@@ -26,8 +26,7 @@ use Rattle.report.proofs.SameTables.{same_tables}
 use Rattle.report.proofs.FirstFault.{first_none, room_fits, first_own}
 use Rattle.judging.specs.Judging.{meaning_check, report_check}
 use Rattle.judging.proofs.JudgingLaws.{call_refused, call_late, Rows}
-use Rattle.configuring.specs.declared.Configured.{Configured}
-use Rattle.configuring.specs.Promises.{configured_answer, Rooms, Leaves, Configures, is_configured_fault}
+use Rattle.configuring.specs.Promises.{Configured, counts, configured_answer, Rooms, Leaves, Configures, is_configured_fault}
 use Rattle.configuring.specs.AfterTyping.{late_verdict, ConfigureReads}
 
 -- ---- 20 and 21
@@ -53,7 +52,7 @@ late_accepted T c new_entries new_relations new_comparisons new_queries e =
 
 -- a refused call leaves the tables as they were
 pub leaves_refused : {v : Verdict} {r : Refusal} {U : Tables} {new_entries new_relations new_comparisons new_queries : List ℕ} → Err r ≡ v
-    → Leaves v U new_entries new_relations new_comparisons new_queries (Configured.Refused r) new_entries new_relations new_comparisons new_queries
+    → Leaves v U new_entries new_relations new_comparisons new_queries (Err r) new_entries new_relations new_comparisons new_queries
 leaves_refused e = rw (← e) record { answers = refl; entries = refl; relations = refl; comparisons = refl; queries = refl }
 
 -- where a reading accepts, what the writers write, which is what the filled one does, is what it does
@@ -69,7 +68,7 @@ module _ (T : Tables) (R : Reading) (c : ℕ) (new_entries new_relations new_com
 
   -- a check before 20 refuses
   pub report_refuses : {r : Refusal} → v ≡ Err r
-      → Configures T R c new_entries new_relations new_comparisons new_queries (Configured.Refused r) new_entries new_relations new_comparisons new_queries
+      → Configures T R c new_entries new_relations new_comparisons new_queries (Err r) new_entries new_relations new_comparisons new_queries
   report_refuses f = leaves_refused (call_refused T R call first_none checked f)
 
   -- 20 and 21 answer
@@ -115,10 +114,10 @@ module _ {v : Verdict} {U : Tables} {new_entries new_relations new_comparisons n
       go (Err r) = refl
 
   -- and a refusal exactly where the verdict is that
-  pub configured_refused : (x : Refusal) → (r ≡ Configured.Refused x) ↔ (v ≡ Err x)
+  pub configured_refused : (x : Refusal) → (r ≡ Err x) ↔ (v ≡ Err x)
   configured_refused x = (λ e. go v (sym L.answers ∙ e), λ e. L.answers ∙ ap (λ (v : Verdict). configured_answer v U) e)
     where
-      go : (v : Verdict) → configured_answer v U ≡ Configured.Refused x → v ≡ Err x
+      go : (v : Verdict) → configured_answer v U ≡ Err x → v ≡ Err x
       go (Ok tt) e = absurd (let z : ◌≡◌ {A = ℕ} 0 1 = cc in omega arith)
       go (Err y) e = cc
 
@@ -133,7 +132,7 @@ read {new} lent count width e f whole =
 read_tables : {U : Tables} → U.truth ≡ holds U.expressions → Formed U
     → {new_entries new_relations new_comparisons new_queries new_entries' new_relations' new_comparisons' new_queries' : List ℕ} {a b c d : ℕ}
     → Leaves (Ok tt) U new_entries new_relations new_comparisons new_queries
-    (Configured.Written a b c d) new_entries' new_relations' new_comparisons' new_queries'
+    (Ok (counts a b c d)) new_entries' new_relations' new_comparisons' new_queries'
     → tables_of U.features U.attributes U.model U.expressions (take (a * 2) new_entries') (take (b * 2) new_relations')
     (take (c * 5) new_comparisons') (take (d * 4) new_queries') U.kinds
     ≡ U
@@ -150,7 +149,7 @@ read_tables {U} worked F {new_entries} {new_relations} {new_comparisons} {new_qu
 pub read_back_lem : (T : Tables) (k : ℕ) (R : Reading) → Formed (configured T k R)
     → {new_entries new_relations new_comparisons new_queries new_entries' new_relations' new_comparisons' new_queries' : List ℕ} {a b c d : ℕ}
     → Leaves (Ok tt) (configured T k R) new_entries new_relations new_comparisons new_queries
-    (Configured.Written a b c d) new_entries' new_relations' new_comparisons' new_queries'
+    (Ok (counts a b c d)) new_entries' new_relations' new_comparisons' new_queries'
     → tables_of 0 T.attributes 0 (1 ∷ 0 ∷ 0 ∷ []) (take (a * 2) new_entries') (take (b * 2) new_relations') (take (c * 5) new_comparisons')
     (take (d * 4) new_queries') T.kinds ≡ configured T k R
 unfolding configured

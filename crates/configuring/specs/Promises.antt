@@ -1,17 +1,26 @@
 -- What the call `configure` promises: the answer, and what the tables lent to it for writing hold afterwards.
-use Rattle.std.specs.Prelude.{ℕ, ◌≤◌, ◌≡◌, Bool, false, List, length, Ok, Err}
+use Rattle.std.specs.Prelude.{ℕ, ◌≤◌, ◌≡◌, Bool, false, List, length, Result, Ok, Err}
 use Rattle.report.specs.Tables.{Tables, entry_count, relation_count, comparison_count, query_count}
 use Rattle.report.specs.Configuring.{configured, written}
 use Rattle.report.specs.Verdicts.{Verdict, after}
 use Rattle.report.specs.Checks.{is_typing_fault}
 use Rattle.report.specs.Calls.{answer, configuring}
 use Rattle.report.specs.declared.Reading.{Reading}
-use Rattle.configuring.specs.declared.Configured.{Configured}
+use Rattle.report.specs.declared.Refusal.{Refusal}
+use Rattle.configuring.specs.declared.FormCounts.{FormCounts}
+
+-- how many forms tables 1 to 4 have
+abbrev pub counts : ℕ → ℕ → ℕ → ℕ → FormCounts
+counts entries relations comparisons queries = record { entries = entries; relations = relations; comparisons = comparisons; queries = queries }
+
+-- what configuring answers: these, or the refusal
+abbrev pub Configured : Type 0
+Configured = Result FormCounts Refusal
 
 -- the answer: the number of forms in tables 1 to 4 of what is written, or the refusal
 abbrev pub configured_answer : Verdict → Tables → Configured
-configured_answer (Ok tt) U = Configured.Written (entry_count U) (relation_count U) (comparison_count U) (query_count U)
-configured_answer (Err r) U = Configured.Refused r
+configured_answer (Ok tt) U = Ok (counts (entry_count U) (relation_count U) (comparison_count U) (query_count U))
+configured_answer (Err r) U = Err r
 
 -- a table lent for writing, afterwards: the new words, followed by what stood there; unchanged by a refused call
 abbrev pub table_after : Verdict → List ℕ → List ℕ → List ℕ
@@ -41,5 +50,5 @@ Configures T R c new_entries new_relations new_comparisons new_queries =
 
 -- an answer of configuring that is a typing fault
 abbrev pub is_configured_fault : Configured → Bool
-is_configured_fault (Configured.Written a b c d) = false
-is_configured_fault (Configured.Refused r) = is_typing_fault (Err r)
+is_configured_fault (Ok n) = false
+is_configured_fault (Err r) = is_typing_fault (Err r)

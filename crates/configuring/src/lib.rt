@@ -18,15 +18,20 @@ use judging::{COLUMN_WORDS, EXPRESSION_WORDS, REACH_WORDS, check_into_rows};
 use kept_forms::{number_comparisons, number_queries, write_comparisons, write_queries};
 use kept_lists::{write_project_lists, write_relation_forms, write_relation_lists};
 use late_checks::{LentWords, check_late};
-use report::{Head, Limits, Reading, Refusal, Verdict};
+use report::{Head, Limits, Reading, Refusal};
 use sets::Row;
 
-// What configuring answers: how many forms tables 1 to 4 have, or the refusal.
+// How many forms each of the tables 1 to 4 has.
 #[derive(Clone, Copy)]
-pub enum Configured {
-    Written(usize, usize, usize, usize),
-    Refused(Refusal),
+pub struct FormCounts {
+    pub entries: usize,
+    pub relations: usize,
+    pub comparisons: usize,
+    pub queries: usize,
 }
+
+// What configuring answers: these, or the refusal.
+pub type Configured = Result<FormCounts, Refusal>;
 
 // Writes table 1 at c: the lists of the relations that are present, then those of the project forms that are reached.
 fn write_entries(
@@ -119,7 +124,12 @@ fn write_with(
         &query_numbers,
         new_queries,
     ) / 4;
-    Configured::Written(entry_count, relation_count, comparison_count, query_count)
+    Ok(FormCounts {
+        entries: entry_count,
+        relations: relation_count,
+        comparisons: comparison_count,
+        queries: query_count,
+    })
 }
 
 // The same. The sets of the forms at c are its own. It is not told the reading: it writes what the filled one says, which of a report that the strict
@@ -205,10 +215,7 @@ fn configure_judged(
         queries: new_queries.len(),
     };
     let permitted = Row::load(expression_rows, model);
-    let late = check_late(permitted, c, lent, entries, relations, comparisons, queries);
-    if let Err(r) = late {
-        return Configured::Refused(r);
-    }
+    check_late(permitted, c, lent, entries, relations, comparisons, queries)?;
     let split = relations_end(relations) * 2;
     write_kept(
         c as usize,
@@ -251,7 +258,7 @@ pub fn configure(
     let mut expression_rows = [0; EXPRESSION_WORDS];
     let mut reach = [0; REACH_WORDS];
     let mut columns = [0; COLUMN_WORDS];
-    let checked = check_into_rows(
+    check_into_rows(
         head,
         reading,
         expressions,
@@ -263,10 +270,7 @@ pub fn configure(
         &mut expression_rows,
         &mut reach,
         &mut columns,
-    );
-    if let Err(r) = checked {
-        return Configured::Refused(r);
-    }
+    )?;
     configure_judged(
         head.model,
         c,

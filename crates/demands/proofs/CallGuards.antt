@@ -1,5 +1,5 @@
 -- The promises and the theorems of this crate are about something: calls on H1 and on others of docs/FORMAT.md, "Worked examples", by computation.
-use Rattle.std.specs.Prelude.{Ok, Err}
+use Rattle.std.specs.Prelude.{Ok, Err, Some, None}
 use Prim.Native.Nat.{ℕ, zero, suc, ◌<◌}
 use mathlib.Core.Path.{◌≡◌, refl, sym, ap, ◌∙◌}
 use mathlib.Core.Bool.{true, false, false≢true}
@@ -28,11 +28,8 @@ use Rattle.report.proofs.KindLaws.{kinds_0_before}
 use Rattle.report.proofs.KindMembers.{seven_asks}
 use Rattle.report.proofs.KindCalls.{accepted_one_kind, exactly_25}
 use Rattle.checking.specs.Promises.{Checks}
-use Rattle.configuring.specs.declared.Configured.{Configured}
-use Rattle.configuring.specs.Promises.{Rooms, Leaves, Configures}
-use Rattle.finding.specs.declared.FindAnswer.{FindAnswer}
+use Rattle.configuring.specs.Promises.{counts, Rooms, Leaves, Configures}
 use Rattle.finding.specs.Finding.{lowest_wanted, Finds}
-use Rattle.wall_page.specs.declared.PageAnswer.{PageAnswer}
 use Rattle.wall_page.specs.Page.{line_count, page_after, PageWritten}
 use Rattle.demands.specs.FoundWritten.{FoundWritten}
 use Rattle.demands.specs.FoundConfiguration.{columns_at, HoldsAll, LowestWith, NoneWith}
@@ -56,13 +53,13 @@ abbrev lent4 : List ℕ
 lent4 = replicate 8 9
 
 -- H4: H1 configured at 0. The words after those written are as they were
-pub h4_configures : Configures (h1 2) Reading.Strict 0 lent1 lent2 [] lent4 (Configured.Written 3 1 0 2) (0 ∷ 0 ∷ 1 ∷ 0 ∷ 0 ∷ 0 ∷ replicate 6 9) (0 ∷ 2 ∷ []) []
+pub h4_configures : Configures (h1 2) Reading.Strict 0 lent1 lent2 [] lent4 (Ok (counts 3 1 0 2)) (0 ∷ 0 ∷ 1 ∷ 0 ∷ 0 ∷ 0 ∷ replicate 6 9) (0 ∷ 2 ∷ []) []
     (1 ∷ 0 ∷ 0 ∷ 0 ∷ 3 ∷ 1 ∷ 0 ∷ 0 ∷ [])
 unfolding computed
 h4_configures = record { answers = refl; entries = refl; relations = refl; comparisons = refl; queries = refl }
 
 -- 20: a configuration past the last, also where its low 16 bits are those of a permitted one
-pub past_refused : Configures (h1 2) Reading.Strict 65536 lent1 lent2 [] lent4 (Configured.Refused (refusal 20 0 0 65536)) lent1 lent2 [] lent4
+pub past_refused : Configures (h1 2) Reading.Strict 65536 lent1 lent2 [] lent4 (Err (refusal 20 0 0 65536)) lent1 lent2 [] lent4
 unfolding computed
 past_refused = record { answers = refl; entries = refl; relations = refl; comparisons = refl; queries = refl }
 
@@ -71,7 +68,7 @@ pub past_foremost : Foremost (conditions (h1 2) Reading.Strict (configuring 6553
 past_foremost = (configure_foremost (h1 2) Reading.Strict 65536 lent1 lent2 [] lent4 _ lent1 lent2 [] lent4 past_refused (refusal 20 0 0 65536)).0 refl
 
 -- 21: a table with room for what is written, and shorter than its source
-pub short_refused : Configures (h1 2) Reading.Strict 0 (replicate 9 9) lent2 [] lent4 (Configured.Refused (refusal 21 1 0 0)) (replicate 9 9) lent2 [] lent4
+pub short_refused : Configures (h1 2) Reading.Strict 0 (replicate 9 9) lent2 [] lent4 (Err (refusal 21 1 0 0)) (replicate 9 9) lent2 [] lent4
 unfolding computed
 short_refused = record { answers = refl; entries = refl; relations = refl; comparisons = refl; queries = refl }
 
@@ -86,7 +83,7 @@ h4_permitted = refl
 h4_rooms : Rooms (h1 2) lent1 lent2 [] lent4
 h4_rooms = record { entries = lit≤ tt; relations = lit≤ tt; comparisons = lit≤ tt; queries = lit≤ tt }
 
-pub h4_found : FoundWritten (h1 2) Reading.Strict 0 (column_rows (h1 2)) lent1 lent2 [] lent4 (Configured.Written 3 1 0 2) (0 ∷ 0 ∷ 1 ∷ 0 ∷ 0 ∷ 0 ∷ replicate 6 9)
+pub h4_found : FoundWritten (h1 2) Reading.Strict 0 (column_rows (h1 2)) lent1 lent2 [] lent4 (Ok (counts 3 1 0 2)) (0 ∷ 0 ∷ 1 ∷ 0 ∷ 0 ∷ 0 ∷ replicate 6 9)
     (0 ∷ 2 ∷ []) [] (1 ∷ 0 ∷ 0 ∷ 0 ∷ 3 ∷ 1 ∷ 0 ∷ 0 ∷ [])
 h4_found =
     found_written (h1 2) Reading.Strict 0 lent1 lent2 [] lent4 _ _ _ _ _ h4_configures (replicate 1024 9) (column_rows (h1 2)) h1_checks h4_permitted h4_rooms
@@ -108,14 +105,14 @@ h1_once = record { relations = relation; projects = project }
     project (suc zero) h f = refl
     project (suc (suc q)) h f = absurd (omega arith)
 
-pub h4_before : Leaves (answer_before (h1 2) (configuring 0 12 2 0 8)) (configured_before (h1 2) 0) lent1 lent2 [] lent4 (Configured.Written 3 1 0 2)
+pub h4_before : Leaves (answer_before (h1 2) (configuring 0 12 2 0 8)) (configured_before (h1 2) 0) lent1 lent2 [] lent4 (Ok (counts 3 1 0 2))
     (0 ∷ 0 ∷ 1 ∷ 0 ∷ 0 ∷ 0 ∷ replicate 6 9) (0 ∷ 2 ∷ []) [] (1 ∷ 0 ∷ 0 ∷ 0 ∷ 3 ∷ 1 ∷ 0 ∷ 0 ∷ [])
 h4_before = configure_before (h1 2) 0 lent1 lent2 [] lent4 _ _ _ _ _ h4_configures h1_once
 
 pub ramp_repeats : relation_repeats ramp_twice 0 ≡ true
 ramp_repeats = refl
 
-ramp_configures : Configures ramp_twice Reading.Strict 2 (replicate 7 9) lent2 [] (replicate 4 9) (Configured.Written 2 1 0 1)
+ramp_configures : Configures ramp_twice Reading.Strict 2 (replicate 7 9) lent2 [] (replicate 4 9) (Ok (counts 2 1 0 1))
     (0 ∷ 0 ∷ 1 ∷ 0 ∷ replicate 3 9) (0 ∷ 2 ∷ []) [] (1 ∷ 0 ∷ 0 ∷ 0 ∷ [])
 unfolding computed
 ramp_configures = record { answers = refl; entries = refl; relations = refl; comparisons = refl; queries = refl }
@@ -124,28 +121,28 @@ pub ramp_once : NoRepeats (tables_of 0 2 0 (1 ∷ 0 ∷ 0 ∷ []) (0 ∷ 0 ∷ 1
 ramp_once = configure_once ramp_twice Reading.Strict 2 (replicate 7 9) lent2 [] (replicate 4 9) _ _ _ _ _ ramp_configures 2 1 0 1 refl
 
 -- `find` on H1: vessel and ramp are wanted, and 2 is the lowest configuration that has both; 0 has not. Berth no configuration has
-h1_finds : Finds (h1 2) Reading.Strict 5 (FindAnswer.At 2)
+h1_finds : Finds (h1 2) Reading.Strict 5 (Ok (Some 2))
 unfolding computed lowest_wanted
 h1_finds = refl
 
 pub h1_found : LowestWith (h1 2) (columns_at (h1 2) Reading.Strict) 5 2
-h1_found = (find_found (h1 2) Reading.Strict 5 (FindAnswer.At 2) h1_finds refl).1
+h1_found = (find_found (h1 2) Reading.Strict 5 (Ok (Some 2)) h1_finds refl).1
 
 pub h1_lacks : HoldsAll (columns_at (h1 2) Reading.Strict) 5 0 → ⊥
 h1_lacks = h1_found.lower 0 (lit≤ tt) h4_permitted
 
-berth_finds : Finds (h1 2) Reading.Strict 2 FindAnswer.None
+berth_finds : Finds (h1 2) Reading.Strict 2 (Ok None)
 unfolding computed lowest_wanted
 berth_finds = refl
 
 pub berth_nowhere : NoneWith (h1 2) (columns_at (h1 2) Reading.Strict) 2
-berth_nowhere = find_none (h1 2) Reading.Strict 2 FindAnswer.None berth_finds refl
+berth_nowhere = find_none (h1 2) Reading.Strict 2 (Ok None) berth_finds refl
 
 -- `write_page` on H1, with room for two bytes more: four lines. That of 2 has a mark for the ramp, attribute 2, and none for the berth, attribute 1
 abbrev lent_page : List ℕ
 lent_page = replicate 294 63
 
-h1_page : PageWritten (h1 2) Reading.Strict lent_page (PageAnswer.Lines 4) (page_after (h1 2) Reading.Strict lent_page)
+h1_page : PageWritten (h1 2) Reading.Strict lent_page (Ok 4) (page_after (h1 2) Reading.Strict lent_page)
 unfolding computed line_count
 h1_page = record { answers = refl; stored = refl }
 
@@ -158,7 +155,7 @@ unfolding computed plain_query_at kept_attributes
 h1_columns = refl
 
 h1_line : LineShows 2 5 (line_at (page_after (h1 2) Reading.Strict lent_page) (line_of (h1 2) 2))
-h1_line = rw h1_columns at ((page_shows (h1 2) Reading.Strict lent_page (PageAnswer.Lines 4) _ h1_page refl).line 2 h1_permits).1
+h1_line = rw h1_columns at ((page_shows (h1 2) Reading.Strict lent_page (Ok 4) _ h1_page refl).line 2 h1_permits).1
 
 pub ramp_marked : get_or (line_at (page_after (h1 2) Reading.Strict lent_page) (line_of (h1 2) 2)) 7 0 ≡ 111
 ramp_marked = (h1_line.present 2 (lit≤ tt)).1 refl
@@ -171,12 +168,12 @@ berth_absent = (h1_line.absent 1 (lit≤ tt)).1 refl
 quay_kind : IsKind6 (quay 3 0 3) 0 0 3
 quay_kind = record { kind = refl; first_is = refl; count_is = refl }
 
-quay_finds : Finds (quay 3 0 3) Reading.Strict 1 (FindAnswer.At 1)
+quay_finds : Finds (quay 3 0 3) Reading.Strict 1 (Ok (Some 1))
 unfolding computed lowest_wanted
 quay_finds = refl
 
 pub quay_found : OneOn 0 3 1
-quay_found = model_found (quay 3 0 3) refl 0 3 quay_kind Reading.Strict 1 (FindAnswer.At 1) quay_finds refl
+quay_found = model_found (quay 3 0 3) refl 0 3 quay_kind Reading.Strict 1 (Ok (Some 1)) quay_finds refl
 
 pub quay_tidal : quay_found.feature ≡ 0
 quay_tidal = sym (quay_found.alone 0 (lit≤ tt) (lit≤ tt) refl)

@@ -21,13 +21,10 @@ use Rattle.report.proofs.KindLaws.{kinds_0_before, no_comparisons_before, kinds_
 use Rattle.report.proofs.KindLaws.{checking_free, configuring_free}
 use Rattle.report.proofs.KindCalls.{accepted_one_kind, refused_25}
 use Rattle.checking.specs.Promises.{Checks}
-use Rattle.configuring.specs.declared.Configured.{Configured}
-use Rattle.configuring.specs.Promises.{configured_answer, table_after, Configures}
-use Rattle.finding.specs.declared.FindAnswer.{FindAnswer}
-use Rattle.finding.specs.Finding.{finding, lowest_wanted, found_answer, Finds}
+use Rattle.configuring.specs.Promises.{Configured, configured_answer, table_after, Configures}
+use Rattle.finding.specs.Finding.{FindAnswer, finding, lowest_wanted, found_answer, Finds}
 use Rattle.printing.specs.Page.{page}
-use Rattle.wall_page.specs.declared.PageAnswer.{PageAnswer}
-use Rattle.wall_page.specs.Page.{line_count, writing_page, page_answer, PageWritten}
+use Rattle.wall_page.specs.Page.{PageAnswer, line_count, writing_page, page_answer, PageWritten}
 
 -- ---- "Both sides must have one kind at every configuration that reaches them"
 

@@ -37,8 +37,7 @@ use Rattle.report.proofs.RulesLaws.{rules_plain, rules_throughout, accepted_sets
 use Rattle.report.proofs.WrittenAccepted.{called_sound, called_typed, called_own, checked_passes, checked_columns, accepted_written, configure_accepted}
 use Rattle.report.proofs.Refusing.{check_gets, configure_gets, check_typing, checking_own, configuring_own, refused_broken, refused_named, never_refused}
 use Rattle.checking.specs.Promises.{Checks}
-use Rattle.configuring.specs.declared.Configured.{Configured}
-use Rattle.configuring.specs.Promises.{configured_answer, table_after, Rooms, Leaves, Configures, is_configured_fault}
+use Rattle.configuring.specs.Promises.{Configured, counts, configured_answer, table_after, Rooms, Leaves, Configures, is_configured_fault}
 use Rattle.configuring.proofs.ConfigureLaws.{room_accepted, read_back_lem, configured_fault, configured_refused}
 use Rattle.demands.specs.FoundWritten.{FoundWritten}
 
@@ -130,10 +129,10 @@ module _ (T : Tables) (R : Reading) (c : ℕ) (new_entries new_relations new_com
     abbrev writing : Call
     writing = configuring c (length new_entries) (length new_relations) (length new_comparisons) (length new_queries)
 
-    pub configure_foremost : (x : Refusal) → (r ≡ Configured.Refused x) ↔ Foremost (conditions T R writing) x
-    configure_foremost = call_foremost T R writing Configured.Refused (configured_refused configures)
+    pub configure_foremost : (x : Refusal) → (r ≡ Err x) ↔ Foremost (conditions T R writing) x
+    configure_foremost = call_foremost T R writing Err (configured_refused configures)
 
-    pub configure_unchanged : (x : Refusal) → r ≡ Configured.Refused x
+    pub configure_unchanged : (x : Refusal) → r ≡ Err x
         → (new_entries' ≡ new_entries) × (new_relations' ≡ new_relations) × (new_comparisons' ≡ new_comparisons) × (new_queries' ≡ new_queries)
     configure_unchanged x e = (
       same (configured T c R).entries configures.entries,
@@ -143,7 +142,7 @@ module _ (T : Tables) (R : Reading) (c : ℕ) (new_entries new_relations new_com
     )
       where
         same : (new : List ℕ) {lent left : List ℕ} → left ≡ table_after (answer T R writing) new lent → left ≡ lent
-        same new {lent} stored = call_unchanged T R writing Configured.Refused (configured_refused configures) (written new lent) stored x e
+        same new {lent} stored = call_unchanged T R writing Err (configured_refused configures) (written new lent) stored x e
 
     -- after a check that accepted, with tables lent of any length that check 21 takes, and any words in them
     pub found_written : (rows rows' : List ℕ) → Checks T R rows (Ok tt) rows' → permitted T c ≡ true
@@ -176,11 +175,11 @@ module _ (T : Tables) (R : Reading) (c : ℕ) (new_entries new_relations new_com
             )
 
     -- From `configure` alone, where it answers that it has written
-    module _ (a b d e : ℕ) (written : r ≡ Configured.Written a b d e) where
+    module _ (a b d e : ℕ) (written : r ≡ Ok (counts a b d e)) where
       accepts : answer T R writing ≡ Ok tt
       accepts = go (answer T R writing) (sym written ∙ configures.answers)
         where
-          go : (v : Verdict) → Configured.Written a b d e ≡ configured_answer v (configured T c R) → v ≡ Ok tt
+          go : (v : Verdict) → Ok (counts a b d e) ≡ configured_answer v (configured T c R) → v ≡ Ok tt
           go (Ok tt) u = refl
           go (Err x) u = absurd (let z : ◌≡◌ {A = ℕ} 0 1 = cc in omega arith)
 
@@ -280,7 +279,7 @@ module _ (T : Tables) (sound : Sound T) where
     pub configure_refuses : (is_configured_fault r ≡ true) ↔ Broken T
     configure_refuses = call_refuses T own reaches (configured_fault configures)
 
-    pub configure_names : is_configured_fault r ≡ true → (n : Named T called) × (r ≡ Configured.Refused n.refuses)
+    pub configure_names : is_configured_fault r ≡ true → (n : Named T called) × (r ≡ Err n.refuses)
     configure_names e =
         let n = call_names T own reaches (configured_fault configures) e in (n, (configured_refused configures n.refuses).1 n.answers)
 

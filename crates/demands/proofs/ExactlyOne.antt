@@ -1,6 +1,6 @@
 -- Wish 4, expression kind 6: of the definition; of a form of any tables; of every call, where the form does not fit; and of the calls, where the
 -- feature model is of this kind. The terms are those of specs/ExactlyOne.
-use Rattle.std.specs.Prelude.{Ok, Err}
+use Rattle.std.specs.Prelude.{Ok, Err, Some}
 use Prim.Native.Nat.{ℕ, ◌+◌, ◌*◌, ◌-◌, ◌<◌, ◌≤◌}
 use mathlib.Core.Path.{◌≡◌, refl, sym, ap, ap₂, ◌∙◌}
 use mathlib.Core.Bool.{Bool, true, false, cond, ◌&&◌, not, and-eq-true_iff, false≢true}
@@ -31,12 +31,9 @@ use Rattle.report.proofs.FormFacts.{expression_lower}
 use Rattle.report.proofs.FitLaws.{expression_fits_lem}
 use Rattle.report.proofs.TypingLaws.{row_shows}
 use Rattle.checking.specs.Promises.{Checks}
-use Rattle.configuring.specs.declared.Configured.{Configured}
-use Rattle.configuring.specs.Promises.{Configures}
-use Rattle.finding.specs.declared.FindAnswer.{FindAnswer}
-use Rattle.finding.specs.Finding.{Finds}
-use Rattle.wall_page.specs.declared.PageAnswer.{PageAnswer}
-use Rattle.wall_page.specs.Page.{PageWritten}
+use Rattle.configuring.specs.Promises.{Configured, counts, Configures}
+use Rattle.finding.specs.Finding.{FindAnswer, Finds}
+use Rattle.wall_page.specs.Page.{PageAnswer, PageWritten}
 use Rattle.demands.specs.FoundConfiguration.{columns_at}
 use Rattle.demands.specs.PageLines.{line_at, LineShows}
 use Rattle.demands.specs.ExactlyOne.{IsKind6, OneOn, this_alone}
@@ -182,7 +179,7 @@ module _ (T : Tables) (worked : T.truth ≡ holds T.expressions) (first count : 
         ((model_permits c).0 ((and-eq-true_iff (permitted T c) (bit (set_of T c (report T)) a)).0 has).0).1
 
     -- a page has lines of those alone
-    pub model_lines : (lent : List ℕ) (r : PageAnswer) (bytes : List ℕ) → PageWritten T R lent r bytes → {n : ℕ} → r ≡ PageAnswer.Lines n
+    pub model_lines : (lent : List ℕ) (r : PageAnswer) (bytes : List ℕ) → PageWritten T R lent r bytes → {n : ℕ} → r ≡ Ok n
         → (k : ℕ) → k < n → (c : ℕ) × OneOn first count c × LineShows c (columns_at T R c) (line_at bytes k)
     model_lines lent r bytes written e k h =
         let page = page_shows T R lent r bytes written e in
@@ -190,13 +187,13 @@ module _ (T : Tables) (worked : T.truth ≡ holds T.expressions) (first count : 
         (c.0, ((model_permits c.0).0 c.1).1, rw c.2 at (page.line c.0 c.1).1)
 
     -- one of those is found
-    pub model_found : (wanted : ℕ) (r : FindAnswer) → Finds T R wanted r → {c : ℕ} → r ≡ FindAnswer.At c → OneOn first count c
+    pub model_found : (wanted : ℕ) (r : FindAnswer) → Finds T R wanted r → {c : ℕ} → r ≡ Ok (Some c) → OneOn first count c
     model_found wanted r finds {c} e = ((model_permits c).0 (find_found T R wanted r finds e).1.permits).1
 
     -- and at those alone is the report configured
     pub model_written : (c : ℕ) (entries relations comparisons queries : List ℕ) (r : Configured) (entries' relations' comparisons' queries' : List ℕ)
         → Configures T R c entries relations comparisons queries r entries' relations' comparisons' queries'
-        → (n1 n2 n3 n4 : ℕ) → r ≡ Configured.Written n1 n2 n3 n4 → OneOn first count c
+        → (n1 n2 n3 n4 : ℕ) → r ≡ Ok (counts n1 n2 n3 n4) → OneOn first count c
     model_written c entries relations comparisons queries r entries' relations' comparisons' queries' configures n1 n2 n3 n4 e =
         ((model_permits c).0
         (written-permitted T R c entries relations comparisons queries r entries' relations' comparisons' queries' configures n1 n2 n3 n4 e)).1

@@ -2,7 +2,7 @@
 -- `FilledDemanded` (crate filled, specs/FilledDemands) has the wish's sentences one by one, of the verdicts; `-named` has of each answer what a refusal for a
 -- typing fault names. First fault first, that a refused call changes nothing, and that what a call accepts passes, configured in its reading, with the
 -- columns shown, and is written so, stand in Demands, Finding and WallPage for either reading.
-use Rattle.std.specs.Prelude.{Ok}
+use Rattle.std.specs.Prelude.{Ok, Err}
 use Prim.Native.Nat.{ℕ}
 use mathlib.Core.Path.{◌≡◌, sym, ap, ◌∙◌}
 use mathlib.Core.Bool.{true}
@@ -24,14 +24,11 @@ use Rattle.filled.specs.ReadRules.{RulesBy}
 use Rattle.filled.proofs.ReadRulesLaws.{accepts_by, rows_by}
 use Rattle.filled.proofs.GivenSentences.{whole_filled}
 use Rattle.checking.specs.Promises.{Checks}
-use Rattle.configuring.specs.declared.Configured.{Configured}
-use Rattle.configuring.specs.Promises.{Configures}
+use Rattle.configuring.specs.Promises.{Configured, Configures}
 use Rattle.configuring.proofs.ConfigureLaws.{configured_refused}
-use Rattle.finding.specs.declared.FindAnswer.{FindAnswer}
-use Rattle.finding.specs.Finding.{finding, lowest_wanted, found_answer, Finds}
+use Rattle.finding.specs.Finding.{FindAnswer, finding, lowest_wanted, found_answer, Finds}
 use Rattle.printing.specs.Page.{page}
-use Rattle.wall_page.specs.declared.PageAnswer.{PageAnswer}
-use Rattle.wall_page.specs.Page.{line_count, writing_page, page_answer, PageWritten}
+use Rattle.wall_page.specs.Page.{PageAnswer, line_count, writing_page, page_answer, PageWritten}
 use Rattle.demands.proofs.Demands.{left_rows}
 use Rattle.demands.proofs.Finding.{find_says, finding_own, which_find}
 use Rattle.demands.proofs.WallPage.{page_says, page_own, which_page}
@@ -73,7 +70,7 @@ module _ (T : Tables) (sound : Sound T) where
   -- a refusal of it for a typing fault
   module _ (c : ℕ) (new_entries new_relations new_comparisons new_queries : List ℕ) {r : Configured} {entries relations comparisons queries : List ℕ}
       (f : Configures T Reading.Filled c new_entries new_relations new_comparisons new_queries r entries relations comparisons queries) where
-    pub configure_named : (x : Refusal) → r ≡ Configured.Refused x → is_of_typing x.number ≡ true → FilledNamed T x
+    pub configure_named : (x : Refusal) → r ≡ Err x → is_of_typing x.number ≡ true → FilledNamed T x
     configure_named x e =
         (configure_filled c (length new_entries) (length new_relations) (length new_comparisons) (length new_queries)).named x ((configured_refused f x).0 e)
 
@@ -102,7 +99,7 @@ module _ (T : Tables) (sound : Sound T) where
     pub find_filled : FilledDemanded T (answer T Reading.Strict (finding wanted)) (answer T Reading.Filled (finding wanted))
     find_filled = whole_filled T (finding_own wanted) (which_find T sound wanted)
 
-    pub find_named : {r : FindAnswer} → Finds T Reading.Filled wanted r → (x : Refusal) → r ≡ FindAnswer.Refused x → is_of_typing x.number ≡ true
+    pub find_named : {r : FindAnswer} → Finds T Reading.Filled wanted r → (x : Refusal) → r ≡ Err x → is_of_typing x.number ≡ true
         → FilledNamed T x
     find_named {r} f x e = find_filled.named x ((find_says T Reading.Filled wanted r f x).0 e)
 
@@ -115,7 +112,7 @@ module _ (T : Tables) (sound : Sound T) where
     pub page_filled : FilledDemanded T (answer T Reading.Strict (writing_page (length lent))) (answer T Reading.Filled (writing_page (length lent)))
     page_filled = whole_filled T (page_own (length lent)) (which_page T sound lent)
 
-    pub page_named : {r : PageAnswer} {bytes : List ℕ} → PageWritten T Reading.Filled lent r bytes → (x : Refusal) → r ≡ PageAnswer.Refused x
+    pub page_named : {r : PageAnswer} {bytes : List ℕ} → PageWritten T Reading.Filled lent r bytes → (x : Refusal) → r ≡ Err x
         → is_of_typing x.number ≡ true → FilledNamed T x
     page_named {r} {bytes} f x e = page_filled.named x ((page_says T Reading.Filled lent r bytes f x).0 e)
 

@@ -34,8 +34,7 @@ use Rattle.report.proofs.TypingLaws.{permitted_within}
 use Rattle.report.proofs.Refusing.{own_early}
 use Rattle.report.proofs.WrittenAccepted.{called_sound, called_typed, called_formed, called_passes, called_columns}
 use Rattle.checking.specs.Promises.{Checks}
-use Rattle.finding.specs.declared.FindAnswer.{FindAnswer}
-use Rattle.finding.specs.Finding.{finding, has_wanted, lowest_wanted, found_answer, Finds, is_find_fault}
+use Rattle.finding.specs.Finding.{FindAnswer, finding, has_wanted, lowest_wanted, found_answer, Finds, is_find_fault}
 use Rattle.demands.specs.FoundConfiguration.{columns_at, HoldsAll, LowestWith, NoneWith}
 use Rattle.demands.proofs.Demands.{call_foremost, found_afterwards, call_refuses, call_names, call_never}
 
@@ -78,17 +77,17 @@ module _ (T : Tables) (wanted : ℕ) {set : ℕ → ℕ} (same : (c : ℕ) → p
 
 -- ---- the answer's parts
 
-at_parts : {c : ℕ} (v : Verdict) (f : Option ℕ) → FindAnswer.At c ≡ found_answer v f → (v ≡ Ok tt) × (f ≡ Some c)
+at_parts : {c : ℕ} (v : Verdict) (f : Option ℕ) → Ok (Some c) ≡ found_answer v f → (v ≡ Ok tt) × (f ≡ Some c)
 at_parts (Ok tt) (Some d) e = (refl, cc)
 at_parts (Ok tt) None e = absurd (let z : ◌≡◌ {A = ℕ} 0 1 = cc in omega arith)
 at_parts (Err r) f e = absurd (let z : ◌≡◌ {A = ℕ} 0 1 = cc in omega arith)
 
-none_parts : (v : Verdict) (f : Option ℕ) → FindAnswer.None ≡ found_answer v f → (v ≡ Ok tt) × (f ≡ None)
+none_parts : (v : Verdict) (f : Option ℕ) → (Ok None) ≡ found_answer v f → (v ≡ Ok tt) × (f ≡ None)
 none_parts (Ok tt) (Some d) e = absurd (let z : ◌≡◌ {A = ℕ} 0 1 = cc in omega arith)
 none_parts (Ok tt) None e = (refl, refl)
 none_parts (Err r) f e = absurd (let z : ◌≡◌ {A = ℕ} 0 1 = cc in omega arith)
 
-refused_part : {x : Refusal} (v : Verdict) (f : Option ℕ) → FindAnswer.Refused x ≡ found_answer v f → v ≡ Err x
+refused_part : {x : Refusal} (v : Verdict) (f : Option ℕ) → Err x ≡ found_answer v f → v ≡ Err x
 refused_part (Ok tt) (Some d) e = absurd (let z : ◌≡◌ {A = ℕ} 0 1 = cc in omega arith)
 refused_part (Ok tt) None e = absurd (let z : ◌≡◌ {A = ℕ} 0 1 = cc in omega arith)
 refused_part (Err r) f e = cc
@@ -100,28 +99,28 @@ module _ (T : Tables) (R : Reading) (wanted : ℕ) (r : FindAnswer) (finds : Fin
   told_by : {v : Verdict} → verdict ≡ v → r ≡ found_answer v (lowest_wanted T wanted)
   told_by e = finds ∙ ap (λ (v : Verdict). found_answer v (lowest_wanted T wanted)) e
 
-  at_answer : {c : ℕ} → r ≡ FindAnswer.At c → (verdict ≡ Ok tt) × (lowest_wanted T wanted ≡ Some c)
+  at_answer : {c : ℕ} → r ≡ Ok (Some c) → (verdict ≡ Ok tt) × (lowest_wanted T wanted ≡ Some c)
   at_answer e = at_parts verdict (lowest_wanted T wanted) (sym e ∙ finds)
 
-  none_answer : r ≡ FindAnswer.None → (verdict ≡ Ok tt) × (lowest_wanted T wanted ≡ None)
+  none_answer : r ≡ Ok None → (verdict ≡ Ok tt) × (lowest_wanted T wanted ≡ None)
   none_answer e = none_parts verdict (lowest_wanted T wanted) (sym e ∙ finds)
 
   -- ---- demand 1: it is refused exactly by the first of its conditions that hold
 
-  pub find_says : (x : Refusal) → (r ≡ FindAnswer.Refused x) ↔ (verdict ≡ Err x)
+  pub find_says : (x : Refusal) → (r ≡ Err x) ↔ (verdict ≡ Err x)
   find_says x = (λ e. refused_part verdict (lowest_wanted T wanted) (sym e ∙ finds), λ e. told_by e)
 
-  pub find_foremost : (x : Refusal) → (r ≡ FindAnswer.Refused x) ↔ Foremost (conditions T R (finding wanted)) x
-  find_foremost = call_foremost T R (finding wanted) FindAnswer.Refused find_says
+  pub find_foremost : (x : Refusal) → (r ≡ Err x) ↔ Foremost (conditions T R (finding wanted)) x
+  find_foremost = call_foremost T R (finding wanted) Err find_says
 
   -- ---- "return the lowest permitted configuration whose set holds them all, or none when no permitted configuration has them"
 
   -- of sets that are the report's wherever the call accepts
   module _ {set : ℕ → ℕ} (same : verdict ≡ Ok tt → (c : ℕ) → permitted T c ≡ true → set_of T c (report T) ≡ set c) where
-    found_in : {c : ℕ} → r ≡ FindAnswer.At c → LowestWith T set wanted c
+    found_in : {c : ℕ} → r ≡ Ok (Some c) → LowestWith T set wanted c
     found_in {c} e = let p = at_answer e in (wanted_at T wanted (same p.0) c).0 p.1
 
-    none_in : r ≡ FindAnswer.None → NoneWith T set wanted
+    none_in : r ≡ Ok None → NoneWith T set wanted
     none_in e = let p = none_answer e in (wanted_nowhere T wanted (same p.0)).0 p.1
 
   configured_set : verdict ≡ Ok tt → (c : ℕ) → permitted T c ≡ true → set_of T c (report T) ≡ columns_at T R c
@@ -129,16 +128,16 @@ module _ (T : Tables) (R : Reading) (wanted : ℕ) (r : FindAnswer) (finds : Fin
 
   -- found: c is permitted, the configured report at c passes the plain rules and its columns hold every wanted attribute, and at no lower permitted
   -- configuration do they
-  pub find_found : {c : ℕ} → r ≡ FindAnswer.At c
+  pub find_found : {c : ℕ} → r ≡ Ok (Some c)
       → (passes (kind_of T) (configured_schema T c) (configured_report T c R) ≡ true) × LowestWith T (columns_at T R) wanted c
   find_found {c} e = let l = found_in configured_set e in (called_passes T R (finding wanted) (at_answer e).0 c l.permits, l)
 
   -- none: at no permitted configuration do they
-  pub find_none : r ≡ FindAnswer.None → NoneWith T (columns_at T R) wanted
+  pub find_none : r ≡ Ok None → NoneWith T (columns_at T R) wanted
   find_none = none_in configured_set
 
   -- and unless it is refused, it answers so exactly then
-  module _ (answered : (x : Refusal) → r ≡ FindAnswer.Refused x → ⊥) where
+  module _ (answered : (x : Refusal) → r ≡ Err x → ⊥) where
     accepted : verdict ≡ Ok tt
     accepted = go verdict refl
       where
@@ -146,10 +145,10 @@ module _ (T : Tables) (R : Reading) (wanted : ℕ) (r : FindAnswer) (finds : Fin
         go (Ok tt) e = refl
         go (Err x) e = absurd (answered x (told_by e))
 
-    pub found_exactly : (c : ℕ) → (r ≡ FindAnswer.At c) ↔ LowestWith T (columns_at T R) wanted c
+    pub found_exactly : (c : ℕ) → (r ≡ Ok (Some c)) ↔ LowestWith T (columns_at T R) wanted c
     found_exactly c = (λ e. (find_found e).1, λ l. finds ∙ ap₂ found_answer accepted ((wanted_at T wanted (configured_set accepted) c).1 l))
 
-    pub none_exactly : (r ≡ FindAnswer.None) ↔ NoneWith T (columns_at T R) wanted
+    pub none_exactly : (r ≡ Ok None) ↔ NoneWith T (columns_at T R) wanted
     none_exactly = (find_none, λ n. finds ∙ ap₂ found_answer accepted ((wanted_nowhere T wanted (configured_set accepted)).1 n))
 
   -- the same of any sets that keep the typing rules
@@ -157,10 +156,10 @@ module _ (T : Tables) (R : Reading) (wanted : ℕ) (r : FindAnswer) (finds : Fin
     ruled_set : verdict ≡ Ok tt → (c : ℕ) → permitted T c ≡ true → set_of T c (report T) ≡ S c (report T)
     ruled_set e c p = let F = called_formed T R (finding wanted) e in sym (rules_sets F c p (S c) (keep c p) (report T) (reached-report F c p)).0
 
-    pub find_ruled : {c : ℕ} → r ≡ FindAnswer.At c → LowestWith T (λ d. S d (report T)) wanted c
+    pub find_ruled : {c : ℕ} → r ≡ Ok (Some c) → LowestWith T (λ d. S d (report T)) wanted c
     find_ruled = found_in ruled_set
 
-    pub find_ruled_none : r ≡ FindAnswer.None → NoneWith T (λ d. S d (report T)) wanted
+    pub find_ruled_none : r ≡ Ok None → NoneWith T (λ d. S d (report T)) wanted
     find_ruled_none = none_in ruled_set
 
   -- ---- after a check that accepted, and left these rows
@@ -170,10 +169,10 @@ module _ (T : Tables) (R : Reading) (wanted : ℕ) (r : FindAnswer) (finds : Fin
     shown-set : verdict ≡ Ok tt → (c : ℕ) → permitted T c ≡ true → set_of T c (report T) ≡ shown rows' c
     shown-set e c p = configured_set e c p ∙ (found_afterwards T R rows rows' checks c p).1
 
-    pub find_shown : {c : ℕ} → r ≡ FindAnswer.At c → LowestWith T (shown rows') wanted c
+    pub find_shown : {c : ℕ} → r ≡ Ok (Some c) → LowestWith T (shown rows') wanted c
     find_shown = found_in shown-set
 
-    pub find_shown_none : r ≡ FindAnswer.None → NoneWith T (shown rows') wanted
+    pub find_shown_none : r ≡ Ok None → NoneWith T (shown rows') wanted
     find_shown_none = none_in shown-set
 
     -- "22 the set has a bit at or above m, checked after 19": it is refused for that alone
@@ -183,7 +182,7 @@ module _ (T : Tables) (R : Reading) (wanted : ℕ) (r : FindAnswer) (finds : Fin
         ∙ then_next (called_typed T R _ (sym checks.0)) ∙ first_one _ _
 
     pub find_refused : wanted < 2 ^ 64 → (x : Refusal)
-        → (r ≡ FindAnswer.Refused x) ↔ ((x ≡ refusal 22 0 0 0) × ((a : ℕ) × (T.attributes ≤ a) × (bit wanted a ≡ true)))
+        → (r ≡ Err x) ↔ ((x ≡ refusal 22 0 0 0) × ((a : ℕ) × (T.attributes ≤ a) × (bit wanted a ≡ true)))
     find_refused narrow x =
         let h = from_member 64 wanted T.attributes narrow in (
           λ e. go h.0 (has_from wanted T.attributes) refl (sym find_late ∙ (find_says x).0 e),
@@ -223,7 +222,7 @@ module _ (T : Tables) (sound : Sound T) (wanted : ℕ) where
     pub find_refuses : (is_find_fault r ≡ true) ↔ Broken T
     find_refuses = call_refuses T (finding_own wanted) which_find (find_fault Reading.Strict finds)
 
-    pub find_names : is_find_fault r ≡ true → (n : Named T (finding wanted)) × (r ≡ FindAnswer.Refused n.refuses)
+    pub find_names : is_find_fault r ≡ true → (n : Named T (finding wanted)) × (r ≡ Err n.refuses)
     find_names e =
         let n = call_names T (finding_own wanted) which_find (find_fault Reading.Strict finds) e in
         (n, told_by T Reading.Strict wanted r finds n.answers)

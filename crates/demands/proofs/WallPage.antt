@@ -46,8 +46,7 @@ use Rattle.printing.specs.Page.{aligned, mark, page_line, page}
 use Rattle.printing.proofs.PageLineLaws.{line-length}
 use Rattle.printing.proofs.PageLineBytes.{line_configuration, line_mark, line_marks, line_number, line_space, line_space2, line_feed}
 use Rattle.printing.proofs.PageLaws.{page_byte}
-use Rattle.wall_page.specs.declared.PageAnswer.{PageAnswer}
-use Rattle.wall_page.specs.Page.{line_count, writing_page, page_answer, PageWritten, is_page_fault}
+use Rattle.wall_page.specs.Page.{PageAnswer, line_count, writing_page, page_answer, PageWritten, is_page_fault}
 use Rattle.wall_page.proofs.PageLaws.{page-length}
 use Rattle.demands.specs.FoundConfiguration.{columns_at}
 use Rattle.demands.specs.PageLines.{line_of, line_at, LineShows, PageShows}
@@ -78,11 +77,11 @@ line_shows c set h = record {
 
 -- ---- the answer's parts
 
-lines_part : {n : ℕ} (v : Verdict) (lines : ℕ) → PageAnswer.Lines n ≡ page_answer v lines → (v ≡ Ok tt) × (n ≡ lines)
+lines_part : {n : ℕ} (v : Verdict) (lines : ℕ) → Ok n ≡ page_answer v lines → (v ≡ Ok tt) × (n ≡ lines)
 lines_part (Ok tt) lines e = (refl, cc)
 lines_part (Err x) lines e = absurd (let z : ◌≡◌ {A = ℕ} 0 1 = cc in omega arith)
 
-refused_part : {x : Refusal} (v : Verdict) (lines : ℕ) → PageAnswer.Refused x ≡ page_answer v lines → v ≡ Err x
+refused_part : {x : Refusal} (v : Verdict) (lines : ℕ) → Err x ≡ page_answer v lines → v ≡ Err x
 refused_part (Ok tt) lines e = absurd (let z : ◌≡◌ {A = ℕ} 0 1 = cc in omega arith)
 refused_part (Err x) lines e = cc
 
@@ -93,27 +92,27 @@ module _ (T : Tables) (R : Reading) (lent : List ℕ) (r : PageAnswer) (bytes : 
   told_by : {v : Verdict} → answer T R call ≡ v → r ≡ page_answer v (line_count T)
   told_by e = writes.answers ∙ ap (λ (v : Verdict). page_answer v (line_count T)) e
 
-  refused_answer : {x : Refusal} → r ≡ PageAnswer.Refused x → answer T R call ≡ Err x
+  refused_answer : {x : Refusal} → r ≡ Err x → answer T R call ≡ Err x
   refused_answer e = refused_part (answer T R call) (line_count T) (sym e ∙ writes.answers)
 
-  lines_answer : {n : ℕ} → r ≡ PageAnswer.Lines n → (answer T R call ≡ Ok tt) × (n ≡ line_count T)
+  lines_answer : {n : ℕ} → r ≡ Ok n → (answer T R call ≡ Ok tt) × (n ≡ line_count T)
   lines_answer e = lines_part (answer T R call) (line_count T) (sym e ∙ writes.answers)
 
   -- ---- demand 1: it is refused exactly by the first of its conditions that hold, and a refused call changes no byte
 
-  pub page_says : (x : Refusal) → (r ≡ PageAnswer.Refused x) ↔ (answer T R call ≡ Err x)
+  pub page_says : (x : Refusal) → (r ≡ Err x) ↔ (answer T R call ≡ Err x)
   page_says x = (refused_answer, told_by)
 
-  pub page_foremost : (x : Refusal) → (r ≡ PageAnswer.Refused x) ↔ Foremost (conditions T R call) x
-  page_foremost = call_foremost T R call PageAnswer.Refused page_says
+  pub page_foremost : (x : Refusal) → (r ≡ Err x) ↔ Foremost (conditions T R call) x
+  page_foremost = call_foremost T R call Err page_says
 
-  pub page_unchanged : (x : Refusal) → r ≡ PageAnswer.Refused x → bytes ≡ lent
-  page_unchanged = call_unchanged T R call PageAnswer.Refused page_says (written (page T) lent) writes.stored
+  pub page_unchanged : (x : Refusal) → r ≡ Err x → bytes ≡ lent
+  page_unchanged = call_unchanged T R call Err page_says (written (page T) lent) writes.stored
 
   -- ---- the lines
 
   -- "return the number of lines"
-  pub page_lines : {n : ℕ} → r ≡ PageAnswer.Lines n → n ≡ count_below (permitted T) (configurations T)
+  pub page_lines : {n : ℕ} → r ≡ Ok n → n ≡ count_below (permitted T) (configurations T)
   unfolding line_count
   page_lines e = (lines_answer e).1
 
@@ -164,19 +163,19 @@ module _ (T : Tables) (R : Reading) (lent : List ℕ) (r : PageAnswer) (bytes : 
 
   -- of sets that are the report's wherever the call accepts
   page_in : {set : ℕ → ℕ} → (answer T R call ≡ Ok tt → (c : ℕ) → permitted T c ≡ true → set_of T c (report T) ≡ set c) → {n : ℕ}
-      → r ≡ PageAnswer.Lines n → PageShows T set lent n bytes
+      → r ≡ Ok n → PageShows T set lent n bytes
   page_in {set} same e =
       let p = lines_answer e in rw p.1 (shows p.0 (same p.0))
 
   -- written: the line of each permitted configuration shows the columns of the report configured there, which passes the plain rules
-  pub page_shows : {n : ℕ} → r ≡ PageAnswer.Lines n → PageShows T (columns_at T R) lent n bytes
+  pub page_shows : {n : ℕ} → r ≡ Ok n → PageShows T (columns_at T R) lent n bytes
   page_shows = page_in (λ a c p. sym (called_columns T R call a c p))
 
-  pub page-passes : {n : ℕ} → r ≡ PageAnswer.Lines n → (c : ℕ) → permitted T c ≡ true → passes (kind_of T) (configured_schema T c) (configured_report T c R) ≡ true
+  pub page-passes : {n : ℕ} → r ≡ Ok n → (c : ℕ) → permitted T c ≡ true → passes (kind_of T) (configured_schema T c) (configured_report T c R) ≡ true
   page-passes e c p = called_passes T R call (lines_answer e).0 c p
 
   -- the same of any sets that keep the typing rules
-  pub page_ruled : (S : ℕ → ℕ → ℕ) → ((c : ℕ) → permitted T c ≡ true → Rules T c (S c)) → {n : ℕ} → r ≡ PageAnswer.Lines n
+  pub page_ruled : (S : ℕ → ℕ → ℕ) → ((c : ℕ) → permitted T c ≡ true → Rules T c (S c)) → {n : ℕ} → r ≡ Ok n
       → PageShows T (λ c. S c (report T)) lent n bytes
   page_ruled S keep =
       page_in (λ a c p.
@@ -189,7 +188,7 @@ module _ (T : Tables) (R : Reading) (lent : List ℕ) (r : PageAnswer) (bytes : 
     shown-set a c p = sym (called_columns T R call a c p) ∙ (found_afterwards T R rows rows' checks c p).1
 
     -- "every mark agrees with its row bit": in the line of c, byte 5 + a is `o` exactly where row a has bit c, and `.` exactly where it has not
-    pub page_rows : {n : ℕ} → r ≡ PageAnswer.Lines n → (c a : ℕ) → permitted T c ≡ true → a < 64
+    pub page_rows : {n : ℕ} → r ≡ Ok n → (c a : ℕ) → permitted T c ≡ true → a < 64
         → ((get_or (line_at bytes (line_of T c)) (5 + a) 0 ≡ 111) ↔ (row_bit (row_in 16 rows' a) c ≡ true))
         × ((get_or (line_at bytes (line_of T c)) (5 + a) 0 ≡ 46) ↔ (row_bit (row_in 16 rows' a) c ≡ false))
     page_rows e c a p h =
@@ -203,7 +202,7 @@ module _ (T : Tables) (R : Reading) (lent : List ℕ) (r : PageAnswer) (bytes : 
         given_answer (whole T) R call ((own_gets (whole T) call (called_sound T R _ (sym checks.0))).1 first_none)
         ∙ then_next (called_typed T R _ (sym checks.0)) ∙ first_one _ _
 
-    pub page_refused : (x : Refusal) → (r ≡ PageAnswer.Refused x) ↔ ((x ≡ refusal 23 0 0 0) × (length lent < 73 * line_count T))
+    pub page_refused : (x : Refusal) → (r ≡ Err x) ↔ ((x ≡ refusal 23 0 0 0) × (length lent < 73 * line_count T))
     page_refused x = (
       λ e. go (ltb (length lent) (73 * line_count T)) refl (sym page_late ∙ refused_answer e),
       λ q. told_by (page_late ∙ ap₂ refuse_if (lt-ltb (length lent) (73 * line_count T) q.1) (sym q.0)),
@@ -214,7 +213,7 @@ module _ (T : Tables) (R : Reading) (lent : List ℕ) (r : PageAnswer) (bytes : 
         go true s e = (cc, ltb-true (length lent) (73 * line_count T) s)
         go false s e = accepted_not_refused e refl
 
-    pub page-written : (r ≡ PageAnswer.Lines (line_count T)) ↔ (73 * line_count T ≤ length lent)
+    pub page-written : (r ≡ Ok (line_count T)) ↔ (73 * line_count T ≤ length lent)
     page-written = (
       λ e. enough (lines_answer e).0,
       λ h. told_by (page_late ∙ ap (λ (b : Bool). refuse_if b (refusal 23 0 0 0)) (le-ltb (length lent) (73 * line_count T) h)),
@@ -248,7 +247,7 @@ module _ (T : Tables) (sound : Sound T) (lent : List ℕ) where
     pub page_refuses : (is_page_fault r ≡ true) ↔ Broken T
     page_refuses = call_refuses T (page_own (length lent)) which_page (page_fault writes)
 
-    pub page_names : is_page_fault r ≡ true → (n : Named T (writing_page (length lent))) × (r ≡ PageAnswer.Refused n.refuses)
+    pub page_names : is_page_fault r ≡ true → (n : Named T (writing_page (length lent))) × (r ≡ Err n.refuses)
     page_names e =
         let n = call_names T (page_own (length lent)) which_page (page_fault writes) e in (n, told_by T Reading.Strict lent r bytes writes n.answers)
 

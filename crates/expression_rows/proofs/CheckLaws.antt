@@ -96,16 +96,16 @@ module _ (rows permits entries relations : List ℕ) (r start : ℕ) {x : ℕ} {
   first_rule : refuse_if (row_is_empty 16 (present_row rows permits relations r)) (refusal 13 r 0 0) ≡ refuse_if t (refusal 13 r 0 0)
   first_rule = ap (λ (b : Bool). refuse_if b (refusal 13 r 0 0)) (sym (e ∙ ap (row_is_empty 16) is_present))
 
-  pub relation_absent : t ≡ true → Err (refusal 13 r 0 0) ≡ relation_rule rows permits entries relations r start
+  pub relation_absent : {x : Refusal} → Err x ≡ refuse_if t (refusal 13 r 0 0) → Err x ≡ relation_rule rows permits entries relations r start
   unfolding relation_rule
-  relation_absent f = sym (then_refused _ (first_rule ∙ ap (λ (b : Bool). refuse_if b (refusal 13 r 0 0)) f))
+  relation_absent f = sym (then_refused _ (first_rule ∙ sym f))
 
-  pub relation_present : t ≡ false → {n : ℕ} → n ≡ relation_length relations r → {v : Verdict} → v ≡ list_rule rows present entries r start n
+  pub relation_present : Ok tt ≡ refuse_if t (refusal 13 r 0 0) → {n : ℕ} → n ≡ relation_length relations r → {v : Verdict} → v ≡ list_rule rows present entries r start n
       → v ≡ relation_rule rows permits entries relations r start
   unfolding relation_rule
   relation_present f l g =
       g ∙ ap₂ (λ (s : List ℕ) (n : ℕ). list_rule rows s entries r start n) is_present l
-      ∙ sym (then_next (first_rule ∙ accepted_if (refusal 13 r 0 0) f))
+      ∙ sym (then_next (first_rule ∙ sym f))
 
 -- ---- one relation of tables that have passed the form checks
 

@@ -1,5 +1,5 @@
 -- Laws of a search through the permitted configurations of a scope.
-use Rattle.std.specs.Prelude.{Some, None}
+use Rattle.std.specs.Prelude.{Some, None, Option}
 use Prim.Native.Nat.{ℕ, ◌-◌, ◌<◌, ◌≤◌}
 use mathlib.Core.Path.{◌≡◌, sym, ap, ◌∙◌}
 use mathlib.Core.Bool.{false}
@@ -14,7 +14,7 @@ use Rattle.report.specs.Expressions.{permitted}
 use Rattle.expression_rows.specs.TypingReads.{ScopeOf}
 use Rattle.expression_rows.specs.declared.Scope.{Scope}
 
-module _ {T : Tables} {scope : Scope} (S : ScopeOf T scope) (from : ℕ) {next : Found}
+module _ {T : Tables} {scope : Scope} (S : ScopeOf T scope) (from : ℕ) {next : Option ℕ}
     (found : next ≡ row_lowest_from 16 scope.permitted.words from) where
   seeks : next ≡ seek (permitted T) (1024 - from) from
   seeks = found ∙ ap (λ (r : List ℕ). row_lowest_from 16 r from) S.permitting ∙ from_row_of 16 (permitted T) from

@@ -1,5 +1,5 @@
 -- How the parts of finding make its answer.
-use Rattle.std.specs.Prelude.{Ok, Err}
+use Rattle.std.specs.Prelude.{Ok, Err, Option}
 use Prim.Native.Nat.{ℕ, ◌<◌}
 use mathlib.Core.Path.{◌≡◌, refl, sym, ap, ap₂, ◌∙◌}
 use mathlib.Core.Bool.{Bool, true, false, ◌&&◌}
@@ -23,7 +23,6 @@ use Rattle.report.proofs.TypingLaws.{shown_columns}
 use Rattle.expression_rows.proofs.PermittedLaws.{permitted_out}
 use Rattle.judging.specs.Judging.{report_check}
 use Rattle.judging.proofs.JudgingLaws.{call_parts, Columns}
-use Rattle.finding.specs.declared.FindAnswer.{FindAnswer}
 use Rattle.finding.specs.Finding.{wanted_condition, finding, has_wanted, lowest_wanted, found_answer, Finds}
 use Rattle.finding.specs.ColumnSearch.{shows_wanted, lowest_shown}
 
@@ -59,11 +58,11 @@ module _ (T : Tables) (R : Reading) {wanted set : ℕ} (same : set ≡ wanted) {
   verdict = joined ∙ ap₂ or_else before is_late ∙ sym (call_parts T R (finding wanted) first_none)
 
   -- a check refuses
-  pub refused_answers : {r : Refusal} → v ≡ Err r → Finds T R wanted (FindAnswer.Refused r)
+  pub refused_answers : {r : Refusal} → v ≡ Err r → Finds T R wanted (Err r)
   refused_answers f = ap (λ (x : Verdict). found_answer x (lowest_wanted T wanted)) (sym f ∙ verdict)
 
   -- none does, and the search answers
-  pub found_answers : v ≡ Ok tt → {permits columns : List ℕ} → Columns T permits columns → {found : Found}
+  pub found_answers : v ≡ Ok tt → {permits columns : List ℕ} → Columns T permits columns → {found : Option ℕ}
       → found ≡ lowest_shown permits columns set → Finds T R wanted (found_answer (Ok tt) found)
   found_answers f C search =
       ap₂ found_answer (sym f ∙ verdict)

@@ -1,5 +1,5 @@
 -- docs/FORMAT.md, "Finding a configuration": the lowest permitted configuration at which a report has wanted columns. Wanted attributes are a set of 64 bits.
-use Rattle.std.specs.Prelude.{ℕ, ◌≡◌, Bool, ◌&&◌, false, List, [], Option, Some, None, Ok, Err}
+use Rattle.std.specs.Prelude.{ℕ, ◌≡◌, Bool, ◌&&◌, false, List, [], Option, Result, Ok, Err}
 use Rattle.sets.specs.Search.{lowest}
 use Rattle.sets.specs.Bits.{subset, has_from}
 use Rattle.report.specs.Tables.{Tables, report}
@@ -9,7 +9,7 @@ use Rattle.report.specs.Verdicts.{Verdict, refusal, Condition, ◌gives◌}
 use Rattle.report.specs.Checks.{is_typing_fault}
 use Rattle.report.specs.Calls.{Call, answer}
 use Rattle.report.specs.declared.Reading.{Reading}
-use Rattle.finding.specs.declared.FindAnswer.{FindAnswer}
+use Rattle.report.specs.declared.Refusal.{Refusal}
 
 -- 22: the wanted set has a bit at or above m
 abbrev pub wanted_condition : ℕ → Tables → List Condition
@@ -27,11 +27,14 @@ has_wanted T wanted c = permitted T c && subset wanted (set_of T c (report T))
 unfoldable pub lowest_wanted : Tables → ℕ → Option ℕ
 lowest_wanted T wanted = lowest (has_wanted T wanted) (configurations T)
 
+-- what finding answers: a configuration, or none, or the refusal
+abbrev pub FindAnswer : Type 0
+FindAnswer = Result (Option ℕ) Refusal
+
 -- the answer: the configuration, none, or the refusal
 abbrev pub found_answer : Verdict → Option ℕ → FindAnswer
-found_answer (Ok tt) (Some c) = FindAnswer.At c
-found_answer (Ok tt) None = FindAnswer.None
-found_answer (Err r) found = FindAnswer.Refused r
+found_answer (Ok tt) found = Ok found
+found_answer (Err r) found = Err r
 
 -- the promise of `find`
 abbrev pub Finds : Tables → Reading → ℕ → FindAnswer → Type 0
@@ -39,6 +42,5 @@ Finds T R wanted r = r ≡ found_answer (answer T R (finding wanted)) (lowest_wa
 
 -- an answer of finding that is a typing fault
 abbrev pub is_find_fault : FindAnswer → Bool
-is_find_fault (FindAnswer.At c) = false
-is_find_fault FindAnswer.None = false
-is_find_fault (FindAnswer.Refused r) = is_typing_fault (Err r)
+is_find_fault (Ok found) = false
+is_find_fault (Err r) = is_typing_fault (Err r)

@@ -7,17 +7,12 @@ ghost use Rattle.finding.specs.Finding.{Finds};
 ghost use Rattle.finding.specs.ColumnSearch.{lowest_shown};
 
 use judging::{COLUMN_WORDS, check_into_columns};
-use report::{Head, Reading, Refusal, Verdict};
+use report::{Head, Reading, Refusal};
 use sets::{AttributeSet, Row};
-use verdicts::{or_else, refuse_if};
+use verdicts::refuse_if;
 
-// What finding answers: the configuration, none, or the refusal.
-#[derive(Clone, Copy)]
-pub enum FindAnswer {
-    At(usize),
-    None,
-    Refused(Refusal),
-}
+// What finding answers: the configuration, or none, or the refusal.
+pub type FindAnswer = Result<Option<usize>, Refusal>;
 
 // The lowest configuration of the row at which the column rows show all wanted attributes.
 fn lowest_with(row: Row, columns: &[u64], wanted: AttributeSet) -> Option<usize>
@@ -62,16 +57,8 @@ pub fn find(
         kinds,
         &mut columns,
     );
-    let checked = judged.verdict;
+    judged.verdict?;
     // 22 comes after the checks of the report.
-    let late = refuse_if(wanted.has_from(head.attributes), 22, 0);
-    let verdict = or_else(checked, late);
-    if let Err(r) = verdict {
-        return FindAnswer::Refused(r);
-    }
-    let found = lowest_with(judged.permitted, &columns, wanted);
-    match found {
-        Some(c) => FindAnswer::At(c),
-        None => FindAnswer::None,
-    }
+    refuse_if(wanted.has_from(head.attributes), 22, 0)?;
+    Ok(lowest_with(judged.permitted, &columns, wanted))
 }

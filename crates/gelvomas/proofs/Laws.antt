@@ -6,12 +6,9 @@ use Rattle.report.specs.Tables.{Tables}
 use Rattle.report.specs.declared.Reading.{Reading}
 use Rattle.report.specs.Verdicts.{Verdict}
 use Rattle.checking.specs.Promises.{Checks}
-use Rattle.configuring.specs.Promises.{Configures}
-use Rattle.configuring.specs.declared.Configured.{Configured}
-use Rattle.finding.specs.Finding.{Finds}
-use Rattle.finding.specs.declared.FindAnswer.{FindAnswer}
-use Rattle.wall_page.specs.Page.{PageWritten}
-use Rattle.wall_page.specs.declared.PageAnswer.{PageAnswer}
+use Rattle.configuring.specs.Promises.{Configured, Configures}
+use Rattle.finding.specs.Finding.{FindAnswer, Finds}
+use Rattle.wall_page.specs.Page.{PageAnswer, PageWritten}
 use Rattle.gelvomas.specs.Answers.{answer_number, answer_words, CheckTold, configured_number, configured_words, ConfigureTold}
 use Rattle.gelvomas.specs.Answers.{found_number, found_words, FindTold, page_number, page_words, PageTold}
 

@@ -1,5 +1,5 @@
 -- How an answer becomes numbers for C, and what the four C functions promise.
-use Rattle.std.specs.Prelude.{ℕ, ◌≡◌, List, [], ◌∷◌, length, Ok, Err}
+use Rattle.std.specs.Prelude.{ℕ, ◌≡◌, List, [], ◌∷◌, length, Ok, Err, Some, None}
 use Rattle.report.specs.Tables.{Tables}
 use Rattle.report.specs.Configuring.{configured}
 use Rattle.report.specs.Calls.{answer, checking, configuring}
@@ -7,12 +7,9 @@ use Rattle.report.specs.Verdicts.{Verdict}
 use Rattle.report.specs.declared.Reading.{Reading}
 use Rattle.c_answers.specs.RefusalWords.{refusal_words}
 use Rattle.checking.specs.Promises.{Checks}
-use Rattle.configuring.specs.Promises.{configured_answer, Configures}
-use Rattle.configuring.specs.declared.Configured.{Configured}
-use Rattle.finding.specs.Finding.{finding, lowest_wanted, found_answer}
-use Rattle.finding.specs.declared.FindAnswer.{FindAnswer}
-use Rattle.wall_page.specs.Page.{page_gives, page_after}
-use Rattle.wall_page.specs.declared.PageAnswer.{PageAnswer}
+use Rattle.configuring.specs.Promises.{Configured, configured_answer, Configures}
+use Rattle.finding.specs.Finding.{FindAnswer, finding, lowest_wanted, found_answer}
+use Rattle.wall_page.specs.Page.{PageAnswer, page_gives, page_after}
 
 -- ---- checking
 
@@ -45,13 +42,13 @@ configure_answer T R c new_entries new_relations new_comparisons new_queries =
 
 -- the number that is returned
 abbrev pub configured_number : Configured → ℕ
-configured_number (Configured.Written entries relations comparisons queries) = 0
-configured_number (Configured.Refused r) = 1
+configured_number (Ok n) = 0
+configured_number (Err r) = 1
 
 -- the four lent words afterwards: how many forms tables 1 to 4 have, or those of a refusal
 abbrev pub configured_words : Configured → List ℕ
-configured_words (Configured.Written entries relations comparisons queries) = entries ∷ relations ∷ comparisons ∷ queries ∷ []
-configured_words (Configured.Refused r) = refusal_words r
+configured_words (Ok n) = n.entries ∷ n.relations ∷ n.comparisons ∷ n.queries ∷ []
+configured_words (Err r) = refusal_words r
 
 -- the promise of `gelvomas_configure`, at c, with these tables 1 to 4 lent for writing: the number that is returned, and the four words and the
 -- lent tables afterwards
@@ -71,15 +68,15 @@ find_answer T R wanted = found_answer (answer T R (finding wanted)) (lowest_want
 
 -- the number that is returned: 0 found, 1 refused, 2 none
 abbrev pub found_number : FindAnswer → ℕ
-found_number (FindAnswer.At c) = 0
-found_number FindAnswer.None = 2
-found_number (FindAnswer.Refused r) = 1
+found_number (Ok (Some c)) = 0
+found_number (Ok None) = 2
+found_number (Err r) = 1
 
 -- the four lent words afterwards: the configuration, or those of a refusal; a word that the answer does not use is 0
 abbrev pub found_words : FindAnswer → List ℕ
-found_words (FindAnswer.At c) = c ∷ 0 ∷ 0 ∷ 0 ∷ []
-found_words FindAnswer.None = 0 ∷ 0 ∷ 0 ∷ 0 ∷ []
-found_words (FindAnswer.Refused r) = refusal_words r
+found_words (Ok (Some c)) = c ∷ 0 ∷ 0 ∷ 0 ∷ []
+found_words (Ok None) = 0 ∷ 0 ∷ 0 ∷ 0 ∷ []
+found_words (Err r) = refusal_words r
 
 -- the promise of `gelvomas_find`, where these attributes are wanted: the number that is returned, and the four words afterwards
 pub record FindTold (T : Tables) (R : Reading) (wanted number : ℕ) (words : List ℕ) : Type 0 where
@@ -90,13 +87,13 @@ pub record FindTold (T : Tables) (R : Reading) (wanted number : ℕ) (words : Li
 
 -- the number that is returned
 abbrev pub page_number : PageAnswer → ℕ
-page_number (PageAnswer.Lines lines) = 0
-page_number (PageAnswer.Refused r) = 1
+page_number (Ok lines) = 0
+page_number (Err r) = 1
 
 -- the four lent words afterwards: the number of lines, or those of a refusal; a word that the answer does not use is 0
 abbrev pub page_words : PageAnswer → List ℕ
-page_words (PageAnswer.Lines lines) = lines ∷ 0 ∷ 0 ∷ 0 ∷ []
-page_words (PageAnswer.Refused r) = refusal_words r
+page_words (Ok lines) = lines ∷ 0 ∷ 0 ∷ 0 ∷ []
+page_words (Err r) = refusal_words r
 
 -- the promise of `gelvomas_page`, with these bytes lent: the number that is returned, and the four words and the bytes afterwards
 pub record PageTold (T : Tables) (R : Reading) (lent : List ℕ) (number : ℕ) (words bytes : List ℕ) : Type 0 where

@@ -7,10 +7,10 @@ ghost use Rattle.gelvomas.specs.Answers.{CheckTold, ConfigureTold, FindTold, Pag
 
 use c_answers::{AnswerWords, reading_told, tell_refusal};
 use checking::check;
-use configuring::{Configured, configure};
-use finding::{FindAnswer, find};
-use report::{Head, Verdict};
-use wall_page::{PageAnswer, write_page};
+use configuring::configure;
+use finding::find;
+use report::Head;
+use wall_page::write_page;
 
 // Answers 0 where the report is accepted: `rows` holds its column rows, and `refusal` is as it was.
 // Else answers 1: `refusal` holds number, place, item and configuration, and `rows` is as it was.
@@ -38,7 +38,7 @@ pub extern "C" fn gelvomas_check(
         attributes: attributes as usize,
         model: model as usize,
     };
-    let v = check(
+    let checked = check(
         head,
         reading_told(filled),
         expressions,
@@ -49,10 +49,10 @@ pub extern "C" fn gelvomas_check(
         kinds,
         rows,
     );
-    if let Err(r) = v {
-        return tell_refusal(r, refusal);
+    match checked {
+        Ok(()) => 0,
+        Err(r) => tell_refusal(r, refusal),
     }
-    0
 }
 
 // Answers 0 where the report is configured: each of `new_entries` to `new_queries` holds its table, followed by what stood there, and
@@ -103,16 +103,16 @@ pub extern "C" fn gelvomas_configure(
         new_queries,
     );
     match made {
-        Configured::Written(entry_count, relation_count, comparison_count, query_count) => {
+        Ok(counts) => {
             *answer = [
-                entry_count as u64,
-                relation_count as u64,
-                comparison_count as u64,
-                query_count as u64,
+                counts.entries as u64,
+                counts.relations as u64,
+                counts.comparisons as u64,
+                counts.queries as u64,
             ];
             0
         }
-        Configured::Refused(r) => tell_refusal(r, answer),
+        Err(r) => tell_refusal(r, answer),
     }
 }
 
@@ -154,15 +154,15 @@ pub extern "C" fn gelvomas_find(
         kinds,
     );
     match found {
-        FindAnswer::At(c) => {
+        Ok(Some(c)) => {
             *answer = [c as u64, 0, 0, 0];
             0
         }
-        FindAnswer::None => {
+        Ok(None) => {
             *answer = [0, 0, 0, 0];
             2
         }
-        FindAnswer::Refused(r) => tell_refusal(r, answer),
+        Err(r) => tell_refusal(r, answer),
     }
 }
 
@@ -204,10 +204,10 @@ pub extern "C" fn gelvomas_page(
         page,
     );
     match written {
-        PageAnswer::Lines(lines) => {
+        Ok(lines) => {
             *answer = [lines as u64, 0, 0, 0];
             0
         }
-        PageAnswer::Refused(r) => tell_refusal(r, answer),
+        Err(r) => tell_refusal(r, answer),
     }
 }

@@ -9,7 +9,7 @@ ghost use Rattle.harbour_print.specs.Printing.{ColumnReads, ColumnReadable, Prin
 use crate::Layout;
 use judging::{COLUMN_WORDS, check_into_columns};
 use printing::{put_accepted, put_page};
-use report::{Head, Reading, Verdict};
+use report::{Head, Reading};
 use sets::Row;
 use writing::put_refused;
 
@@ -54,9 +54,8 @@ pub fn print_tables(
         kinds,
         &mut columns,
     );
-    let checked = judged.verdict;
-    if let Err(r) = checked {
-        return put_refused(out, 0, r);
+    match judged.verdict {
+        Ok(()) => print_columns(head.features, judged.permitted, layout, &columns, out),
+        Err(r) => put_refused(out, 0, r),
     }
-    print_columns(head.features, judged.permitted, layout, &columns, out)
 }

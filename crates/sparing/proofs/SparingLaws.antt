@@ -1,5 +1,5 @@
 -- What the forms find at all configurations: the loop over the permitted ones.
-use Rattle.std.specs.Prelude.{Some, None}
+use Rattle.std.specs.Prelude.{Some, None, Option}
 use Prim.Native.Nat.{ℕ, suc, ◌+◌, ◌-◌, ◌<◌, ◌≤◌}
 use mathlib.Core.Path.{◌≡◌, refl, sym, ap, ◌∙◌}
 use mathlib.Core.Bool.{Bool, true, false, cond, false≢true}
@@ -81,7 +81,7 @@ module _ {scope : Scope} {expression_rows relation_entries project_entries relat
 
   module _ {form_sets spared_sets : List ℕ} {from : ℕ}
       (S : FoundPassed scope expression_rows relation_entries project_entries relations queries reach lent form_sets spared_sets from)
-      {next : Found} (found : next ≡ row_lowest_from 16 scope.permitted.words from) where
+      {next : Option ℕ} (found : next ≡ row_lowest_from 16 scope.permitted.words from) where
     -- what is found up to k, where none is permitted from `from` on
     skipped : {T : Tables} → SparingReads T scope expression_rows relation_entries project_entries relations queries reach → (k : ℕ) → from ≤ k
         → ((d : ℕ) → from ≤ d → d < k → permitted T d ≡ false) → spared_sets ≡ written (table (query_count T) (found_below T k)) lent

@@ -1,5 +1,5 @@
 -- What the parts of the typing check hand to one another.
-use Rattle.std.specs.Prelude.{Some, None, Ok}
+use Rattle.std.specs.Prelude.{Some, None, Ok, Option}
 use Prim.Native.Nat.{ℕ, ◌+◌, ◌*◌, ◌/◌, ◌≤◌}
 use mathlib.Core.Path.{◌≡◌, refl, sym, ap, ◌∙◌}
 use mathlib.Core.List.{List}
@@ -42,7 +42,7 @@ module _ {T : Tables} {R : Reading} {expression_rows relation_entries project_en
     pub rows_room : length queries / 4 * 16 ≤ length fault_rows
     rows_room = let e = count_is in let m = A.failing.room in omega arith
 
-    module _ {form : Found} (f : form ≡ lowest (rowed fault_rows) (length queries / 4)) where
+    module _ {form : Option ℕ} (f : form ≡ lowest (rowed fault_rows) (length queries / 4)) where
       found_form : form ≡ lowest (rowed fault_rows) (query_count T)
       found_form = f ∙ ap (lowest (rowed fault_rows)) count_is
 
@@ -57,7 +57,7 @@ module _ {T : Tables} {R : Reading} {expression_rows relation_entries project_en
         form_room = let i = form_in A.report.prepared.formed R A.failing at_form in let m = A.failing.room in omega arith
 
         -- its row was read as `row`
-        module _ {row : List ℕ} {configuration : Found} (read : row ≡ row_in 16 fault_rows q) (l : configuration ≡ row_lowest 16 row) where
+        module _ {row : List ℕ} {configuration : Option ℕ} (read : row ≡ row_in 16 fault_rows q) (l : configuration ≡ row_lowest 16 row) where
           found_row : configuration ≡ row_lowest 16 (row_in 16 fault_rows q)
           found_row = l ∙ ap (row_lowest 16) read
 

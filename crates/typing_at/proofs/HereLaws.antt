@@ -28,7 +28,7 @@ use Rattle.report.specs.declared.Refusal.{Refusal}
 use Rattle.report.specs.declared.Reading.{Reading}
 use Rattle.report.proofs.FormedFacts.{counts, report_in}
 use Rattle.report.proofs.ReadingLaws.{faults-spared, faults_later}
-use Rattle.report.proofs.VerdictLaws.{or_else_accepted, accepted_if, accepted_first, refused_first}
+use Rattle.report.proofs.VerdictLaws.{or_else_accepted, accepted_if, accepted_first, refused_first, then_next, then_refused}
 use Rattle.comparisons.specs.Gathering.{own_of}
 use Rattle.comparisons.specs.declared.Gathered.{Gathered}
 use Rattle.at_configuration.proofs.ListLaws.{form_list}
@@ -80,7 +80,7 @@ module _ {T : Tables} {R : Reading} {q : ℕ} {expression_rows entries relations
         read ∙ ap (λ (r : List ℕ). row_bit r c) (H.reaching.each q H.rule.at.inside) ∙ row_bit-row_of 16 (λ d. reached T d q) c few
 
     -- a form that c does not reach breaks nothing
-    pub unreached : not t ≡ true → (Ok tt) ≡ form_here T R c q
+    pub unreached : not t ≡ true → Ok tt ≡ form_here T R c q
     unreached e =
         sym
         (accepted_first (phase_here T R c q) 2 0
@@ -94,16 +94,22 @@ module _ {T : Tables} {R : Reading} {q : ℕ} {expression_rows entries relations
           ap₂ (λ (s i : ℕ). refuse_if (not (eqb s 0)) (refusal i q (lowest_member s) c)) b (n ∙ ap (fault_number phase) H.rule.at.form)
           ∙ ap (λ (r : Bool). refuse_if (r && not (eqb (faults_by T R c phase q) 0)) (fault_refusal T R q phase c)) (sym (not-false t e) ∙ told)
 
-      -- both phases, the second where the first finds nothing
-      pub both_phases : {rule less broken clash number : ℕ} {v w u : Verdict} → rule ≡ faults_of T c q x → less ≡ get_or spared q 0
-          → broken ≡ difference rule less → number ≡ rule_number x
-          → ((T : Tables) (q c : ℕ) → FormClashesReads T q c clashing x → clash ≡ clashes_in T c x)
-          → v ≡ refuse_if (not (eqb broken 0)) (refusal number q (lowest_member broken) c)
-          → w ≡ refuse_if (not (eqb clash 0)) (refusal 25 q (lowest_member clash) c) → u ≡ or_else v w → u ≡ form_here T R c q
-      both_phases b l d n k p q' o =
-          o
-          ∙ ap₂ or_else (p ∙ phase_is 0 (d ∙ less_spared b l) n)
-          (q' ∙ phase_is 1 (k T q c reads_clashes ∙ in_form 1 ∙ sym (faults_later T R c 0 q)) refl ∙ sym (or_else_accepted (phase_here T R c q 1)))
+      -- the first phase, of the form's rule less what the form is spared
+      module _ {rule less broken number : ℕ} (b : rule ≡ faults_of T c q x) (l : less ≡ get_or spared q 0) (d : broken ≡ difference rule less)
+          (n : number ≡ rule_number x) where
+        first_is : refuse_if (not (eqb broken 0)) (refusal number q (lowest_member broken) c) ≡ phase_here T R c q 0
+        first_is = phase_is 0 (d ∙ less_spared b l) n
+
+        pub first_phase : {y : Refusal} → Err y ≡ refuse_if (not (eqb broken 0)) (refusal number q (lowest_member broken) c) → Err y ≡ form_here T R c q
+        first_phase p = sym (then_refused _ (sym (p ∙ first_is)))
+
+        -- the second, where the first finds nothing
+        pub second_phase : {clash : ℕ} {v : Verdict} → ((T : Tables) (q c : ℕ) → FormClashesReads T q c clashing x → clash ≡ clashes_in T c x)
+            → Ok tt ≡ refuse_if (not (eqb broken 0)) (refusal number q (lowest_member broken) c)
+            → v ≡ refuse_if (not (eqb clash 0)) (refusal 25 q (lowest_member clash) c) → v ≡ form_here T R c q
+        second_phase k p v =
+            v ∙ phase_is 1 (k T q c reads_clashes ∙ in_form 1 ∙ sym (faults_later T R c 0 q)) refl ∙ sym (or_else_accepted (phase_here T R c q 1))
+            ∙ sym (then_next (sym (p ∙ first_is)))
 
 -- ---- the loop over the forms
 
@@ -173,7 +179,7 @@ module _ {expression_rows entries relations queries reach spared : List ℕ} {c 
           }
 
     pub forms_all : length queries / 4 ≤ q → (T : Tables) (R : Reading)
-        → FormsHereReads T R expression_rows entries relations queries reach spared c named clashing sets → (Ok tt) ≡ typing_here T R c
+        → FormsHereReads T R expression_rows entries relations queries reach spared c named clashing sets → Ok tt ≡ typing_here T R c
     unfolding typing_here
     forms_all h T R H =
         let e = ap (λ (t : List ℕ). length t / 4) H.queries_are in

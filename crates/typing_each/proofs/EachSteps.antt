@@ -1,5 +1,5 @@
 -- Laws of the loop over the permitted configurations: the answer, and the report's sets, at those that were gone through.
-use Rattle.std.specs.Prelude.{Some, None, Ok}
+use Rattle.std.specs.Prelude.{Some, None, Ok, Option}
 use Prim.Native.Nat.{ℕ, suc, ◌+◌, ◌-◌, ◌<◌, ◌≤◌}
 use mathlib.Core.Path.{◌≡◌, refl, sym, ap, ap₂, ◌∙◌, subst}
 use mathlib.Core.Bool.{false}
@@ -153,7 +153,7 @@ module _ {scope : Scope} {expression_rows relation_entries project_entries relat
 
   module _ {numbers sets : List ℕ} {count : ℕ} {answer : Verdict} {from : ℕ}
       (S : EachPassed scope expression_rows relation_entries project_entries relations comparisons queries kinds reach numbers sets count answer from)
-      {next : Found} (found : next ≡ row_lowest_from 16 scope.permitted.words from) where
+      {next : Option ℕ} (found : next ≡ row_lowest_from 16 scope.permitted.words from) where
     -- none is left
     module _ (e : next ≡ None) where
       none : {T : Tables} → TypingReads T scope expression_rows relation_entries project_entries relations comparisons queries kinds reach

@@ -30,8 +30,7 @@ use Rattle.printing.specs.PageRows.{page_text, permitted_count, PageRead}
 use Rattle.printing.proofs.PageLaws.{permitted_count_lem, text_length, rows_page, rows_count, page_bytes}
 use Rattle.judging.specs.Judging.{report_check}
 use Rattle.judging.proofs.JudgingLaws.{call_refused, call_late, Columns, shifted_configurations, shifted_few}
-use Rattle.wall_page.specs.declared.PageAnswer.{PageAnswer}
-use Rattle.wall_page.specs.Page.{line_count, writing_page, page_answer, PageWritten}
+use Rattle.wall_page.specs.Page.{PageAnswer, line_count, writing_page, page_answer, PageWritten}
 
 -- ---- a loop that counts the configurations of a row below `count`
 
@@ -89,7 +88,7 @@ module _ (T : Tables) (R : Reading) {checked : Verdict} (before : checked ≡ re
   }
 
   -- a check of the report refuses
-  pub refused_answers : {r : Refusal} → checked ≡ Err r → PageWritten T R lent (PageAnswer.Refused r) lent
+  pub refused_answers : {r : Refusal} → checked ≡ Err r → PageWritten T R lent (Err r) lent
   refused_answers f = answered (call_refused T R (writing_page (length lent)) first_none before f) refl refl
 
   module _ (passed : checked ≡ Ok tt) {permits columns : List ℕ} (C : Columns T permits columns) {lines : ℕ}

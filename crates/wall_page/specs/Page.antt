@@ -1,5 +1,5 @@
 -- docs/FORMAT.md, "The wall page": the call that writes it. The page itself, and its lines, are in crate printing, specs/Page.
-use Rattle.std.specs.Prelude.{ℕ, ◌*◌, ◌≡◌, Bool, false, List, [], length, ltb, Ok, Err}
+use Rattle.std.specs.Prelude.{ℕ, ◌*◌, ◌≡◌, Bool, false, List, [], length, ltb, Result, Ok, Err}
 use Rattle.sets.specs.Search.{count_below}
 use Rattle.report.specs.Tables.{Tables}
 use Rattle.report.specs.Expressions.{configurations, permitted}
@@ -8,8 +8,8 @@ use Rattle.report.specs.Verdicts.{Verdict, refusal, after, Condition, ◌gives�
 use Rattle.report.specs.Checks.{is_typing_fault}
 use Rattle.report.specs.Calls.{Call, answer}
 use Rattle.report.specs.declared.Reading.{Reading}
+use Rattle.report.specs.declared.Refusal.{Refusal}
 use Rattle.printing.specs.Page.{page}
-use Rattle.wall_page.specs.declared.PageAnswer.{PageAnswer}
 
 -- the number of lines of the page
 unfoldable pub line_count : Tables → ℕ
@@ -23,10 +23,14 @@ page_condition room T = ltb room (73 * line_count T) gives refusal 23 0 0 0
 abbrev pub writing_page : ℕ → Call
 writing_page room = record { before_model = λ T. []; after_typing = page_condition room }
 
+-- what writing a page answers: the number of its lines, or the refusal
+abbrev pub PageAnswer : Type 0
+PageAnswer = Result ℕ Refusal
+
 -- the answer: the number of lines, or the refusal
 abbrev pub page_answer : Verdict → ℕ → PageAnswer
-page_answer (Ok tt) lines = PageAnswer.Lines lines
-page_answer (Err r) lines = PageAnswer.Refused r
+page_answer (Ok tt) lines = Ok lines
+page_answer (Err r) lines = Err r
 
 module _ (T : Tables) (R : Reading) (lent : List ℕ) where
   -- what the call answers, with these bytes lent
@@ -44,5 +48,5 @@ pub record PageWritten (T : Tables) (R : Reading) (lent : List ℕ) (r : PageAns
 
 -- an answer that is a typing fault
 abbrev pub is_page_fault : PageAnswer → Bool
-is_page_fault (PageAnswer.Lines lines) = false
-is_page_fault (PageAnswer.Refused r) = is_typing_fault (Err r)
+is_page_fault (Ok lines) = false
+is_page_fault (Err r) = is_typing_fault (Err r)

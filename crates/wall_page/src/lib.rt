@@ -4,20 +4,16 @@
 ghost use Rattle.std.specs.Prelude.{◌≡◌, ◌≤◌};
 ghost use Rattle.report.specs.Expressions.{tables_under};
 ghost use Rattle.printing.specs.PageRows.{permitted_count};
-ghost use Rattle.wall_page.specs.Page.{page_answer, PageWritten};
+ghost use Rattle.wall_page.specs.Page.{PageWritten};
 
 use judging::{COLUMN_WORDS, check_into_columns};
 use printing::put_page;
-use report::{Head, Reading, Refusal, Verdict};
+use report::{Head, Reading, Refusal};
 use sets::Row;
 use verdicts::refuse_if;
 
 // What writing a page answers: the number of its lines, or the refusal.
-#[derive(Clone, Copy)]
-pub enum PageAnswer {
-    Lines(usize),
-    Refused(Refusal),
-}
+pub type PageAnswer = Result<usize, Refusal>;
 
 // The bytes of a line: 72 characters and a line feed.
 const LINE_BYTES: usize = 73;
@@ -36,16 +32,6 @@ fn permitted_count(row: Row, count: usize) -> usize
         c += 1;
     }
     found
-}
-
-// The answer, by what the checks say.
-fn page_answer(verdict: Verdict, lines: usize) -> PageAnswer
-    ensures { result ≡ page_answer verdict lines }
-{
-    match verdict {
-        Ok(()) => PageAnswer::Lines(lines),
-        Err(r) => PageAnswer::Refused(r),
-    }
 }
 
 // Writes the page of the report of these tables, in the reading, to the start of `page`.
@@ -76,16 +62,11 @@ pub fn write_page(
         kinds,
         &mut columns,
     );
-    let checked = judged.verdict;
-    if let Err(r) = checked {
-        return PageAnswer::Refused(r);
-    }
+    judged.verdict?;
     let count = 1 << head.features;
     // The lines are counted before any is written: a refused call changes no byte.
     let lines = permitted_count(judged.permitted, count);
-    let late = refuse_if(page.len() < LINE_BYTES * lines, 23, 0);
-    if let Ok(()) = late {
-        put_page(page, 0, judged.permitted, count, &columns);
-    }
-    page_answer(late, lines)
+    refuse_if(page.len() < LINE_BYTES * lines, 23, 0)?;
+    put_page(page, 0, judged.permitted, count, &columns);
+    Ok(lines)
 }

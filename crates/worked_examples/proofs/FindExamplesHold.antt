@@ -3,8 +3,7 @@ use mathlib.Core.Path.{◌≡◌, refl}
 use mathlib.Core.List.{map}
 use Rattle.report.specs.Calls.{answer}
 use Rattle.report.proofs.ExamplesHold.{computed}
-use Rattle.finding.specs.declared.FindAnswer.{FindAnswer}
-use Rattle.finding.specs.Finding.{finding, lowest_wanted, found_answer}
+use Rattle.finding.specs.Finding.{FindAnswer, finding, lowest_wanted, found_answer}
 use Rattle.worked_examples.specs.FindExamples.{FindExample, find_examples}
 
 abbrev found : FindExample → FindAnswer

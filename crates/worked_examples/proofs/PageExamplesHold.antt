@@ -6,8 +6,7 @@ use Rattle.report.specs.Calls.{answer}
 use Rattle.report.specs.declared.Reading.{Reading}
 use Rattle.report.proofs.ExamplesHold.{computed}
 use Rattle.printing.specs.Page.{aligned, marks, page_line, page}
-use Rattle.wall_page.specs.declared.PageAnswer.{PageAnswer}
-use Rattle.wall_page.specs.Page.{line_count, writing_page, page_answer, page_after}
+use Rattle.wall_page.specs.Page.{PageAnswer, line_count, writing_page, page_answer, page_after}
 use Rattle.worked_examples.specs.PageExamples.{LineExample, line_examples, AnswerExample, answer_examples, BytesExample, bytes_examples, lent}
 
 pub line_examples_hold :

@@ -1,6 +1,6 @@
 -- docs/FORMAT.md, "The page of H1" and cases more, as lists: one or more for each sentence of Wish 3, and the reading of Wish 7 (docs/ARCHITECTURE.md). Their theorems are
 -- proofs/PageExamplesHold. H1 and its parts: crate report, specs/Examples.
-use Rattle.std.specs.Prelude.{ℕ, ◌-◌, ◌^◌, List, [], ◌∷◌, ◌++◌}
+use Rattle.std.specs.Prelude.{ℕ, ◌-◌, ◌^◌, List, [], ◌∷◌, ◌++◌, Ok, Err}
 use Prim.Native.String.{String}
 use Rattle.sets.specs.Lists.{table}
 use Rattle.report.specs.Tables.{Tables}
@@ -9,7 +9,7 @@ use Rattle.report.specs.Text.{bytes}
 use Rattle.report.specs.Verdicts.{refusal}
 use Rattle.report.specs.Examples.{moments, harbour, h1_expressions, h1_entries, h1_queries, h1, h10}
 use Rattle.report.specs.declared.Reading.{Reading}
-use Rattle.wall_page.specs.declared.PageAnswer.{PageAnswer}
+use Rattle.wall_page.specs.Page.{PageAnswer}
 use Rattle.worked_examples.specs.Harbours.{modelled, plain}
 
 -- ---- lines
@@ -61,26 +61,26 @@ filled T room answer = record { of = T; reading = Reading.Filled; room = room; g
 abbrev pub answer_examples : List AnswerExample
 answer_examples =
     -- "return the number of lines", "one line stands for each permitted configuration": of H1 all four, with the model swaps 1 and 3
-    example (h1 2) 292 (PageAnswer.Lines 4)
-    ∷ example (modelled 1) 146 (PageAnswer.Lines 2)
+    example (h1 2) 292 (Ok 4)
+    ∷ example (modelled 1) 146 (Ok 2)
     -- "23 the lent page is shorter than 73 × the number of lines": one byte, all bytes, and one line
-    ∷ example (h1 2) 291 (PageAnswer.Refused (refusal 23 0 0 0))
-    ∷ example (h1 2) 0 (PageAnswer.Refused (refusal 23 0 0 0))
-    ∷ example (h1 2) 219 (PageAnswer.Refused (refusal 23 0 0 0))
-    ∷ example (modelled 1) 145 (PageAnswer.Refused (refusal 23 0 0 0))
+    ∷ example (h1 2) 291 (Err (refusal 23 0 0 0))
+    ∷ example (h1 2) 0 (Err (refusal 23 0 0 0))
+    ∷ example (h1 2) 219 (Err (refusal 23 0 0 0))
+    ∷ example (modelled 1) 145 (Err (refusal 23 0 0 0))
     -- a longer page than the lines need
-    ∷ example (h1 2) 293 (PageAnswer.Lines 4)
+    ∷ example (h1 2) 293 (Ok 4)
     -- "checked after 19": H2, which typing refuses; H8, H9 with 11 features
-    ∷ example (harbour 2 h1_expressions (h1_entries 1) h1_queries) 0 (PageAnswer.Refused (refusal 17 1 2 1))
-    ∷ example (harbour 2 (0 ∷ 0 ∷ 0 ∷ 2 ∷ 0 ∷ 0 ∷ 2 ∷ 1 ∷ 0 ∷ []) (h1_entries 2) h1_queries) 0 (PageAnswer.Refused (refusal 12 0 0 0))
-    ∷ example (h1 11) 0 (PageAnswer.Refused (refusal 1 0 0 0))
+    ∷ example (harbour 2 h1_expressions (h1_entries 1) h1_queries) 0 (Err (refusal 17 1 2 1))
+    ∷ example (harbour 2 (0 ∷ 0 ∷ 0 ∷ 2 ∷ 0 ∷ 0 ∷ 2 ∷ 1 ∷ 0 ∷ []) (h1_entries 2) h1_queries) 0 (Err (refusal 12 0 0 0))
+    ∷ example (h1 11) 0 (Err (refusal 1 0 0 0))
     -- H9 with 10 features: 1,024 lines
-    ∷ example (h1 10) 74752 (PageAnswer.Lines 1024)
-    ∷ example (h1 10) 74751 (PageAnswer.Refused (refusal 23 0 0 0))
+    ∷ example (h1 10) 74752 (Ok 1024)
+    ∷ example (h1 10) 74751 (Err (refusal 23 0 0 0))
     -- told the reading (Wish 7): H10, which is refused strictly
-    ∷ example h10 292 (PageAnswer.Refused (refusal 17 3 0 0))
-    ∷ filled h10 292 (PageAnswer.Lines 4)
-    ∷ filled h10 291 (PageAnswer.Refused (refusal 23 0 0 0))
+    ∷ example h10 292 (Err (refusal 17 3 0 0))
+    ∷ filled h10 292 (Ok 4)
+    ∷ filled h10 291 (Err (refusal 23 0 0 0))
     ∷ []
 
 -- ---- what stands in the bytes lent afterwards

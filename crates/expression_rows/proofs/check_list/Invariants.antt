@@ -5,5 +5,3 @@ use Rattle.expression_rows.proofs.check_list.Given as goal
 abbrev pub invariant-loop-i : goal.invariant-loop-i
 invariant-loop-i l = Listed l.expression_rows l.present.words l.relation_entries l.start l.count l.i
 
-abbrev pub decreases-loop-i : goal.decreases-loop-i
-decreases-loop-i l = l.count - l.i

@@ -5,5 +5,3 @@ use Rattle.typing_at.proofs.forms_here.Given as goal
 abbrev pub invariant-loop-q : goal.invariant-loop-q
 invariant-loop-q l = FormsPassed l.expression_rows l.project_entries l.relations l.queries l.reach l.spared_sets l.c l.named_sets l.clash_sets l.form_sets l.q l.start
 
-abbrev pub decreases-loop-q : goal.decreases-loop-q
-decreases-loop-q l = l.count - l.q
