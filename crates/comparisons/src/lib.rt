@@ -50,6 +50,7 @@ fn names(sides: Sides, a: usize) -> bool
 }
 
 // What a row says of a comparison by itself: that it names attribute a, or that its sides have two kinds, whatever a is.
+#[tactic(auto, using(crate::proofs::OwnLaws::names_bit))]
 pub fn own_shows(what: Gathered, x: Comparison, a: usize, kinds: &[u16]) -> bool
     ensures { result ≡ shows what a (own_of (kind_in kinds.now) what x) }
 {
@@ -78,8 +79,7 @@ fn left_set(sides: Sides) -> AttributeSet
     ensures { result.bits ≡ left_of sides }
 {
     match sides {
-        Sides::Constant(a, _) => AttributeSet::single(a),
-        Sides::Attributes(a, _) => AttributeSet::single(a),
+        Sides::Constant(a, _) | Sides::Attributes(a, _) => AttributeSet::single(a),
         Sides::Neither => AttributeSet::empty(),
     }
 }
@@ -107,8 +107,7 @@ fn constant_kind(sides: Sides) -> usize
 {
     match sides {
         Sides::Constant(_, k) => k,
-        Sides::Attributes(_, _) => 0,
-        Sides::Neither => 0,
+        Sides::Attributes(_, _) | Sides::Neither => 0,
     }
 }
 
@@ -137,6 +136,7 @@ fn check_constants(comparisons: &[u16]) -> Verdict
 }
 
 // Check 24.
+#[tactic(auto, unfolding(report::specs::FormChecks::kinds_check))]
 pub fn check_kinds(m: usize, comparisons: &[u16], kinds: &[u16]) -> Verdict
     ensures { result ≡ kinds_check m kinds.now comparisons.now }
 {

@@ -1,7 +1,7 @@
 // Checks 6 and 8 to 10 of the table of refusals (docs/FORMAT.md, "Refusals"), and checks 1 to 10 and 24 one after another.
 #![tactic(auto)]
 
-ghost use Rattle.std.specs.Prelude.{◌≡◌, [], ◌/◌, ◌<◌, ◌≤◌, length, set};
+ghost use Rattle.std.specs.Prelude.{◌≡◌, [], ◌/◌, ◌<◌, ◌≤◌, length};
 ghost use Rattle.report.specs.Tables.{relation_start};
 ghost use Rattle.report.specs.Expressions.{tables_under};
 ghost use Rattle.report.specs.Verdicts.{or_else};
@@ -61,7 +61,7 @@ fn is_free(marks: &[u8], q: usize, x: usize) -> bool
     requires { q ≤ length marks.now }
     ensures { result ≡ free (marked marks.now) q x }
 {
-    if x < q { marks[x] != 1 } else { false }
+    x < q && marks[x] != 1
 }
 
 // Two operands, of which the second is not the first once more.
@@ -103,27 +103,10 @@ fn query_fits(
         Query::Select(a, b) => (a < counts.comparisons) & is_free(marks, q, b),
         Query::Project(a, b) => list_fits(start, a, entries) & is_free(marks, q, b),
         Query::Choice(a, b, d) => (a < counts.expressions) & are_free(marks, q, b, d),
-        Query::Product(a, b) => are_free(marks, q, a, b),
-        Query::Union(a, b) => are_free(marks, q, a, b),
-        Query::Intersection(a, b) => are_free(marks, q, a, b),
+        Query::Product(a, b) | Query::Union(a, b) | Query::Intersection(a, b) => {
+            are_free(marks, q, a, b)
+        }
     }
-}
-
-// Marks form x as taken.
-fn mark(marks: &mut [u8], x: usize)
-    requires { x < length marks.old }
-    ensures { marks.new ≡ set marks.old x 1 }
-{
-    marks[x] = 1;
-}
-
-// Marks two operands.
-fn mark_both(marks: &mut [u8], x: usize, y: usize)
-    requires { (x < length marks.old) × (y < length marks.old) }
-    ensures { marks.new ≡ set (set marks.old x 1) y 1 }
-{
-    mark(marks, x);
-    mark(marks, y);
 }
 
 // Marks the operands of a form that fits.
@@ -133,9 +116,11 @@ fn mark_operands(marks: &mut [u8], to: Operands)
 {
     match to {
         Operands::Nothing => {}
-        Operands::One(a) => mark(marks, a),
-        Operands::Both(a, b) => mark_both(marks, a, b),
-        Operands::Choice(_, a, b) => mark_both(marks, a, b),
+        Operands::One(a) => marks[a] = 1,
+        Operands::Both(a, b) | Operands::Choice(_, a, b) => {
+            marks[a] = 1;
+            marks[b] = 1;
+        }
     }
 }
 
@@ -231,6 +216,7 @@ fn check_contents(
 }
 
 // Checks 1 to 10.
+#[tactic(auto, unfolding(report::specs::FormChecks::tables_check))]
 fn check_tables(
     head: Head,
     expressions: &[u16],
@@ -250,6 +236,7 @@ fn check_tables(
 
 // Checks 1 to 10, then 24. Where they accept, report's law `formed` gives a caller `Formed` of the tables in one line:
 // `formed _ (sym ensures ∙ accepted)`.
+#[tactic(auto, unfolding(report::specs::FormChecks::form_check))]
 pub fn check_forms(
     head: Head,
     expressions: &[u16],

@@ -1,4 +1,4 @@
-use Prim.Native.Nat.{◌-◌, ◌/◌}
+use Prim.Native.Nat.{◌/◌}
 use lib.ListN.{length}
 use Rattle.report.specs.Operands.{sides_in}
 use Rattle.report.specs.FormChecks.{is_kind, constant_kind}
@@ -7,6 +7,3 @@ use Rattle.comparisons.proofs.check_constants.Given as goal
 
 abbrev pub invariant-loop-f : goal.invariant-loop-f
 invariant-loop-f l = FormsPassed (λ j. is_kind (constant_kind (sides_in l.comparisons j))) (length l.comparisons / 5) l.f
-
-abbrev pub decreases-loop-f : goal.decreases-loop-f
-decreases-loop-f l = length l.comparisons / 5 - l.f

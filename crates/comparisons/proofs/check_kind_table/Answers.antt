@@ -1,19 +1,15 @@
-use mathlib.Core.Path.{sym, ap, ◌∙◌}
-use mathlib.Core.Bool.{not}
-use borrow.Author.Tests.{eq-eqb}
-use Rattle.report.specs.FormChecks.{is_kind}
-use Rattle.report.proofs.VerdictLaws.{then_next, accepted_if}
+use Rattle.std.proofs.Common.{rules, ◌≡◌, Err, sym}
+use mathlib.Core.Path.{◌∙◌}
+use Rattle.report.proofs.VerdictLaws.{then_next}
 use Rattle.table_checks.proofs.FormLoops.{passed_first, passed_all}
-use Rattle.std.proofs.Common.{ap}
-use Rattle.std.specs.Prelude.{not}
 use Rattle.comparisons.proofs.check_kind_table.Goals as goal
 
-pub returns-then-not-is_kind : goal.returns-then-not-is_kind
-returns-then-not-is_kind c =
-    c.refuse-then-not-is_kind.ensures
-    ∙ passed_first _ _ c.loop-a.invariant c.loop-a-test.true (rw c.kind_of-k.ensures at c.is_kind.ensures) (ap not c.if-not-is_kind.true) _
-    ∙ sym (then_next (accepted_if _ (ap not (eq-eqb _ _ c.if-count-m.false))))
+pub returns-in_err-refuse_if-2 : goal.returns-in_err-refuse_if-2
+returns-in_err-refuse_if-2 c =
+    let told : c.from_residual-in_err-refuse_if-2.result ≡ Err c.in_err-refuse_if-2.field-0.0 = search rules in
+    told
+    ∙ passed_first _ _ c.loop-a.invariant c.loop-a-test.true (rw c.kind_of-k.ensures at c.is_kind.ensures) _ c.in_err-refuse_if-2.ensures
+    ∙ sym (then_next (sym c.in_ok-refuse_if.ensures))
 
 pub returns : goal.returns
-returns c =
-    passed_all _ _ c.loop-a.invariant c.loop-a-test.false _ ∙ sym (then_next (accepted_if _ (ap not (eq-eqb _ _ c.if-count-m.false))))
+returns c = passed_all _ _ c.loop-a.invariant c.loop-a-test.false _ ∙ sym (then_next (sym c.in_ok-refuse_if.ensures))

@@ -1,4 +1,3 @@
-use Prim.Native.Nat.{◌-◌}
 use lib.ListN.{length}
 use Rattle.report.specs.Tables.{kind_in}
 use Rattle.report.specs.FormChecks.{is_kind}
@@ -7,6 +6,3 @@ use Rattle.comparisons.proofs.check_kind_table.Given as goal
 
 abbrev pub invariant-loop-a : goal.invariant-loop-a
 invariant-loop-a l = FormsPassed (λ j. is_kind (kind_in l.kinds j)) (length l.kinds) l.a
-
-abbrev pub decreases-loop-a : goal.decreases-loop-a
-decreases-loop-a l = length l.kinds - l.a

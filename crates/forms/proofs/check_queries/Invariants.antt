@@ -1,10 +1,5 @@
-use Prim.Native.Nat.{◌-◌, ◌/◌}
-use lib.ListN.{length}
 use Rattle.forms.proofs.Queries.{QueriesPassed}
 use Rattle.forms.proofs.check_queries.Given as goal
 
 abbrev pub invariant-loop-q : goal.invariant-loop-q
 invariant-loop-q l = QueriesPassed l.counts l.project_entries l.queries l.marks l.end l.q
-
-abbrev pub decreases-loop-q : goal.decreases-loop-q
-decreases-loop-q l = length l.queries / 4 - l.q

@@ -1,10 +1,5 @@
-use Prim.Native.Nat.{◌-◌, ◌/◌}
-use lib.ListN.{length}
 use Rattle.forms.proofs.Lists.{RelationsPassed}
 use Rattle.forms.proofs.check_relations.Given as goal
 
 abbrev pub invariant-loop-r : goal.invariant-loop-r
 invariant-loop-r l = RelationsPassed l.e l.entries l.relations l.start l.r
-
-abbrev pub decreases-loop-r : goal.decreases-loop-r
-decreases-loop-r l = length l.relations / 2 - l.r
