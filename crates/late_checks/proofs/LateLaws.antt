@@ -40,13 +40,13 @@ told_permitted T few {permits} e c = go (dec_lt c 1024)
 module _ {T : Tables} {entries relations comparisons queries : List ℕ} (R : SourceReads T entries relations comparisons queries)
     (lent : LentWords) where
   -- the four tests, one after another
-  pub room_answers : {a b c d x y v : Verdict} → a ≡ refuse_if (ltb lent.entries (length entries)) (refusal 21 1 0 0)
-      → b ≡ refuse_if (ltb lent.relations (length relations)) (refusal 21 2 0 0)
-      → c ≡ refuse_if (ltb lent.comparisons (length comparisons)) (refusal 21 3 0 0)
-      → d ≡ refuse_if (ltb lent.queries (length queries)) (refusal 21 4 0 0) → x ≡ or_else c d → y ≡ or_else b x → v ≡ or_else a y
+  pub room_answers : {v : Verdict}
+      → v ≡ or_else (refuse_if (ltb lent.entries (length entries)) (refusal 21 1 0 0))
+          (or_else (refuse_if (ltb lent.relations (length relations)) (refusal 21 2 0 0))
+              (or_else (refuse_if (ltb lent.comparisons (length comparisons)) (refusal 21 3 0 0))
+                  (refuse_if (ltb lent.queries (length queries)) (refusal 21 4 0 0))))
       → v ≡ first_of (room_conditions lent.entries lent.relations lent.comparisons lent.queries T)
-  room_answers ea eb ec ed ex ey ev =
-      let e = ev ∙ ap₂ or_else ea (ey ∙ ap₂ or_else eb (ex ∙ ap₂ or_else ec ed)) in
+  room_answers e =
       (rw (R.entries_are, R.relations_are, R.comparisons_are, R.queries_are) at e)
       ∙ sym (first_room T lent.entries lent.relations lent.comparisons lent.queries)
 

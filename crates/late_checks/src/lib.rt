@@ -16,11 +16,7 @@ use verdicts::refuse_if;
 fn is_permitted(permitted: Row, c: u64) -> bool
     ensures { result ≡ (ltb c 1024 && row_bit permitted.words c) }
 {
-    if c < 1024 {
-        permitted.has(c as usize)
-    } else {
-        false
-    }
+    c < 1024 && permitted.has(c as usize)
 }
 
 // How many words each of the tables lent for writing has.
