@@ -57,12 +57,10 @@ fn fill_relation_sets(
 {
     let count = relations.len() / 2;
     let mut start = 0;
-    let mut r = 0;
-    while r < count {
+    for r in 0..count {
         let s = relation_set(c, r, start, expression_rows, relation_entries, relations);
         relation_sets[r] = s.bits;
         start += relation_length(relations, r);
-        r += 1;
     }
 }
 
@@ -132,8 +130,7 @@ pub fn fill_gathered(
         → gathered_sets.new ≡ written (table (comparison_count T) (gathered T c (own_of (kind_of T) what))) gathered_sets.old }
 {
     let count = comparisons.len() / 5;
-    let mut f = 0;
-    while f < count {
+    for f in 0..count {
         let x = decode_comparison(comparisons, f);
         let own = own_set(what, x, kinds);
         let s = gathered_at(
@@ -144,7 +141,6 @@ pub fn fill_gathered(
             &*gathered_sets,
         );
         gathered_sets[f] = s.bits;
-        f += 1;
     }
 }
 
@@ -196,8 +192,7 @@ fn fill_sets(
 {
     let count = queries.len() / 4;
     let mut start = 0;
-    let mut q = 0;
-    while q < count {
+    for q in 0..count {
         let x = decode_query(queries, q);
         let s = set_at(
             x,
@@ -210,7 +205,6 @@ fn fill_sets(
         );
         form_sets[q] = s.bits;
         start += project_length(x);
-        q += 1;
     }
 }
 

@@ -95,14 +95,12 @@ fn add_found(
         → spared_sets.new ≡ written (table (query_count T) (found_below T (suc c))) spared_sets.old }
 {
     let count = queries.len() / 4;
-    let mut q = 0;
-    while q < count {
+    for q in 0..count {
         let x = decode_query(queries, q);
         let found = found_here(x, q, c, expression_rows, relations, reach, form_sets);
         let before = AttributeSet::of_bits(spared_sets[q]);
         let joined = before.union(found);
         spared_sets[q] = joined.bits;
-        q += 1;
     }
 }
 
