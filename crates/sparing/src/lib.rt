@@ -45,15 +45,15 @@ fn found_in(
         → result.bits ≡ found_in T c q x }
 {
     match x {
-        Query::Malformed => AttributeSet::empty(),
-        Query::Empty => AttributeSet::empty(),
         Query::Relation(r) => present_item(c, r, expression_rows, relations),
-        Query::Select(_, _) => AttributeSet::empty(),
         Query::Project(_, _) => AttributeSet::of_bits(form_sets[q]),
-        Query::Choice(_, _, _) => AttributeSet::empty(),
-        Query::Product(_, _) => AttributeSet::empty(),
-        Query::Union(_, _) => AttributeSet::empty(),
-        Query::Intersection(_, _) => AttributeSet::empty(),
+        Query::Malformed
+        | Query::Empty
+        | Query::Select(_, _)
+        | Query::Choice(_, _, _)
+        | Query::Product(_, _)
+        | Query::Union(_, _)
+        | Query::Intersection(_, _) => AttributeSet::empty(),
     }
 }
 
