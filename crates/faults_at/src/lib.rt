@@ -113,7 +113,7 @@ pub fn fill_gathered(
             c,
             own,
             expression_rows,
-            &*gathered_sets,
+            gathered_sets,
         );
         gathered_sets[f] = s.bits;
     }
@@ -175,7 +175,7 @@ fn fill_sets(
             expression_rows,
             project_entries,
             relation_sets,
-            &*form_sets,
+            form_sets,
         );
         form_sets[q] = s.bits;
         start += project_length(x);

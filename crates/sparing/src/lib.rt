@@ -145,7 +145,7 @@ fn fill_found(
             queries,
             reach,
             &form_sets,
-            &mut *spared_sets,
+            spared_sets,
         );
         from = c + 1;
     }
