@@ -59,12 +59,10 @@ pub fn joined_at(
         → result.bits ≡ joined_set T c (offset + start) count }
 {
     let mut joined = AttributeSet::empty();
-    let mut i = 0;
-    while i < count {
+    for i in 0..count {
         let a = entry_attribute(entries, start + i);
         let holds = entry_holds(c, start, i, expression_rows, entries);
         joined = joined.with_if(a, holds);
-        i += 1;
     }
     joined
 }

@@ -3,7 +3,6 @@
 #![tactic(auto)]
 
 ghost use Rattle.std.specs.Prelude.{◌≡◌, cond, ℕ, ◌+◌, ◌^◌, ◌<◌, length, get_or};
-ghost use Rattle.std.specs.Int.Bits.{bit_and, bit_or, bit_xor};
 ghost use Rattle.sets.specs.Lists.{table};
 ghost use Rattle.report.specs.Tables.{Tables, kind_of, relation_count, comparison_count, query_count};
 ghost use Rattle.report.specs.Typing.{present, gathered_of, gathered, set_rule, set_of, faults_of, clashes_in};
@@ -57,12 +56,10 @@ fn fill_relation_sets(
 {
     let count = relations.len() / 2;
     let mut start = 0;
-    let mut r = 0;
-    while r < count {
+    for r in 0..count {
         let s = relation_set(c, r, start, expression_rows, relation_entries, relations);
         relation_sets[r] = s.bits;
         start += relation_length(relations, r);
-        r += 1;
     }
 }
 
@@ -72,30 +69,6 @@ fn set_in(sets: &[u64], k: usize) -> AttributeSet
     ensures { result.bits ≡ get_or sets.now k 0 }
 {
     AttributeSet::of_bits(sets[k])
-}
-
-// The union of sets a and b.
-fn union_in(a: usize, b: usize, sets: &[u64]) -> AttributeSet
-    requires { (a < length sets.now) × (b < length sets.now) }
-    ensures { result.bits ≡ bit_or (get_or sets.now a 0) (get_or sets.now b 0) }
-{
-    set_in(sets, a).union(set_in(sets, b))
-}
-
-// The attributes that both sets a and b have.
-fn common_in(a: usize, b: usize, sets: &[u64]) -> AttributeSet
-    requires { (a < length sets.now) × (b < length sets.now) }
-    ensures { result.bits ≡ bit_and (get_or sets.now a 0) (get_or sets.now b 0) }
-{
-    set_in(sets, a).intersect(set_in(sets, b))
-}
-
-// The attributes that set a or set b has, and not both.
-fn unequal_in(a: usize, b: usize, sets: &[u64]) -> AttributeSet
-    requires { (a < length sets.now) × (b < length sets.now) }
-    ensures { result.bits ≡ bit_xor (get_or sets.now a 0) (get_or sets.now b 0) }
-{
-    set_in(sets, a).unequal(set_in(sets, b))
 }
 
 // What is gathered at c from a comparison that refers to these: `gathered_sets` has what is gathered from lower ones. One that refers to none gives its own.
@@ -113,7 +86,7 @@ fn gathered_at(
     match to {
         Operands::Nothing => own,
         Operands::One(a) => set_in(gathered_sets, a),
-        Operands::Both(a, b) => union_in(a, b, gathered_sets),
+        Operands::Both(a, b) => set_in(gathered_sets, a).union(set_in(gathered_sets, b)),
         Operands::Choice(e, a, b) => set_in(gathered_sets, taken_at(c, e, a, b, expression_rows)),
     }
 }
@@ -132,8 +105,7 @@ pub fn fill_gathered(
         → gathered_sets.new ≡ written (table (comparison_count T) (gathered T c (own_of (kind_of T) what))) gathered_sets.old }
 {
     let count = comparisons.len() / 5;
-    let mut f = 0;
-    while f < count {
+    for f in 0..count {
         let x = decode_comparison(comparisons, f);
         let own = own_set(what, x, kinds);
         let s = gathered_at(
@@ -141,10 +113,9 @@ pub fn fill_gathered(
             c,
             own,
             expression_rows,
-            &*gathered_sets,
+            gathered_sets,
         );
         gathered_sets[f] = s.bits;
-        f += 1;
     }
 }
 
@@ -165,18 +136,17 @@ fn set_at(
         → result.bits ≡ set_rule T c (set_of T c) q x }
 {
     match x {
-        Query::Malformed => AttributeSet::empty(),
-        Query::Empty => AttributeSet::empty(),
+        Query::Malformed | Query::Empty => AttributeSet::empty(),
         Query::Relation(r) => set_in(relation_sets, r),
-        Query::Select(_, a) => set_in(form_sets, a),
+        Query::Select(_, a) | Query::Union(a, _) | Query::Intersection(a, _) => {
+            set_in(form_sets, a)
+        }
         Query::Project(count, a) => {
             let listed = joined_at(c, start, count, expression_rows, project_entries);
             listed.intersect(set_in(form_sets, a))
         }
         Query::Choice(e, a, b) => set_in(form_sets, taken_at(c, e, a, b, expression_rows)),
-        Query::Product(a, b) => union_in(a, b, form_sets),
-        Query::Union(a, _) => set_in(form_sets, a),
-        Query::Intersection(a, _) => set_in(form_sets, a),
+        Query::Product(a, b) => set_in(form_sets, a).union(set_in(form_sets, b)),
     }
 }
 
@@ -196,8 +166,7 @@ fn fill_sets(
 {
     let count = queries.len() / 4;
     let mut start = 0;
-    let mut q = 0;
-    while q < count {
+    for q in 0..count {
         let x = decode_query(queries, q);
         let s = set_at(
             x,
@@ -206,11 +175,10 @@ fn fill_sets(
             expression_rows,
             project_entries,
             relation_sets,
-            &*form_sets,
+            form_sets,
         );
         form_sets[q] = s.bits;
         start += project_length(x);
-        q += 1;
     }
 }
 
@@ -279,18 +247,17 @@ pub fn faults_of(
         → result.bits ≡ faults_of T c q x }
 {
     match x {
-        Query::Malformed => AttributeSet::empty(),
-        Query::Empty => AttributeSet::empty(),
+        Query::Malformed | Query::Empty | Query::Choice(_, _, _) => AttributeSet::empty(),
         Query::Relation(r) => absent_item(c, r, expression_rows, relations),
         Query::Select(f, a) => set_in(named_sets, f).minus(set_in(form_sets, a)),
         Query::Project(count, a) => {
             let listed = joined_at(c, start, count, expression_rows, project_entries);
             listed.minus(set_in(form_sets, a))
         }
-        Query::Choice(_, _, _) => AttributeSet::empty(),
-        Query::Product(a, b) => common_in(a, b, form_sets),
-        Query::Union(a, b) => unequal_in(a, b, form_sets),
-        Query::Intersection(a, b) => unequal_in(a, b, form_sets),
+        Query::Product(a, b) => set_in(form_sets, a).intersect(set_in(form_sets, b)),
+        Query::Union(a, b) | Query::Intersection(a, b) => {
+            set_in(form_sets, a).unequal(set_in(form_sets, b))
+        }
     }
 }
 

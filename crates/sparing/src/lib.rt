@@ -45,15 +45,15 @@ fn found_in(
         → result.bits ≡ found_in T c q x }
 {
     match x {
-        Query::Malformed => AttributeSet::empty(),
-        Query::Empty => AttributeSet::empty(),
         Query::Relation(r) => present_item(c, r, expression_rows, relations),
-        Query::Select(_, _) => AttributeSet::empty(),
         Query::Project(_, _) => AttributeSet::of_bits(form_sets[q]),
-        Query::Choice(_, _, _) => AttributeSet::empty(),
-        Query::Product(_, _) => AttributeSet::empty(),
-        Query::Union(_, _) => AttributeSet::empty(),
-        Query::Intersection(_, _) => AttributeSet::empty(),
+        Query::Malformed
+        | Query::Empty
+        | Query::Select(_, _)
+        | Query::Choice(_, _, _)
+        | Query::Product(_, _)
+        | Query::Union(_, _)
+        | Query::Intersection(_, _) => AttributeSet::empty(),
     }
 }
 
@@ -95,14 +95,12 @@ fn add_found(
         → spared_sets.new ≡ written (table (query_count T) (found_below T (suc c))) spared_sets.old }
 {
     let count = queries.len() / 4;
-    let mut q = 0;
-    while q < count {
+    for q in 0..count {
         let x = decode_query(queries, q);
         let found = found_here(x, q, c, expression_rows, relations, reach, form_sets);
         let before = AttributeSet::of_bits(spared_sets[q]);
         let joined = before.union(found);
         spared_sets[q] = joined.bits;
-        q += 1;
     }
 }
 
@@ -143,7 +141,7 @@ fn fill_found(
             queries,
             reach,
             &form_sets,
-            &mut *spared_sets,
+            spared_sets,
         );
         from = c + 1;
     }

@@ -1,10 +1,5 @@
-use Prim.Native.Nat.{◌/◌, ◌-◌}
-use lib.ListN.{length}
 use Rattle.faults_at.proofs.GatheredLaws.{Gathering}
 use Rattle.faults_at.proofs.fill_gathered.Given as goal
 
 abbrev pub invariant-loop-f : goal.invariant-loop-f
 invariant-loop-f l = Gathering l.what l.expression_rows l.comparisons l.kinds l.c l.initial.gathered_sets l.gathered_sets l.f
-
-abbrev pub decreases-loop-f : goal.decreases-loop-f
-decreases-loop-f l = length l.comparisons / 5 - l.f

@@ -1,10 +1,5 @@
-use Prim.Native.Nat.{◌/◌, ◌-◌}
-use lib.ListN.{length}
 use Rattle.faults_at.proofs.ListLaws.{RelationSetsFilling}
 use Rattle.faults_at.proofs.fill_relation_sets.Given as goal
 
 abbrev pub invariant-loop-r : goal.invariant-loop-r
 invariant-loop-r l = RelationSetsFilling l.expression_rows l.relation_entries l.relations l.c l.initial.relation_sets l.relation_sets l.r l.start
-
-abbrev pub decreases-loop-r : goal.decreases-loop-r
-decreases-loop-r l = length l.relations / 2 - l.r

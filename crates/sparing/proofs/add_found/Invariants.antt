@@ -1,9 +1,5 @@
-use Prim.Native.Nat.{◌-◌}
 use Rattle.sparing.proofs.FoundLaws.{Adding}
 use Rattle.sparing.proofs.add_found.Given as goal
 
 abbrev pub invariant-loop-q : goal.invariant-loop-q
 invariant-loop-q l = Adding l.c l.expression_rows l.relations l.queries l.reach l.form_sets l.initial.spared_sets l.spared_sets l.q
-
-abbrev pub decreases-loop-q : goal.decreases-loop-q
-decreases-loop-q l = l.count - l.q
