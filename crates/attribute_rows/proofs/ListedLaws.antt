@@ -66,7 +66,6 @@ module _ (T : Tables) (a : ℕ) (h : ℕ → Bool) (f : ℕ → ℕ) where
 
 -- of the `count` entries from `start` on the first i are joined
 pub record EntriesJoining (expression_rows entries : List ℕ) (a start count : ℕ) (row : List ℕ) (i : ℕ) : Type 0 where
-  pub most : i ≤ count
   pub joined : (T : Tables) (offset : ℕ) → ListRowReads T offset expression_rows entries start count → row ≡ list_row T a (offset + start) i
 
 -- entry i of a list, in table 1
@@ -100,14 +99,13 @@ entry_read A i h =
 module _ {expression_rows entries : List ℕ} {a start count : ℕ} {row : List ℕ} where
   pub listing_none : row ≡ row_of 16 (λ c. false) → EntriesJoining expression_rows entries a start count row 0
   unfolding joined_set
-  listing_none e = record { most = omega arith; joined = λ T offset R. e ∙ has_none T a }
+  listing_none e = record { joined = λ T offset R. e ∙ has_none T a }
 
   module _ {i : ℕ} (S : EntriesJoining expression_rows entries a start count row i) where
     pub listing_more : i < count → {after : List ℕ} → after ≡ entry_row expression_rows entries a (start + i) row
         → EntriesJoining expression_rows entries a start count after (i + 1)
     unfolding joined_set
     listing_more h e = record {
-      most = omega arith;
       joined = λ T offset R.
           let x = entry_expression T.entries (offset + start + i) in
           let t = entry_attribute T.entries (offset + start + i) in
@@ -116,12 +114,6 @@ module _ {expression_rows entries : List ℕ} {a start count : ℕ} {row : List 
           ∙ ap₂ (λ (r own : List ℕ). cond (eqb a t) (row_join 16 r own) r) (S.joined T offset R) (R.filled.each x (expression_in R i h))
           ∙ join_entry T a (λ c. at T c x) (λ c. joined_set T c (offset + start) i) t ∙ ap l (sym (add-one i));
     }
-
-    pub listing_all : count ≤ i → (T : Tables) (offset : ℕ) → ListRowReads T offset expression_rows entries start count
-        → row ≡ list_row T a (offset + start) count
-    listing_all h T offset R =
-        let e : i ≡ count = (let l = S.most in omega arith) in
-        S.joined T offset R ∙ ap (list_row T a (offset + start)) e
 
 -- ---- one relation
 
