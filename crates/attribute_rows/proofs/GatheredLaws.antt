@@ -108,7 +108,3 @@ module _ (what : Gathered) {expression_rows comparisons kinds full : List ℕ} {
         → RowsFilling (λ T. GatheredReads T expression_rows comparisons kinds full) (λ T. gathered_row T what) a (length comparisons / 5) lent after
         (f + 1)
     gathered_more step = filling_more (λ T. gathered_wide T what) S h (λ T R B. gathered_is R what a B h e step)
-
-  pub gathered_all : length comparisons / 5 ≤ f → (T : Tables) → GatheredReads T expression_rows comparisons kinds full
-      → rows ≡ written (concat (comparison_count T) (gathered_row T what a)) lent
-  gathered_all h T R = filling_all (λ T. gathered_wide T what) S h T R (ap (λ (t : List ℕ). length t / 5) R.comparisons_are)

@@ -25,17 +25,6 @@ use Rattle.attribute_rows.specs.AttributeRows.{has_row, list_row, relation_row, 
 use Rattle.attribute_rows.specs.RowRules.{entry_row, EntryRead, RelationAt, SomeRelation}
 use Rattle.attribute_rows.proofs.AttributeLaws.{row_same, relation_wide, has_none, has_where}
 
--- ---- one entry: what the code found of it (E says which entry of which table)
-
-module _ {expression_rows entries : List ℕ} {k : ℕ} (E : EntryRead expression_rows entries k) (row : List ℕ) {a t : ℕ}
-    (p : t ≡ entry_attribute entries k) where
-  pub entry_named : a ≡ t → {x : ℕ} {own all : List ℕ} → x ≡ entry_expression entries k → own ≡ row_in 16 expression_rows x → all ≡ row_join 16 row own
-      → all ≡ entry_row expression_rows entries a k row
-  entry_named e q load joined = rw (eq-eqb a (entry_attribute entries k) (e ∙ p)) (joined ∙ ap (row_join 16 row) (load ∙ ap (row_in 16 expression_rows) q))
-
-  pub entry_other : (a ≡ t → ⊥) → row ≡ entry_row expression_rows entries a k row
-  entry_other e = rw (ne_eqb a (entry_attribute entries k) (λ i. e (i ∙ sym p)))
-
 -- ---- one entry more
 
 module _ (T : Tables) (a : ℕ) (h : ℕ → Bool) (f : ℕ → ℕ) where
@@ -66,7 +55,6 @@ module _ (T : Tables) (a : ℕ) (h : ℕ → Bool) (f : ℕ → ℕ) where
 
 -- of the `count` entries from `start` on the first i are joined
 pub record EntriesJoining (expression_rows entries : List ℕ) (a start count : ℕ) (row : List ℕ) (i : ℕ) : Type 0 where
-  pub most : i ≤ count
   pub joined : (T : Tables) (offset : ℕ) → ListRowReads T offset expression_rows entries start count → row ≡ list_row T a (offset + start) i
 
 -- entry i of a list, in table 1
@@ -88,26 +76,16 @@ module _ {T : Tables} {offset : ℕ} {expression_rows entries : List ℕ} {start
   expression_in : entry_expression T.entries (offset + start + i) < expression_count T
   expression_in = entry_expression_lem R.formed (offset + start + i) in_table
 
-pub entry_read : {expression_rows entries : List ℕ} {start count : ℕ} → ListRowReadable expression_rows entries start count → (i : ℕ) → i < count
-    → EntryRead expression_rows entries (start + i)
-entry_read A i h =
-    let R = A.reads in
-    record {
-      inside = in_part R i h;
-      rowed = let x = expression_in R i h in let e = expression_is R i h in let m = R.filled.room in omega arith;
-    }
-
 module _ {expression_rows entries : List ℕ} {a start count : ℕ} {row : List ℕ} where
   pub listing_none : row ≡ row_of 16 (λ c. false) → EntriesJoining expression_rows entries a start count row 0
   unfolding joined_set
-  listing_none e = record { most = omega arith; joined = λ T offset R. e ∙ has_none T a }
+  listing_none e = record { joined = λ T offset R. e ∙ has_none T a }
 
   module _ {i : ℕ} (S : EntriesJoining expression_rows entries a start count row i) where
     pub listing_more : i < count → {after : List ℕ} → after ≡ entry_row expression_rows entries a (start + i) row
         → EntriesJoining expression_rows entries a start count after (i + 1)
     unfolding joined_set
     listing_more h e = record {
-      most = omega arith;
       joined = λ T offset R.
           let x = entry_expression T.entries (offset + start + i) in
           let t = entry_attribute T.entries (offset + start + i) in
@@ -116,12 +94,6 @@ module _ {expression_rows entries : List ℕ} {a start count : ℕ} {row : List 
           ∙ ap₂ (λ (r own : List ℕ). cond (eqb a t) (row_join 16 r own) r) (S.joined T offset R) (R.filled.each x (expression_in R i h))
           ∙ join_entry T a (λ c. at T c x) (λ c. joined_set T c (offset + start) i) t ∙ ap l (sym (add-one i));
     }
-
-    pub listing_all : count ≤ i → (T : Tables) (offset : ℕ) → ListRowReads T offset expression_rows entries start count
-        → row ≡ list_row T a (offset + start) count
-    listing_all h T offset R =
-        let e : i ≡ count = (let l = S.most in omega arith) in
-        S.joined T offset R ∙ ap (list_row T a (offset + start)) e
 
 -- ---- one relation
 
@@ -133,13 +105,6 @@ module _ {T : Tables} {expression_rows entries relations : List ℕ} {r start : 
     part = rw A.reads.entries_are (relation_part A.reads.formed);
     inside = rw (e, A.reads.relations_are, A.reads.entries_are, A.starts) (relation_in_part A.reads.formed r A.inside);
   }
-
-  pub relation_rowed : {x : ℕ} → x ≡ relation_expression relations r → x * 16 + 16 ≤ length expression_rows
-  relation_rowed e =
-      let l = relation_expression_lem A.reads.formed r A.inside in
-      let m = A.reads.filled.room in
-      let s = e ∙ ap (λ (t : List ℕ). relation_expression t r) A.reads.relations_are in
-      omega arith
 
   pub relation_is : (a : ℕ) {n x : ℕ} {all own row : List ℕ} → n ≡ relation_length relations r → x ≡ relation_expression relations r
       → all ≡ list_row T a (0 + start) n
@@ -161,23 +126,13 @@ pub record RelationsFilling (expression_rows entries relations : List ℕ) (a : 
   pub rows : RowsFilling (λ T. RelationRowReads T expression_rows entries relations) relation_row a (length relations / 2) lent relation_rows r
   pub starts : start ≡ relation_start relations r
 
-pub related_none : {expression_rows entries relations : List ℕ} {a : ℕ} {lent : List ℕ}
-    → RelationsFilling expression_rows entries relations a lent lent 0 0
-related_none = record { rows = filling_none; starts = refl }
-
 module _ {expression_rows entries relations : List ℕ} {a : ℕ} {lent relation_rows : List ℕ} {r start : ℕ}
     (S : RelationsFilling expression_rows entries relations a lent relation_rows r start) where
   module _ (h : r < length relations / 2) where
     related_at : {T : Tables} → RelationRowReads T expression_rows entries relations → RelationAt T expression_rows entries relations r start
     related_at R = record { reads = R; inside = rw R.relations_are at h; starts = rw R.relations_are at S.starts }
 
-    pub related_some : RelationRowReadable expression_rows entries relations lent → SomeRelation expression_rows entries relations r start
-    related_some A = record { tables = A.tables; at = related_at A.reads }
-
     module _ {n : ℕ} (e : n ≡ relation_length relations r) where
-      -- the next list starts in the entries, or at their end
-      pub related_small : RelationRowReadable expression_rows entries relations lent → start + n ≤ length entries / 2
-      related_small A = (relation_reads (related_at A.reads) e).inside
 
       pub related_more : {row after : List ℕ} → ((T : Tables) → RelationAt T expression_rows entries relations r start → row ≡ relation_row T a r)
           → length after ≡ length relation_rows → after ≡ with_row 16 relation_rows r row
@@ -186,7 +141,3 @@ module _ {expression_rows entries relations : List ℕ} {a : ℕ} {lent relation
         rows = filling_more relation_wide S.rows h (λ T R B. row T (related_at R)) same stored;
         starts = ap₂ ◌+◌ S.starts e ∙ ap (relation_start relations) (sym (add-one r));
       }
-
-  pub related_all : length relations / 2 ≤ r → (T : Tables) → RelationRowReads T expression_rows entries relations
-      → relation_rows ≡ written (concat (relation_count T) (relation_row T a)) lent
-  related_all h T R = filling_all relation_wide S.rows h T R (ap (λ (t : List ℕ). length t / 2) R.relations_are)

@@ -23,24 +23,17 @@ use decoders::{
 use report::{Comparison, Operands, Query};
 use sets::Row;
 
-// A row joined with that of entry i of the list that starts at `start`, if it names attribute a.
-fn with_entry(
-    start: usize,
-    i: usize,
-    a: usize,
-    r: Row,
-    expression_rows: &[u64],
-    entries: &[u16],
-) -> Row
-    requires { EntryRead expression_rows.now entries.now (start + i) }
-    ensures { result.words ≡ entry_row expression_rows.now entries.now a (start + i) r.words }
+// A row joined with that of entry k, if it names attribute a.
+fn with_entry(k: usize, a: usize, r: Row, expression_rows: &[u64], entries: &[u16]) -> Row
+    requires { EntryRead expression_rows.now entries.now k }
+    ensures { result.words ≡ entry_row expression_rows.now entries.now a k r.words }
 {
-    let k = start + i;
     if a == entry_attribute(entries, k) {
         let x = entry_expression(entries, k);
-        return r.join(Row::load(expression_rows, x));
+        r.join(Row::load(expression_rows, x))
+    } else {
+        r
     }
-    r
 }
 
 // The join of the rows of the entries that name attribute a, of `count` entries from `start` on.
@@ -56,10 +49,8 @@ pub fn list_row(
         → result.words ≡ list_row T a (offset + start) count }
 {
     let mut r = Row::empty();
-    let mut i = 0;
-    while i < count {
-        r = with_entry(start, i, a, r, expression_rows, entries);
-        i += 1;
+    for i in 0..count {
+        r = with_entry(start + i, a, r, expression_rows, entries);
     }
     r
 }
@@ -69,36 +60,6 @@ fn choice_row(holds: Row, x: Row, y: Row) -> Row
     ensures { result.words ≡ row_join 16 (row_intersect 16 x.words holds.words) (row_minus 16 y.words holds.words) }
 {
     x.intersect(holds).join(y.minus(holds))
-}
-
-// All configurations if the test is true, and none else.
-fn row_if(test: bool, full: Row) -> Row
-    ensures { result.words ≡ cond test full.words (row_of 16 (λ c. false)) }
-{
-    if test {
-        return full;
-    }
-    Row::empty()
-}
-
-// The join of rows b and d.
-fn joined_row(b: usize, d: usize, rows: &[u64]) -> Row
-    requires { (b * 16 + 16 ≤ length rows.now) × (d * 16 + 16 ≤ length rows.now) }
-    ensures { result.words ≡ row_join 16 (row_in 16 rows.now b) (row_in 16 rows.now d) }
-{
-    Row::load(rows, b).join(Row::load(rows, d))
-}
-
-// Where expression e holds row b, elsewhere row d.
-fn chosen_row(e: usize, b: usize, d: usize, expression_rows: &[u64], rows: &[u64]) -> Row
-    requires { (e * 16 + 16 ≤ length expression_rows.now) × (b * 16 + 16 ≤ length rows.now) × (d * 16 + 16 ≤ length rows.now) }
-    ensures { result.words ≡ choice_row (row_in 16 expression_rows.now e) (row_in 16 rows.now b) (row_in 16 rows.now d) }
-{
-    choice_row(
-        Row::load(expression_rows, e),
-        Row::load(rows, b),
-        Row::load(rows, d),
-    )
 }
 
 // The row of comparison x from `rows`, which has those of lower comparisons. Without operands it is `full`, which has all configurations, or empty: what
@@ -117,12 +78,21 @@ fn gathered_row(
         ≡ gathered_step expression_rows.now rows.now full.words (shows what a (own_of (kind_in kinds.now) what x))
         (comparison_operands x) }
 {
-    let to = comparison_operands(x);
-    match to {
-        Operands::Nothing => row_if(own_shows(what, x, a, kinds), full),
+    match comparison_operands(x) {
+        Operands::Nothing => {
+            if own_shows(what, x, a, kinds) {
+                full
+            } else {
+                Row::empty()
+            }
+        }
         Operands::One(b) => Row::load(rows, b),
-        Operands::Both(b, d) => joined_row(b, d, rows),
-        Operands::Choice(e, b, d) => chosen_row(e, b, d, expression_rows, rows),
+        Operands::Both(b, d) => Row::load(rows, b).join(Row::load(rows, d)),
+        Operands::Choice(e, b, d) => choice_row(
+            Row::load(expression_rows, e),
+            Row::load(rows, b),
+            Row::load(rows, d),
+        ),
     }
 }
 
@@ -141,12 +111,10 @@ pub fn fill_gathered_rows(
         → rows.new ≡ written (concat (comparison_count T) (gathered_row T what a)) rows.old }
 {
     let count = comparisons.len() / 5;
-    let mut f = 0;
-    while f < count {
+    for f in 0..count {
         let x = decode_comparison(comparisons, f);
         let r = gathered_row(x, what, a, full, expression_rows, kinds, &*rows);
         r.store(&mut *rows, f);
-        f += 1;
     }
 }
 
@@ -184,12 +152,10 @@ pub fn fill_relation_rows(
 {
     let count = relations.len() / 2;
     let mut start = 0;
-    let mut r = 0;
-    while r < count {
+    for r in 0..count {
         let row = relation_row(r, start, a, expression_rows, relation_entries, relations);
         row.store(&mut *relation_rows, r);
         start += relation_length(relations, r);
-        r += 1;
     }
 }
 
@@ -205,14 +171,17 @@ pub fn set_row(
     ensures { result.words ≡ set_step expression_rows.now relation_rows.now form_rows.now listed.words x }
 {
     match x {
-        Query::Malformed => Row::empty(),
-        Query::Empty => Row::empty(),
+        Query::Malformed | Query::Empty => Row::empty(),
         Query::Relation(r) => Row::load(relation_rows, r),
-        Query::Select(_, b) => Row::load(form_rows, b),
         Query::Project(_, b) => listed.intersect(Row::load(form_rows, b)),
-        Query::Choice(e, b, d) => chosen_row(e, b, d, expression_rows, form_rows),
-        Query::Product(b, d) => joined_row(b, d, form_rows),
-        Query::Union(b, _) => Row::load(form_rows, b),
-        Query::Intersection(b, _) => Row::load(form_rows, b),
+        Query::Choice(e, b, d) => choice_row(
+            Row::load(expression_rows, e),
+            Row::load(form_rows, b),
+            Row::load(form_rows, d),
+        ),
+        Query::Product(b, d) => Row::load(form_rows, b).join(Row::load(form_rows, d)),
+        Query::Select(_, b) | Query::Union(b, _) | Query::Intersection(b, _) => {
+            Row::load(form_rows, b)
+        }
     }
 }

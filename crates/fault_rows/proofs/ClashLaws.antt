@@ -31,15 +31,6 @@ use Rattle.fault_rows.specs.FaultRows.{fails_row, fails_at, failing_row, ClashRe
 use Rattle.fault_rows.specs.FaultRules.{clash_step, ClashRead, first_found}
 use Rattle.fault_rows.proofs.FormLaws.{cut_within}
 
--- ---- the first of two rows, or the second: `empty` says whether the first is empty
-
-module _ (first second : List ℕ) {empty : Bool} (told : empty ≡ row_is_empty 16 first) where
-  pub second_found : empty ≡ true → second ≡ first_found first second
-  second_found e = ap (λ (t : Bool). cond t second first) (sym e ∙ told)
-
-  pub first_found_lem : empty ≡ false → first ≡ first_found first second
-  first_found_lem e = ap (λ (t : Bool). cond t second first) (sym e ∙ told)
-
 -- ---- one form
 
 module _ {T : Tables} (F : Formed T) {rows : List ℕ} (compared : RowsAre 16 (comparison_count T) (gathered_row T Gathered.Clashes 0) rows) (q : ℕ) where
@@ -102,24 +93,10 @@ ClashesAdding queries reach clash_rows lent fault_rows q =
     (R : Reading)
     → RowsFilling (λ T. ClashReads T R queries reach clash_rows lent) (λ T x k. failing_row T R k) 0 (length queries / 4) lent fault_rows q
 
-pub adding_none : {queries reach clash_rows lent : List ℕ} → ClashesAdding queries reach clash_rows lent lent 0
-adding_none R = filling_none
-
 module _ {queries reach clash_rows lent fault_rows : List ℕ} {q : ℕ} (S : ClashesAdding queries reach clash_rows lent fault_rows q) where
-  pub adding_length : length fault_rows ≡ length lent
-  adding_length = (S Reading.Strict).size
-
   module _ (h : q < length queries / 4) where
     in_table : {T : Tables} {R : Reading} → ClashReads T R queries reach clash_rows lent → q < query_count T
     in_table C = rw C.queries_are at h
-
-    -- form q has its rows
-    module _ (A : ClashReadable queries reach clash_rows lent) where
-      pub adding_reach : q * 16 + 16 ≤ length reach
-      adding_reach = let m = A.reads.reaching.room in let i = in_table A.reads in omega arith
-
-      pub adding_faults : q * 16 + 16 ≤ length fault_rows
-      adding_faults = let m = A.reads.failing.room in let s = adding_length in let i = in_table A.reads in omega arith
 
     -- the code finds it to be x
     module _ {x : Query} (e : x ≡ query queries q) where

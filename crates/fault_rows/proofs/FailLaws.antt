@@ -68,26 +68,6 @@ module _ {T : Tables} {scope : Scope} {expression_rows relation_entries project_
       record { formed = P.formed; filled = P.filled; entries_are = P.relation_entries_are; relations_are = P.relations_are }
 
   module _ {named_rows relation_rows form_rows : List ℕ} (S : Arrays named_rows relation_rows form_rows) where
-    pub arrays_named : GatheredReadable expression_rows comparisons kinds scope.full.words named_rows
-    arrays_named = record {
-      tables = T;
-      reads = reads_named;
-      room =
-          let n = counts R.report.prepared.formed in let e = ap (λ (t : List ℕ). length t / 5) R.report.prepared.comparisons_are in
-          let s = S.compared in
-          omega arith;
-    }
-
-    pub arrays_relations : RelationRowReadable expression_rows relation_entries relations relation_rows
-    arrays_relations = record {
-      tables = T;
-      reads = reads_relations;
-      room =
-          let n = counts R.report.prepared.formed in let e = ap (λ (t : List ℕ). length t / 2) R.report.prepared.relations_are in
-          let s = S.related in
-          omega arith;
-    }
-
     arrays_sets : length queries / 4 * 16 ≤ length form_rows
     arrays_sets =
         let n = counts R.report.prepared.formed in let e = ap (λ (t : List ℕ). length t / 4) R.report.prepared.queries_are in
@@ -213,16 +193,6 @@ module _ {scope : Scope} {expression_rows relation_entries project_entries relat
           (forms : (T : Tables)
           → FormRowsReads T scope.reading expression_rows project_entries relations queries reach named_rows relation_rows a fault_rows spared_sets
           → FormsFilled T scope.reading a form_rows fault_rows after spared_sets after_sets) where
-        pub failing_column : ColumnRead queries form_rows a columns
-        failing_column =
-            let P = A.reads.report.prepared in
-            let e = ap (λ (t : List ℕ). length t / 4) P.queries_are in
-            record {
-              some = let n = (counts P.formed).some_query in omega arith;
-              formed = let m = (forms A.tables (failing_reads A.reads)).shaped.room in omega arith;
-              room = let m = A.column in let s = S.shown.size in omega arith;
-            }
-
         failing_row : {T : Tables} → TypingReads T scope expression_rows relation_entries project_entries relations comparisons queries kinds reach
             → stored_column scope.permitted.words queries form_rows ≡ column_row T a
         failing_row {T} R =

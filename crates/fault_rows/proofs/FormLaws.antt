@@ -54,14 +54,6 @@ module _ (T : Tables) (a : ℕ) (f g : ℕ → ℕ) where
 
 -- ---- an absent relation
 
-module _ {expression_rows relations : List ℕ} {r : ℕ} (A : AbsentRead expression_rows relations r) (among : List ℕ) {a : ℕ} where
-  pub absent_here : a ≡ r → {x : ℕ} {row : List ℕ} → x ≡ relation_expression relations r → row ≡ row_minus 16 among (row_in 16 expression_rows x)
-      → row ≡ absent_row expression_rows among relations a r
-  absent_here e p is = rw (eq-eqb a r e) (is ∙ ap (λ (y : ℕ). row_minus 16 among (row_in 16 expression_rows y)) p)
-
-  pub absent_other : (a ≡ r → ⊥) → {row : List ℕ} → row ≡ row_of 16 (λ c. false) → row ≡ absent_row expression_rows among relations a r
-  absent_other e is = rw (ne_eqb a r e) is
-
 -- a row, or none
 row_if : (p : ℕ → Bool) (t : Bool) → cond t (row_of 16 p) (row_of 16 (λ c. false)) ≡ row_of 16 (λ c. p c && t)
 row_if p true = row_of_same 16 p (λ c. p c && true) (λ c h. sym (and-true (p c)))

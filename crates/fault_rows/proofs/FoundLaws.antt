@@ -40,9 +40,6 @@ module _ {expression_rows relations : List ℕ} {r : ℕ} (A : AbsentRead expres
   present_here e p is =
       rw (eq-eqb a r e) (is ∙ ap (λ (y : ℕ). not (row_is_empty 16 (row_intersect 16 among (row_in 16 expression_rows y)))) p)
 
-  pub present_other : (a ≡ r → ⊥) → t ≡ false → t ≡ present_in expression_rows among relations a r
-  present_other e is = rw (ne_eqb a r e) is
-
 -- ---- rows that meet
 
 -- a search that counts only if a test holds

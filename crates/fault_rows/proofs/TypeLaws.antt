@@ -55,13 +55,6 @@ held_join p false here = refl
 
 -- an item that is spared, and one that is held against the form
 module _ {spares told : Bool} (is : told ≡ spares) {here : List ℕ} {a q : ℕ} {lent lent_sets : List ℕ} where
-  pub judged_spared : told ≡ true → {spared_sets : List ℕ} → spared_sets ≡ set lent_sets q (bit_or (get_or lent_sets q 0) (2 ^ a))
-      → ItemJudged spares here a q lent lent lent_sets spared_sets
-  judged_spared e stored = record {
-    held = ap (λ (t : Bool). cond t lent (with_row 16 lent q (row_join 16 (row_in 16 lent q) here))) (sym e ∙ is);
-    sparing = stored ∙ ap (λ (t : Bool). cond t (set lent_sets q (bit_or (get_or lent_sets q 0) (2 ^ a))) lent_sets) (sym e ∙ is);
-  }
-
   pub judged_held : told ≡ false → {row fault_rows : List ℕ} → row ≡ here → fault_rows ≡ with_row 16 lent q (row_join 16 (row_in 16 lent q) row)
       → ItemJudged spares here a q lent fault_rows lent_sets lent_sets
   judged_held e made joined = record {
@@ -117,11 +110,6 @@ pub record FormsTyping (R : Reading) (expression_rows project_entries relations 
       (λ T. spared_below T R (a + 1)) (length queries / 4) lent_sets spared_sets q
   pub starts : start ≡ projected_before queries q
 
-pub typing_none : {R : Reading} {expression_rows project_entries relations queries reach named_rows relation_rows : List ℕ} {a : ℕ}
-    {before lent lent_sets : List ℕ}
-    → FormsTyping R expression_rows project_entries relations queries reach named_rows relation_rows a before before lent lent lent_sets lent_sets 0 0
-typing_none = record { shaped = filling_none; joined = filling_none; sparing = numbers_none; starts = refl }
-
 module _ {R : Reading} {expression_rows project_entries relations queries reach named_rows relation_rows : List ℕ} {a : ℕ}
     {before form_rows lent fault_rows lent_sets spared_sets : List ℕ} {q start : ℕ}
     (S : FormsTyping R expression_rows project_entries relations queries reach named_rows relation_rows a before form_rows lent fault_rows lent_sets
@@ -136,14 +124,8 @@ module _ {R : Reading} {expression_rows project_entries relations queries reach 
 
     -- form q has its rows and its set
     module _ (A : FormRowsReadable R expression_rows project_entries relations queries reach named_rows relation_rows a before lent lent_sets) where
-      pub typing_reach : q * 16 + 16 ≤ length reach
-      typing_reach = let m = A.reads.reaching.room in let i = in_table A.reads in omega arith
-
       typing_faults : q * 16 + 16 ≤ length fault_rows
       typing_faults = let m = A.reads.faulty.room in let s = S.joined.size in let i = in_table A.reads in omega arith
-
-      pub typing_sets : q * 16 + 16 ≤ length form_rows
-      typing_sets = let m = A.room in let s = S.shaped.size in omega arith
 
       set_room : length queries / 4 ≤ length lent_sets
       set_room = let m = A.reads.sparing.room in let e = ap (λ (t : List ℕ). length t / 4) A.reads.queries_are in omega arith

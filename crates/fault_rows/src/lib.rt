@@ -23,30 +23,11 @@ use expression_rows::Scope;
 use report::{Limits, Query, Reading};
 use sets::{AttributeSet, Row};
 
-// The configurations at which row b or row d has it, and not both.
-fn unequal_row(b: usize, d: usize, rows: &[u64]) -> Row
-    requires { (b * 16 + 16 ≤ length rows.now) × (d * 16 + 16 ≤ length rows.now) }
-    ensures { result.words ≡ unequal_row (row_in 16 rows.now b) (row_in 16 rows.now d) }
+// The configurations that one of two rows has and the other lacks.
+fn unequal_row(x: Row, y: Row) -> Row
+    ensures { result.words ≡ unequal_row x.words y.words }
 {
-    let x = Row::load(rows, b);
-    let y = Row::load(rows, d);
     x.minus(y).join(y.minus(x))
-}
-
-// The configurations that both rows b and d have.
-fn common_row(b: usize, d: usize, rows: &[u64]) -> Row
-    requires { (b * 16 + 16 ≤ length rows.now) × (d * 16 + 16 ≤ length rows.now) }
-    ensures { result.words ≡ row_intersect 16 (row_in 16 rows.now b) (row_in 16 rows.now d) }
-{
-    Row::load(rows, b).intersect(Row::load(rows, d))
-}
-
-// The configurations of a row that row b lacks.
-fn missing_row(wanted: Row, b: usize, rows: &[u64]) -> Row
-    requires { b * 16 + 16 ≤ length rows.now }
-    ensures { result.words ≡ row_minus 16 wanted.words (row_in 16 rows.now b) }
-{
-    wanted.minus(Row::load(rows, b))
 }
 
 // The configurations of `reached` at which relation r is absent, if it is item a.
@@ -56,9 +37,10 @@ fn absent_row(reached: Row, r: usize, a: usize, expression_rows: &[u64], relatio
 {
     if a == r {
         let x = relation_expression(relations, r);
-        return missing_row(reached, x, expression_rows);
+        reached.minus(Row::load(expression_rows, x))
+    } else {
+        Row::empty()
     }
-    Row::empty()
 }
 
 // The configurations at which item a is at fault in a query form: all of those in `reached`, perhaps others. `listed` is the row of the form's
@@ -78,15 +60,14 @@ fn form_faults(
         listed.words reached.words a x }
 {
     match x {
-        Query::Malformed => Row::empty(),
-        Query::Empty => Row::empty(),
+        Query::Malformed | Query::Empty | Query::Choice(_, _, _) => Row::empty(),
         Query::Relation(r) => absent_row(reached, r, a, expression_rows, relations),
-        Query::Select(f, b) => missing_row(Row::load(named_rows, f), b, form_rows),
-        Query::Project(_, b) => missing_row(listed, b, form_rows),
-        Query::Choice(_, _, _) => Row::empty(),
-        Query::Product(b, d) => common_row(b, d, form_rows),
-        Query::Union(b, d) => unequal_row(b, d, form_rows),
-        Query::Intersection(b, d) => unequal_row(b, d, form_rows),
+        Query::Select(f, b) => Row::load(named_rows, f).minus(Row::load(form_rows, b)),
+        Query::Project(_, b) => listed.minus(Row::load(form_rows, b)),
+        Query::Product(b, d) => Row::load(form_rows, b).intersect(Row::load(form_rows, d)),
+        Query::Union(b, d) | Query::Intersection(b, d) => {
+            unequal_row(Row::load(form_rows, b), Row::load(form_rows, d))
+        }
     }
 }
 
@@ -101,11 +82,7 @@ fn is_present_in(
     requires { AbsentRead expression_rows.now relations.now r }
     ensures { result ≡ present_in expression_rows.now reached.words relations.now a r }
 {
-    if a == r {
-        let x = relation_expression(relations, r);
-        return reached.meets(expression_rows, x);
-    }
-    false
+    a == r && reached.meets(expression_rows, relation_expression(relations, r))
 }
 
 // A query form asks for item a, and finds it at a configuration of `reached`, which has those that reach the form. `listed` and `form_rows` are as in
@@ -123,18 +100,18 @@ fn is_found(
     ensures { result ≡ found_step expression_rows.now relations.now form_rows.now listed.words reached.words a x }
 {
     match x {
-        Query::Malformed => false,
-        Query::Empty => false,
         Query::Relation(r) => is_present_in(reached, r, a, expression_rows, relations),
-        Query::Select(_, _) => false,
         Query::Project(_, b) => !listed
             .intersect(reached)
             .intersect(Row::load(form_rows, b))
             .is_empty(),
-        Query::Choice(_, _, _) => false,
-        Query::Product(_, _) => false,
-        Query::Union(_, _) => false,
-        Query::Intersection(_, _) => false,
+        Query::Malformed
+        | Query::Empty
+        | Query::Select(_, _)
+        | Query::Choice(_, _, _)
+        | Query::Product(_, _)
+        | Query::Union(_, _)
+        | Query::Intersection(_, _) => false,
     }
 }
 
@@ -174,7 +151,7 @@ fn fault_row(
     ensures { result.words ≡ row_intersect 16 (fault_step expression_rows.now relations.now named_rows.now
         form_rows.now listed.words reached.words a x) reached.words }
 {
-    let here = form_faults(
+    form_faults(
         x,
         listed,
         reached,
@@ -183,8 +160,8 @@ fn fault_row(
         relations,
         named_rows,
         form_rows,
-    );
-    here.intersect(reached)
+    )
+    .intersect(reached)
 }
 
 // Row q of `fault_rows` joined with `here`.
@@ -193,8 +170,7 @@ fn join_fault(here: Row, q: usize, fault_rows: &mut [u64])
     ensures { fault_rows.new ≡ with_row 16 fault_rows.old q (row_join 16 (row_in 16 fault_rows.old q)
         here.words) }
 {
-    let all = Row::load(&*fault_rows, q).join(here);
-    all.store(&mut *fault_rows, q);
+    Row::load(fault_rows, q).join(here).store(fault_rows, q);
 }
 
 // Set q of `spared_sets` with item a.
@@ -238,20 +214,20 @@ fn judge_item(
         relations,
         form_rows,
     ) {
-        spare_item(a, q, &mut *spared_sets);
-        return;
+        spare_item(a, q, spared_sets);
+    } else {
+        let here = fault_row(
+            x,
+            listed,
+            reached,
+            a,
+            expression_rows,
+            relations,
+            named_rows,
+            form_rows,
+        );
+        join_fault(here, q, fault_rows);
     }
-    let here = fault_row(
-        x,
-        listed,
-        reached,
-        a,
-        expression_rows,
-        relations,
-        named_rows,
-        form_rows,
-    );
-    join_fault(here, q, &mut *fault_rows);
 }
 
 // Types all query forms in attribute a, bottom up: judges item a in each, and fills `form_rows` with the forms' rows.
@@ -280,8 +256,7 @@ fn type_forms(
 {
     let count = queries.len() / 4;
     let mut start = 0;
-    let mut q = 0;
-    while q < count {
+    for q in 0..count {
         let x = decode_query(queries, q);
         let n = project_length(x);
         let listed = list_row(start, n, a, expression_rows, project_entries);
@@ -296,14 +271,13 @@ fn type_forms(
             expression_rows,
             relations,
             named_rows,
-            &*form_rows,
-            &mut *fault_rows,
-            &mut *spared_sets,
+            form_rows,
+            fault_rows,
+            spared_sets,
         );
-        let row = set_row(x, listed, expression_rows, relation_rows, &*form_rows);
-        row.store(&mut *form_rows, q);
+        let row = set_row(x, listed, expression_rows, relation_rows, form_rows);
+        row.store(form_rows, q);
         start += n;
-        q += 1;
     }
 }
 
@@ -316,7 +290,7 @@ fn store_column(permitted: Row, a: usize, queries: &[u16], form_rows: &[u64], co
     let last = queries.len() / 4 - 1;
     let shown = Row::load(form_rows, last);
     let column = shown.intersect(permitted);
-    column.store(&mut *columns, a);
+    column.store(columns, a);
 }
 
 // The first phase in the reading of the scope: fills `fault_rows` with the rows of the configurations at which each form fails in it, `spared_sets` with
@@ -347,8 +321,7 @@ pub fn fill_faults(
     let mut named_rows = [0; Limits::MOST_COMPARISONS * Row::WORDS];
     let mut relation_rows = [0; Limits::MOST_RELATIONS * Row::WORDS];
     let mut form_rows = [0; Limits::MOST_QUERIES * Row::WORDS];
-    let mut a = 0;
-    while a < scope.items {
+    for a in 0..scope.items {
         fill_gathered_rows(
             Gathered::Names,
             a,
@@ -376,11 +349,10 @@ pub fn fill_faults(
             &named_rows,
             &relation_rows,
             &mut form_rows,
-            &mut *fault_rows,
-            &mut *spared_sets,
+            fault_rows,
+            spared_sets,
         );
-        store_column(scope.permitted, a, queries, &form_rows, &mut *columns);
-        a += 1;
+        store_column(scope.permitted, a, queries, &form_rows, columns);
     }
 }
 
@@ -390,15 +362,15 @@ fn clash_row(x: Query, reached: Row, clash_rows: &[u64]) -> Row
     ensures { result.words ≡ clash_step clash_rows.now reached.words x }
 {
     match x {
-        Query::Malformed => Row::empty(),
-        Query::Empty => Row::empty(),
-        Query::Relation(_) => Row::empty(),
         Query::Select(f, _) => Row::load(clash_rows, f).intersect(reached),
-        Query::Project(_, _) => Row::empty(),
-        Query::Choice(_, _, _) => Row::empty(),
-        Query::Product(_, _) => Row::empty(),
-        Query::Union(_, _) => Row::empty(),
-        Query::Intersection(_, _) => Row::empty(),
+        Query::Malformed
+        | Query::Empty
+        | Query::Relation(_)
+        | Query::Project(_, _)
+        | Query::Choice(_, _, _)
+        | Query::Product(_, _)
+        | Query::Union(_, _)
+        | Query::Intersection(_, _) => Row::empty(),
     }
 }
 
@@ -406,10 +378,7 @@ fn clash_row(x: Query, reached: Row, clash_rows: &[u64]) -> Row
 fn first_found(first: Row, second: Row) -> Row
     ensures { result.words ≡ first_found first.words second.words }
 {
-    if first.is_empty() {
-        return second;
-    }
-    first
+    if first.is_empty() { second } else { first }
 }
 
 // The second phase: in `fault_rows` the row of each form that fails nowhere in the first becomes that of the configurations that reach the form and at
@@ -420,12 +389,10 @@ pub fn add_clashes(queries: &[u16], reach: &[u64], clash_rows: &[u64], fault_row
         → fault_rows.new ≡ written (concat (query_count T) (failing_row T R)) fault_rows.old }
 {
     let count = queries.len() / 4;
-    let mut q = 0;
-    while q < count {
+    for q in 0..count {
         let x = decode_query(queries, q);
         let second = clash_row(x, Row::load(reach, q), clash_rows);
-        let row = first_found(Row::load(&*fault_rows, q), second);
-        row.store(&mut *fault_rows, q);
-        q += 1;
+        let row = first_found(Row::load(fault_rows, q), second);
+        row.store(fault_rows, q);
     }
 }

@@ -53,9 +53,6 @@ module _ (w first : ℕ) where
     pub some_is : some ≡ row_of w (at_least 1 count)
     pub more_is : more ≡ row_of w (at_least 2 count)
 
-  pub passed_none : {some more : List ℕ} → some ≡ row_of w (λ c. false) → more ≡ row_of w (λ c. false) → Passed 0 some more
-  passed_none s m = record { some_is = s; more_is = m }
-
   module _ {count : ℕ} {some more : List ℕ} (P : Passed count some more) where
     pub passed_next : {on both some' more' : List ℕ} → on ≡ row_of w (λ c. bit c (first + count)) → both ≡ row_intersect w some on
         → more' ≡ row_join w more both → some' ≡ row_join w some on → Passed (count + 1) some' more'

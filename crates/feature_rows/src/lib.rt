@@ -15,12 +15,10 @@ pub fn exactly_one(first: usize, count: usize, full: Row) -> Row
 {
     let mut some = Row::empty();
     let mut more = Row::empty();
-    let mut k = 0;
-    while k < count {
+    for k in 0..count {
         let on = Row::feature(first + k);
         more = more.join(some.intersect(on));
         some = some.join(on);
-        k += 1;
     }
     full.intersect(some.minus(more))
 }

@@ -14,9 +14,7 @@ fn join_row(form: usize, reached: Row, out: &mut [u64])
     requires { form * 16 + 16 ≤ length out.old }
     ensures { out.new ≡ joined out.old reached.words (λ c x. eqb x form) }
 {
-    let old = Row::load(&*out, form);
-    let new = old.join(reached);
-    new.store(&mut *out, form);
+    Row::load(out, form).join(reached).store(out, form);
 }
 
 // Joins `reached` into row `form` of out, and into the rows of the forms below it the configurations that it passes on to them: a choice those
@@ -26,21 +24,20 @@ fn walk(form: usize, reached: Row, expression_rows: &[u64], queries: &[u16], out
     requires { WalkReady queries.now expression_rows.now reached.words out.old form }
     ensures { Walked queries.now expression_rows.now form reached.words out.old out.new }
 {
-    join_row(form, reached, &mut *out);
-    let to = query_operands(decode_query(queries, form));
-    match to {
+    join_row(form, reached, out);
+    match query_operands(decode_query(queries, form)) {
         Operands::Nothing => {}
-        Operands::One(b) => walk(b, reached, expression_rows, queries, &mut *out),
+        Operands::One(b) => walk(b, reached, expression_rows, queries, out),
         Operands::Both(a, b) => {
-            walk(a, reached, expression_rows, queries, &mut *out);
-            walk(b, reached, expression_rows, queries, &mut *out);
+            walk(a, reached, expression_rows, queries, out);
+            walk(b, reached, expression_rows, queries, out);
         }
         Operands::Choice(e, b, d) => {
             let holds = Row::load(expression_rows, e);
             let chosen = reached.intersect(holds);
             let others = reached.minus(holds);
-            walk(b, chosen, expression_rows, queries, &mut *out);
-            walk(d, others, expression_rows, queries, &mut *out);
+            walk(b, chosen, expression_rows, queries, out);
+            walk(d, others, expression_rows, queries, out);
         }
     }
 }

@@ -1,4 +1,4 @@
-use Prim.Native.Nat.{◌/◌, ◌-◌}
+use Prim.Native.Nat.{◌/◌}
 use lib.ListN.{length}
 use Rattle.expression_rows.proofs.RowsFilling.{RowsFilling}
 use Rattle.attribute_rows.specs.AttributeRows.{gathered_row, GatheredReads}
@@ -6,6 +6,3 @@ use Rattle.attribute_rows.proofs.fill_gathered_rows.Given as goal
 
 abbrev pub invariant-loop-f : goal.invariant-loop-f
 invariant-loop-f l = RowsFilling (λ T. GatheredReads T l.expression_rows l.comparisons l.kinds l.full.words) (λ T. gathered_row T l.what) l.a (length l.comparisons / 5) l.initial.rows l.rows l.f
-
-abbrev pub decreases-loop-f : goal.decreases-loop-f
-decreases-loop-f l = length l.comparisons / 5 - l.f

@@ -1,10 +1,5 @@
-use Prim.Native.Nat.{◌/◌, ◌-◌}
-use lib.ListN.{length}
 use Rattle.attribute_rows.proofs.ListedLaws.{RelationsFilling}
 use Rattle.attribute_rows.proofs.fill_relation_rows.Given as goal
 
 abbrev pub invariant-loop-r : goal.invariant-loop-r
 invariant-loop-r l = RelationsFilling l.expression_rows l.relation_entries l.relations l.a l.initial.relation_rows l.relation_rows l.r l.start
-
-abbrev pub decreases-loop-r : goal.decreases-loop-r
-decreases-loop-r l = length l.relations / 2 - l.r

@@ -1,9 +1,5 @@
-use Prim.Native.Nat.{◌-◌}
 use Rattle.attribute_rows.proofs.ListedLaws.{EntriesJoining}
 use Rattle.attribute_rows.proofs.list_row.Given as goal
 
 abbrev pub invariant-loop-i : goal.invariant-loop-i
 invariant-loop-i l = EntriesJoining l.expression_rows l.entries l.a l.start l.count l.r.words l.i
-
-abbrev pub decreases-loop-i : goal.decreases-loop-i
-decreases-loop-i l = l.count - l.i

@@ -1,10 +1,5 @@
-use Prim.Native.Nat.{◌/◌, ◌-◌}
-use lib.ListN.{length}
 use Rattle.fault_rows.proofs.ClashLaws.{ClashesAdding}
 use Rattle.fault_rows.proofs.add_clashes.Given as goal
 
 abbrev pub invariant-loop-q : goal.invariant-loop-q
 invariant-loop-q l = ClashesAdding l.queries l.reach l.clash_rows l.initial.fault_rows l.fault_rows l.q
-
-abbrev pub decreases-loop-q : goal.decreases-loop-q
-decreases-loop-q l = length l.queries / 4 - l.q

@@ -1,4 +1,3 @@
-use Prim.Native.Nat.{◌-◌}
 use Rattle.fault_rows.proofs.FailLaws.{Arrays}
 use Rattle.fault_rows.proofs.FailLaws.{Failing}
 use Rattle.fault_rows.proofs.fill_faults.Given as goal
@@ -8,6 +7,3 @@ invariant-loop-a l =
     Arrays l.named_rows l.relation_rows l.form_rows
     × Failing l.scope l.expression_rows l.relation_entries l.project_entries l.relations l.comparisons l.queries l.kinds l.reach l.initial.fault_rows l.initial.spared_sets l.initial.columns l.fault_rows
     l.spared_sets l.columns l.a
-
-abbrev pub decreases-loop-a : goal.decreases-loop-a
-decreases-loop-a l = l.scope.items - l.a

@@ -1,8 +1,4 @@
-use mathlib.Core.Path.{ap}
-use mathlib.Core.Bool.{not}
 use Rattle.fault_rows.proofs.is_found.Goals as goal
 
 pub returns-in-Project : goal.returns-in-Project
-returns-in-Project c =
-    rw c.in-Project.is
-    (ap not (rw (c.intersect-in-Project.ensures, c.load.ensures, c.intersect.ensures) at c.is_empty.ensures))
+returns-in-Project c = rw c.in-Project.is cc

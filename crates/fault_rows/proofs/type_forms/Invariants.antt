@@ -1,5 +1,3 @@
-use Prim.Native.Nat.{◌/◌, ◌-◌}
-use lib.ListN.{length}
 use Rattle.fault_rows.proofs.TypeLaws.{FormsTyping}
 use Rattle.fault_rows.proofs.type_forms.Given as goal
 
@@ -7,6 +5,3 @@ abbrev pub invariant-loop-q : goal.invariant-loop-q
 invariant-loop-q l =
     FormsTyping l.reading l.expression_rows l.project_entries l.relations l.queries l.reach l.named_rows l.relation_rows l.a l.initial.form_rows l.form_rows l.initial.fault_rows l.fault_rows
     l.initial.spared_sets l.spared_sets l.q l.start
-
-abbrev pub decreases-loop-q : goal.decreases-loop-q
-decreases-loop-q l = length l.queries / 4 - l.q
