@@ -66,7 +66,7 @@ fn write_list(
         let holds = entry_holds(c, start, i, expression_rows, entries);
         let first = holds & !kept.has(a);
         let stay = stays.has(a);
-        p = write_pair(stay & first, a, 0, &mut *out, p);
+        p = write_pair(stay & first, a, 0, out, p);
         kept = kept.with_if(a, holds);
     }
     p
@@ -133,7 +133,7 @@ pub fn write_relation_lists(
             all,
             expression_rows,
             relation_entries,
-            &mut *out,
+            out,
             p,
         );
         start += n;
@@ -160,7 +160,7 @@ pub fn write_relation_forms(
         let n = relation_length(relations, r);
         let present = is_present(c, r, expression_rows, relations);
         let kept = kept_length(c, start, n, expression_rows, relation_entries);
-        p = write_pair(present, 0, kept, &mut *out, p);
+        p = write_pair(present, 0, kept, out, p);
         start += n;
     }
     p
@@ -200,7 +200,7 @@ pub fn write_project_lists(
             stays,
             expression_rows,
             project_entries,
-            &mut *out,
+            out,
             p,
         );
         start += n;
