@@ -1,7 +1,7 @@
 // One form of each table, from its words.
 #![tactic(auto)]
 
-ghost use Rattle.std.specs.Prelude.{◌≡◌, cond, ◌+◌, ◌*◌, ◌/◌, ◌<◌, length, get_or};
+ghost use Rattle.std.specs.Prelude.{◌≡◌, ◌/◌, ◌<◌, length};
 ghost use Rattle.report.specs.Tables.{kind_in, entry_attribute, entry_expression, relation_expression, relation_length, expression_of, expression};
 ghost use Rattle.report.specs.Tables.{comparison_of, comparison, query_of, query, project_length};
 ghost use Rattle.report.specs.Operands.{comparison_operands, query_operands, comparison_sides};
@@ -12,26 +12,12 @@ ghost use Rattle.decoders.specs.Words.{IsWord};
 
 use report::{Comparison, Expression, Operands, Query, Sides};
 
-fn wide(word: u16) -> usize
-    ensures { IsWord word result }
-{
-    word as usize
-}
-
-// Word i of a table.
-fn word_in(t: &[u16], i: usize) -> usize
-    requires { i < length t.now }
-    ensures { IsWord (get_or t.now i 0) result }
-{
-    wide(t[i])
-}
-
 // The attribute of entry k.
 pub fn entry_attribute(entries: &[u16], k: usize) -> usize
     requires { k < length entries.now / 2 }
     ensures { IsWord (entry_attribute entries.now k) result }
 {
-    word_in(entries, k * 2)
+    entries[k * 2] as usize
 }
 
 // The expression of entry k.
@@ -39,7 +25,7 @@ pub fn entry_expression(entries: &[u16], k: usize) -> usize
     requires { k < length entries.now / 2 }
     ensures { IsWord (entry_expression entries.now k) result }
 {
-    word_in(entries, k * 2 + 1)
+    entries[k * 2 + 1] as usize
 }
 
 // The expression of relation k.
@@ -47,7 +33,7 @@ pub fn relation_expression(relations: &[u16], k: usize) -> usize
     requires { k < length relations.now / 2 }
     ensures { IsWord (relation_expression relations.now k) result }
 {
-    word_in(relations, k * 2)
+    relations[k * 2] as usize
 }
 
 // How many entries relation k has.
@@ -55,37 +41,28 @@ pub fn relation_length(relations: &[u16], k: usize) -> usize
     requires { k < length relations.now / 2 }
     ensures { IsWord (relation_length relations.now k) result }
 {
-    word_in(relations, k * 2 + 1)
+    relations[k * 2 + 1] as usize
 }
 
 // The kind of attribute a; 0 past the end of the kind table.
 pub fn kind_of(kinds: &[u16], a: usize) -> usize
     ensures { result ≡ kind_in kinds.now a }
 {
-    if a < kinds.len() {
-        return word_in(kinds, a);
-    }
-    0
+    kinds.get(a).map_or(0, |kind| *kind as usize)
 }
 
-fn whole_expression(whole: bool, form: Expression) -> Expression
-    ensures { result ≡ cond whole form Expression.Malformed }
-{
-    if whole { form } else { Expression::Malformed }
-}
-
-// The form of table 0 with these words.
+// The form of table 0 with these words. A word that its kind leaves unused must be 0.
 fn expression_of(kind: usize, a: usize, b: usize) -> Expression
     ensures { result ≡ expression_of kind a b }
 {
-    match kind {
-        0 => whole_expression((a == 0) & (b == 0), Expression::False),
-        1 => whole_expression((a == 0) & (b == 0), Expression::True),
-        2 => whole_expression(b == 0, Expression::Feature(a)),
-        3 => whole_expression(b == 0, Expression::Not(a)),
-        4 => Expression::And(a, b),
-        5 => Expression::Or(a, b),
-        6 => Expression::ExactlyOne(a, b),
+    match (kind, a, b) {
+        (0, 0, 0) => Expression::False,
+        (1, 0, 0) => Expression::True,
+        (2, _, 0) => Expression::Feature(a),
+        (3, _, 0) => Expression::Not(a),
+        (4, _, _) => Expression::And(a, b),
+        (5, _, _) => Expression::Or(a, b),
+        (6, _, _) => Expression::ExactlyOne(a, b),
         _ => Expression::Malformed,
     }
 }
@@ -97,34 +74,25 @@ pub fn decode_expression(expressions: &[u16], k: usize) -> Expression
 {
     let at = k * 3;
     expression_of(
-        word_in(expressions, at),
-        word_in(expressions, at + 1),
-        word_in(expressions, at + 2),
+        expressions[at] as usize,
+        expressions[at + 1] as usize,
+        expressions[at + 2] as usize,
     )
 }
 
-fn whole_comparison(whole: bool, form: Comparison) -> Comparison
-    ensures { result ≡ cond whole form Comparison.Malformed }
-{
-    if whole { form } else { Comparison::Malformed }
-}
-
-// The form of table 3 with these words, o the operator.
+// The form of table 3 with these words, o the operator. A word that its kind leaves unused must be 0.
 fn comparison_of(kind: usize, o: usize, a: usize, b: usize, c: usize) -> Comparison
     ensures { result ≡ comparison_of kind o a b c }
 {
-    match kind {
-        0 => whole_comparison((o == 0) & (a == 0) & (b == 0) & (c == 0), Comparison::Never),
-        1 => whole_comparison(
-            (o == 0) & (a == 0) & (b == 0) & (c == 0),
-            Comparison::Always,
-        ),
-        2 => Comparison::Constant(o, a, b, c),
-        3 => whole_comparison(c == 0, Comparison::Attribute(o, a, b)),
-        4 => whole_comparison((o == 0) & (b == 0) & (c == 0), Comparison::Not(a)),
-        5 => whole_comparison((o == 0) & (c == 0), Comparison::And(a, b)),
-        6 => whole_comparison((o == 0) & (c == 0), Comparison::Or(a, b)),
-        7 => whole_comparison(o == 0, Comparison::Choice(a, b, c)),
+    match (kind, o, a, b, c) {
+        (0, 0, 0, 0, 0) => Comparison::Never,
+        (1, 0, 0, 0, 0) => Comparison::Always,
+        (2, _, _, _, _) => Comparison::Constant(o, a, b, c),
+        (3, _, _, _, 0) => Comparison::Attribute(o, a, b),
+        (4, 0, _, 0, 0) => Comparison::Not(a),
+        (5, 0, _, _, 0) => Comparison::And(a, b),
+        (6, 0, _, _, 0) => Comparison::Or(a, b),
+        (7, 0, _, _, _) => Comparison::Choice(a, b, c),
         _ => Comparison::Malformed,
     }
 }
@@ -136,33 +104,27 @@ pub fn decode_comparison(comparisons: &[u16], k: usize) -> Comparison
 {
     let at = k * 5;
     comparison_of(
-        word_in(comparisons, at),
-        word_in(comparisons, at + 1),
-        word_in(comparisons, at + 2),
-        word_in(comparisons, at + 3),
-        word_in(comparisons, at + 4),
+        comparisons[at] as usize,
+        comparisons[at + 1] as usize,
+        comparisons[at + 2] as usize,
+        comparisons[at + 3] as usize,
+        comparisons[at + 4] as usize,
     )
 }
 
-fn whole_query(whole: bool, form: Query) -> Query
-    ensures { result ≡ cond whole form Query.Malformed }
-{
-    if whole { form } else { Query::Malformed }
-}
-
-// The form of table 4 with these words.
+// The form of table 4 with these words. A word that its kind leaves unused must be 0.
 fn query_of(kind: usize, a: usize, b: usize, c: usize) -> Query
     ensures { result ≡ query_of kind a b c }
 {
-    match kind {
-        0 => whole_query((a == 0) & (b == 0) & (c == 0), Query::Empty),
-        1 => whole_query((b == 0) & (c == 0), Query::Relation(a)),
-        2 => whole_query(c == 0, Query::Select(a, b)),
-        3 => whole_query(c == 0, Query::Project(a, b)),
-        4 => Query::Choice(a, b, c),
-        5 => whole_query(c == 0, Query::Product(a, b)),
-        6 => whole_query(c == 0, Query::Union(a, b)),
-        7 => whole_query(c == 0, Query::Intersection(a, b)),
+    match (kind, a, b, c) {
+        (0, 0, 0, 0) => Query::Empty,
+        (1, _, 0, 0) => Query::Relation(a),
+        (2, _, _, 0) => Query::Select(a, b),
+        (3, _, _, 0) => Query::Project(a, b),
+        (4, _, _, _) => Query::Choice(a, b, c),
+        (5, _, _, 0) => Query::Product(a, b),
+        (6, _, _, 0) => Query::Union(a, b),
+        (7, _, _, 0) => Query::Intersection(a, b),
         _ => Query::Malformed,
     }
 }
@@ -174,10 +136,10 @@ pub fn decode_query(queries: &[u16], k: usize) -> Query
 {
     let at = k * 4;
     query_of(
-        word_in(queries, at),
-        word_in(queries, at + 1),
-        word_in(queries, at + 2),
-        word_in(queries, at + 3),
+        queries[at] as usize,
+        queries[at + 1] as usize,
+        queries[at + 2] as usize,
+        queries[at + 3] as usize,
     )
 }
 
@@ -197,14 +159,13 @@ pub fn comparison_operands(x: Comparison) -> Operands
     ensures { result ≡ comparison_operands x }
 {
     match x {
-        Comparison::Malformed => Operands::Nothing,
-        Comparison::Never => Operands::Nothing,
-        Comparison::Always => Operands::Nothing,
-        Comparison::Constant(_, _, _, _) => Operands::Nothing,
-        Comparison::Attribute(_, _, _) => Operands::Nothing,
+        Comparison::Malformed
+        | Comparison::Never
+        | Comparison::Always
+        | Comparison::Constant(_, _, _, _)
+        | Comparison::Attribute(_, _, _) => Operands::Nothing,
         Comparison::Not(a) => Operands::One(a),
-        Comparison::And(a, b) => Operands::Both(a, b),
-        Comparison::Or(a, b) => Operands::Both(a, b),
+        Comparison::And(a, b) | Comparison::Or(a, b) => Operands::Both(a, b),
         Comparison::Choice(e, a, b) => Operands::Choice(e, a, b),
     }
 }
@@ -214,15 +175,12 @@ pub fn query_operands(x: Query) -> Operands
     ensures { result ≡ query_operands x }
 {
     match x {
-        Query::Malformed => Operands::Nothing,
-        Query::Empty => Operands::Nothing,
-        Query::Relation(_) => Operands::Nothing,
-        Query::Select(_, b) => Operands::One(b),
-        Query::Project(_, b) => Operands::One(b),
+        Query::Malformed | Query::Empty | Query::Relation(_) => Operands::Nothing,
+        Query::Select(_, b) | Query::Project(_, b) => Operands::One(b),
         Query::Choice(e, a, b) => Operands::Choice(e, a, b),
-        Query::Product(a, b) => Operands::Both(a, b),
-        Query::Union(a, b) => Operands::Both(a, b),
-        Query::Intersection(a, b) => Operands::Both(a, b),
+        Query::Product(a, b) | Query::Union(a, b) | Query::Intersection(a, b) => Operands::Both(
+            a, b,
+        ),
     }
 }
 
@@ -230,11 +188,15 @@ pub fn query_operands(x: Query) -> Operands
 pub fn comparison_sides(x: Comparison) -> Sides
     ensures { result ≡ comparison_sides x }
 {
-    if let Comparison::Constant(_, a, _, k) = x {
-        return Sides::Constant(a, k);
+    match x {
+        Comparison::Constant(_, a, _, k) => Sides::Constant(a, k),
+        Comparison::Attribute(_, a, b) => Sides::Attributes(a, b),
+        Comparison::Malformed
+        | Comparison::Never
+        | Comparison::Always
+        | Comparison::Not(_)
+        | Comparison::And(_, _)
+        | Comparison::Or(_, _)
+        | Comparison::Choice(_, _, _) => Sides::Neither,
     }
-    if let Comparison::Attribute(_, a, b) = x {
-        return Sides::Attributes(a, b);
-    }
-    Sides::Neither
 }

@@ -38,12 +38,6 @@ pub record AtomWritable (kind o a b k : ℕ) (out : List ℕ) (at : ℕ) : Type 
   pub third : k < 65536
   pub room : Room (kind ∷ o ∷ a ∷ b ∷ k ∷ []) out at
 
--- a and b have numbers, and there is room for them
-pub record BothWritable (numbers : List ℕ) (kind a b : ℕ) (out : List ℕ) (at : ℕ) : Type 0 where
-  pub first : a < length numbers
-  pub second : b < length numbers
-  pub room : Room (kind ∷ 0 ∷ get_or numbers a 0 ∷ get_or numbers b 0 ∷ 0 ∷ []) out at
-
 -- the operator, the attributes, the constant and its kind in a comparison are words of 16 bits
 abbrev pub ComparisonSmall : Comparison → Type 0
 ComparisonSmall Comparison.Malformed = Unit {0}
@@ -77,17 +71,6 @@ abbrev pub query_words : Tables → (c q : ℕ) → (form_sets comparison_number
 query_words T c q form_sets comparison_numbers query_numbers x =
     query_words_of (new_relation T c) (λ k. get_or comparison_numbers k 0) (λ k. get_or query_numbers k 0) (λ n. member_count (get_or form_sets q 0))
     (read_as T c Reading.Filled x)
-
--- b has a number, and there is room for it after a
-pub record OverWritable (query_numbers : List ℕ) (kind a b : ℕ) (out : List ℕ) (at : ℕ) : Type 0 where
-  pub second : b < length query_numbers
-  pub room : Room (kind ∷ a ∷ get_or query_numbers b 0 ∷ 0 ∷ []) out at
-
--- a and b have numbers, and there is room for them
-pub record QueryPairWritable (query_numbers : List ℕ) (kind a b : ℕ) (out : List ℕ) (at : ℕ) : Type 0 where
-  pub first : a < length query_numbers
-  pub second : b < length query_numbers
-  pub room : Room (kind ∷ get_or query_numbers a 0 ∷ get_or query_numbers b 0 ∷ 0 ∷ []) out at
 
 -- relation a is one of the tables', and there is room for its words
 pub record RelationWritable (expression_rows relations : List ℕ) (c a : ℕ) (out : List ℕ) (at : ℕ) : Type 0 where

@@ -13,8 +13,8 @@ ghost use Rattle.at_configuration.specs.AtConfiguration.{ComparisonReads, Compar
 ghost use Rattle.kept_forms.specs.Numbering.{comparison_forms, QueryReads, QueryNumberable};
 ghost use Rattle.kept_forms.specs.Numbering.{ComparisonFormReads, ComparisonFormWritable};
 ghost use Rattle.kept_forms.specs.Numbering.{query_forms, QueryFormReads, QueryFormWritable};
-ghost use Rattle.kept_forms.specs.FormWords.{AtomWritable, BothWritable, ComparisonWritable};
-ghost use Rattle.kept_forms.specs.FormWords.{OverWritable, QueryPairWritable, relation_words, RelationWritable, query_words, QueryWritable};
+ghost use Rattle.kept_forms.specs.FormWords.{AtomWritable, ComparisonWritable};
+ghost use Rattle.kept_forms.specs.FormWords.{relation_words, RelationWritable, query_words, QueryWritable};
 ghost use Rattle.kept_forms.specs.FormWords.{TargetReads, TargetReadable, comparison_words};
 
 use at_configuration::{holds_at, is_present, taken_at};
@@ -29,22 +29,17 @@ fn form_number(to: Operands, c: usize, kept: usize, expression_rows: &[u64], num
     ensures { (T : Tables) → TargetReads T expression_rows.now c numbers.now to
         → result ≡ target_of T c (λ k. get_or numbers.now k 0) kept to }
 {
-    let own = kept as u16;
-    if let Operands::Choice(e, a, b) = to {
-        let taken = numbers[taken_at(c, e, a, b, expression_rows)];
-        return taken;
+    match to {
+        Operands::Choice(e, a, b) => numbers[taken_at(c, e, a, b, expression_rows)],
+        Operands::Nothing | Operands::One(_) | Operands::Both(_, _) => kept as u16,
     }
-    own
 }
 
 // How many forms are kept of one that refers to these forms: of a choice, or of one that is not reached, none.
 fn kept_if(reached: bool, to: Operands) -> usize
     ensures { result ≡ cond (reached && not (is_choice to)) 1 0 }
 {
-    if let Operands::Choice(_, _, _) = to {
-        return 0;
-    }
-    if reached { 1 } else { 0 }
+    usize::from(reached && !matches!(to, Operands::Choice(_, _, _)))
 }
 
 // The new number of what each comparison leads to at c, into `numbers`: a choice has that of the alternative it takes.
@@ -60,13 +55,10 @@ pub fn number_comparisons(
 {
     let count = comparisons.len() / 5;
     let mut kept = 0;
-    let mut f = 0;
-    while f < count {
+    for f in 0..count {
         let to = comparison_operands(decode_comparison(comparisons, f));
-        let n = form_number(to, c, kept, expression_rows, &*numbers);
-        numbers[f] = n;
+        numbers[f] = form_number(to, c, kept, expression_rows, numbers);
         kept += kept_if(true, to);
-        f += 1;
     }
 }
 
@@ -84,13 +76,10 @@ pub fn number_queries(
 {
     let count = queries.len() / 4;
     let mut kept = 0;
-    let mut q = 0;
-    while q < count {
+    for q in 0..count {
         let to = query_operands(decode_query(queries, q));
-        let n = form_number(to, c, kept, expression_rows, &*numbers);
-        numbers[q] = n;
+        numbers[q] = form_number(to, c, kept, expression_rows, numbers);
         kept += kept_if(holds_at(reach, q, c), to);
-        q += 1;
     }
 }
 
@@ -123,30 +112,20 @@ fn put_atom(out: &mut [u16], at: usize, kind: u16, o: usize, a: usize, b: usize,
     put_words(out, at, &[kind, o as u16, a as u16, b as u16, k as u16])
 }
 
-// Writes a comparison of two lower ones, with their new numbers.
-fn put_both(out: &mut [u16], at: usize, kind: u16, numbers: &[u16], a: usize, b: usize) -> usize
-    requires { BothWritable numbers.now kind a b out.old at }
-    ensures { WrittenAt (kind ∷ 0 ∷ get_or numbers.now a 0 ∷ get_or numbers.now b 0 ∷ 0 ∷ []) out.old at
-        out.new result }
-{
-    put_comparison(out, at, kind, numbers[a], numbers[b])
-}
-
 // Writes a comparison that is no choice, with the new numbers of its operands.
 fn write_comparison(x: Comparison, numbers: &[u16], out: &mut [u16], at: usize) -> usize
     requires { ComparisonWritable numbers.now x out.old at }
     ensures { WrittenAt (comparison_words numbers.now x) out.old at out.new result }
 {
     match x {
-        Comparison::Malformed => at,
+        Comparison::Malformed | Comparison::Choice(_, _, _) => at,
         Comparison::Never => put_comparison(out, at, 0, 0, 0),
         Comparison::Always => put_comparison(out, at, 1, 0, 0),
         Comparison::Constant(o, a, b, k) => put_atom(out, at, 2, o, a, b, k),
         Comparison::Attribute(o, a, b) => put_atom(out, at, 3, o, a, b, 0),
         Comparison::Not(a) => put_comparison(out, at, 4, numbers[a], 0),
-        Comparison::And(a, b) => put_both(out, at, 5, numbers, a, b),
-        Comparison::Or(a, b) => put_both(out, at, 6, numbers, a, b),
-        Comparison::Choice(_, _, _) => at,
+        Comparison::And(a, b) => put_comparison(out, at, 5, numbers[a], numbers[b]),
+        Comparison::Or(a, b) => put_comparison(out, at, 6, numbers[a], numbers[b]),
     }
 }
 
@@ -158,11 +137,9 @@ pub fn write_comparisons(comparisons: &[u16], numbers: &[u16], out: &mut [u16]) 
 {
     let count = comparisons.len() / 5;
     let mut p = 0;
-    let mut f = 0;
-    while f < count {
+    for f in 0..count {
         let x = decode_comparison(comparisons, f);
-        p = write_comparison(x, numbers, &mut *out, p);
-        f += 1;
+        p = write_comparison(x, numbers, out, p);
     }
     p
 }
@@ -191,30 +168,6 @@ fn put_query(out: &mut [u16], at: usize, kind: u16, a: u16, b: u16) -> usize
     put_words(out, at, &[kind, a, b, 0])
 }
 
-// Writes a query form over a lower one, with its new number.
-fn put_over(out: &mut [u16], at: usize, kind: u16, a: u16, query_numbers: &[u16], b: usize) -> usize
-    requires { OverWritable query_numbers.now kind a b out.old at }
-    ensures { WrittenAt (kind ∷ a ∷ get_or query_numbers.now b 0 ∷ 0 ∷ []) out.old at out.new result }
-{
-    put_query(out, at, kind, a, query_numbers[b])
-}
-
-// Writes a query form over two lower ones, with their new numbers.
-fn put_pair(
-    out: &mut [u16],
-    at: usize,
-    kind: u16,
-    query_numbers: &[u16],
-    a: usize,
-    b: usize,
-) -> usize
-    requires { QueryPairWritable query_numbers.now kind a b out.old at }
-    ensures { WrittenAt (kind ∷ get_or query_numbers.now a 0 ∷ get_or query_numbers.now b 0 ∷ 0 ∷ []) out.old at
-        out.new result }
-{
-    put_over(out, at, kind, query_numbers[a], query_numbers, b)
-}
-
 // Writes a form of relation a, with its new number. Where the relation is absent at c it is an empty one.
 fn put_relation(
     out: &mut [u16],
@@ -230,9 +183,10 @@ fn put_relation(
 {
     if is_present(c, a, expression_rows, relations) {
         let number = relation_word(c, a, expression_rows, relations);
-        return put_query(out, at, 1, number, 0);
+        put_query(out, at, 1, number, 0)
+    } else {
+        put_query(out, at, 0, 0, 0)
     }
-    put_query(out, at, 0, 0, 0)
 }
 
 // Writes query form q, which is no choice, with the new numbers of what it refers to; `form_sets` has the sets of the forms.
@@ -255,15 +209,14 @@ fn write_query(
         out.old at out.new result }
 {
     match x {
-        Query::Malformed => at,
+        Query::Malformed | Query::Choice(_, _, _) => at,
         Query::Empty => put_query(out, at, 0, 0, 0),
         Query::Relation(a) => put_relation(out, at, c, a, expression_rows, relations),
-        Query::Select(a, b) => put_over(out, at, 2, comparison_numbers[a], query_numbers, b),
-        Query::Project(_, b) => put_over(out, at, 3, length_word(q, form_sets), query_numbers, b),
-        Query::Choice(_, _, _) => at,
-        Query::Product(a, b) => put_pair(out, at, 5, query_numbers, a, b),
-        Query::Union(a, b) => put_pair(out, at, 6, query_numbers, a, b),
-        Query::Intersection(a, b) => put_pair(out, at, 7, query_numbers, a, b),
+        Query::Select(a, b) => put_query(out, at, 2, comparison_numbers[a], query_numbers[b]),
+        Query::Project(_, b) => put_query(out, at, 3, length_word(q, form_sets), query_numbers[b]),
+        Query::Product(a, b) => put_query(out, at, 5, query_numbers[a], query_numbers[b]),
+        Query::Union(a, b) => put_query(out, at, 6, query_numbers[a], query_numbers[b]),
+        Query::Intersection(a, b) => put_query(out, at, 7, query_numbers[a], query_numbers[b]),
     }
 }
 
@@ -289,8 +242,7 @@ pub fn write_queries(
 {
     let count = queries.len() / 4;
     let mut p = 0;
-    let mut q = 0;
-    while q < count {
+    for q in 0..count {
         let x = decode_query(queries, q);
         if holds_at(reach, q, c) {
             p = write_query(
@@ -302,11 +254,10 @@ pub fn write_queries(
                 form_sets,
                 comparison_numbers,
                 query_numbers,
-                &mut *out,
+                out,
                 p,
             );
         }
-        q += 1;
     }
     p
 }

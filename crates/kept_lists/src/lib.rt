@@ -61,15 +61,13 @@ fn write_list(
 {
     let mut kept = AttributeSet::empty();
     let mut p = at;
-    let mut i = 0;
-    while i < count {
+    for i in 0..count {
         let a = entry_attribute(entries, start + i);
         let holds = entry_holds(c, start, i, expression_rows, entries);
         let first = holds & !kept.has(a);
         let stay = stays.has(a);
-        p = write_pair(stay & first, a, 0, &mut *out, p);
+        p = write_pair(stay & first, a, 0, out, p);
         kept = kept.with_if(a, holds);
-        i += 1;
     }
     p
 }
@@ -96,28 +94,14 @@ fn write_list_if(
     at
 }
 
-// One more than n, if the test is true.
-fn more_if(n: usize, test: bool) -> usize
-    requires { n < 65536 }
-    ensures { result ≡ n + cond test 1 0 }
-{
-    if test {
-        return n + 1;
-    }
-    n
-}
-
 // The new number of relation r: how many below it are present at c.
 pub fn new_relation(c: usize, r: usize, expression_rows: &[u64], relations: &[u16]) -> usize
     requires { PresentReadable expression_rows.now relations.now c r }
     ensures { (T : Tables) → PresentReads T expression_rows.now relations.now c → result ≡ new_relation T c r }
 {
     let mut kept = 0;
-    let mut i = 0;
-    while i < r {
-        let present = is_present(c, i, expression_rows, relations);
-        kept = more_if(kept, present);
-        i += 1;
+    for i in 0..r {
+        kept += usize::from(is_present(c, i, expression_rows, relations));
     }
     kept
 }
@@ -138,8 +122,7 @@ pub fn write_relation_lists(
     let count = relations.len() / 2;
     let mut start = 0;
     let mut p = 0;
-    let mut r = 0;
-    while r < count {
+    for r in 0..count {
         let n = relation_length(relations, r);
         let present = is_present(c, r, expression_rows, relations);
         p = write_list_if(
@@ -150,11 +133,10 @@ pub fn write_relation_lists(
             all,
             expression_rows,
             relation_entries,
-            &mut *out,
+            out,
             p,
         );
         start += n;
-        r += 1;
     }
     p
 }
@@ -174,14 +156,12 @@ pub fn write_relation_forms(
     let count = relations.len() / 2;
     let mut start = 0;
     let mut p = 0;
-    let mut r = 0;
-    while r < count {
+    for r in 0..count {
         let n = relation_length(relations, r);
         let present = is_present(c, r, expression_rows, relations);
         let kept = kept_length(c, start, n, expression_rows, relation_entries);
-        p = write_pair(present, 0, kept, &mut *out, p);
+        p = write_pair(present, 0, kept, out, p);
         start += n;
-        r += 1;
     }
     p
 }
@@ -207,8 +187,7 @@ pub fn write_project_lists(
     let count = queries.len() / 4;
     let mut start = 0;
     let mut p = at;
-    let mut q = 0;
-    while q < count {
+    for q in 0..count {
         let x = decode_query(queries, q);
         let n = project_length(x);
         let reached = holds_at(reach, q, c);
@@ -221,11 +200,10 @@ pub fn write_project_lists(
             stays,
             expression_rows,
             project_entries,
-            &mut *out,
+            out,
             p,
         );
         start += n;
-        q += 1;
     }
     p
 }

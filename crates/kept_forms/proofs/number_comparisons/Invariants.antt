@@ -1,10 +1,5 @@
-use Prim.Native.Nat.{◌/◌, ◌-◌}
-use lib.ListN.{length}
 use Rattle.kept_forms.proofs.NumberLaws.{ComparisonNumbering}
 use Rattle.kept_forms.proofs.number_comparisons.Given as goal
 
 abbrev pub invariant-loop-f : goal.invariant-loop-f
 invariant-loop-f l = ComparisonNumbering l.expression_rows l.comparisons l.c l.initial.numbers l.numbers l.kept l.f
-
-abbrev pub decreases-loop-f : goal.decreases-loop-f
-decreases-loop-f l = length l.comparisons / 5 - l.f

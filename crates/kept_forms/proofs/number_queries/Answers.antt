@@ -2,8 +2,8 @@ use Rattle.kept_forms.proofs.NumberLaws.{reach_rowed, query_to, query_counts}
 use Rattle.kept_forms.proofs.NumberLaws.{numbering_read, numbering_more}
 use Rattle.kept_forms.proofs.number_queries.Goals as goal
 
-pub form_number-n-requires : goal.form_number-n-requires
-form_number-n-requires c =
+pub form_number-requires : goal.form_number-requires
+form_number-requires c =
     let h = c.loop-q-test.true in
     let A = c.requires in
     numbering_read c.loop-q.invariant A.room h (λ T R. query_to R h c.decode_query.ensures c.query_operands-to.ensures) A.reads
@@ -16,5 +16,5 @@ pub loop-q-preserved : goal.loop-q-preserved
 loop-q-preserved c =
     let h = c.loop-q-test.true in
     numbering_more c.loop-q.invariant c.requires.room h (λ T R. query_to R h c.decode_query.ensures c.query_operands-to.ensures)
-    c.form_number-n.ensures
+    c.form_number.ensures
     (λ T R. query_counts R h c.decode_query.ensures c.query_operands-to.ensures c.holds_at.ensures c.kept_if-kept.ensures)

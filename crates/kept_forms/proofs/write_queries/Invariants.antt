@@ -1,10 +1,5 @@
-use Prim.Native.Nat.{◌/◌, ◌-◌}
-use lib.ListN.{length}
 use Rattle.kept_forms.proofs.QueryLaws.{QueryWriting}
 use Rattle.kept_forms.proofs.write_queries.Given as goal
 
 abbrev pub invariant-loop-q : goal.invariant-loop-q
 invariant-loop-q l = QueryWriting l.expression_rows l.reach l.form_sets l.relations l.queries l.c l.comparison_numbers l.query_numbers l.initial.out l.out l.q l.p
-
-abbrev pub decreases-loop-q : goal.decreases-loop-q
-decreases-loop-q l = length l.queries / 4 - l.q

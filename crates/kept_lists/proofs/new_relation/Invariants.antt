@@ -1,4 +1,3 @@
-use Prim.Native.Nat.{◌-◌}
 use Rattle.report.specs.Typing.{present}
 use Rattle.at_configuration.specs.AtConfiguration.{PresentReads}
 use Rattle.kept_lists.proofs.CountLaws.{Counting}
@@ -6,6 +5,3 @@ use Rattle.kept_lists.proofs.new_relation.Given as goal
 
 abbrev pub invariant-loop-i : goal.invariant-loop-i
 invariant-loop-i l = Counting (λ T. PresentReads T l.expression_rows l.relations l.c) (λ T. present T l.c) l.r l.kept l.i
-
-abbrev pub decreases-loop-i : goal.decreases-loop-i
-decreases-loop-i l = l.r - l.i

@@ -1,11 +1,6 @@
-use Prim.Native.Nat.{◌/◌, ◌-◌}
-use lib.ListN.{length}
 use Rattle.kept_lists.specs.Blocks.{relation_list_at}
 use Rattle.kept_lists.proofs.RelationLaws.{Relating}
 use Rattle.kept_lists.proofs.write_relation_lists.Given as goal
 
 abbrev pub invariant-loop-r : goal.invariant-loop-r
 invariant-loop-r l = Relating relation_list_at l.expression_rows l.relation_entries l.relations l.c l.initial.out l.out l.r l.start l.p
-
-abbrev pub decreases-loop-r : goal.decreases-loop-r
-decreases-loop-r l = length l.relations / 2 - l.r
