@@ -5,11 +5,12 @@ use mathlib.Core.Bool.{Bool, true, false, cond, ◌&&◌, ◌||◌, and-false, o
 use mathlib.Core.List.{List, [], ◌∷◌}
 use mathlib.Core.Logic.{◌≢◌}
 use native.Mathlib.Nat.{lt_of_lt_of_le}
-use native.Mathlib.Decide.{dec_lt, ℕ_discrete}
+use native.Mathlib.Decide.{dec_lt}
 use native.Mathlib.Omega.{arith}
 use lib.Bits.{bit_or}
 use lib.Dec.{ltb}
 use lib.ListN.{length, get_or, set, replicate, length-set, length-replicate}
+use Rattle.std.proofs.lemmas.List.{get_or_default}
 use borrow.Author.Tests.{lt-ltb, le-ltb}
 use Rattle.sets.specs.Search.{count_below}
 use Rattle.sets.specs.Lists.{kept}
@@ -26,6 +27,7 @@ use Rattle.report.specs.ColumnRows.{has_column, column_row}
 use Rattle.expression_rows.proofs.RowsFilling.{RowsFilling}
 use Rattle.report.proofs.TypingLaws.{column_wide}
 use Rattle.expression_rows.proofs.ColumnLaws.{no_row}
+use Rattle.column_rows.specs.declared.SetAt.{SetAt}
 use Rattle.column_rows.specs.GatheredSets.{permitted_at, report_set, permitted_in_all, SetsGathered, SomeGathered, ShownAnywhere}
 
 -- ---- the permitted configurations by their numbers
@@ -105,85 +107,79 @@ module _ (T : Tables) where
 
 -- ---- the loop over the permitted configurations that makes the row: those numbered below k have been gone through
 
-pub record RowMaking (a count : ℕ) (configurations sets words : List ℕ) (k : ℕ) : Type 0 where
-  pub most : k ≤ count
+pub record RowMaking (a : ℕ) (gathered : List SetAt) (words : List ℕ) (k : ℕ) : Type 0 where
   pub size : length words ≡ 16
-  pub made : (T : Tables) → SetsGathered T count configurations sets → words ≡ row_of 16 (has_below T a k)
+  pub made : (T : Tables) → SetsGathered T gathered → words ≡ row_of 16 (has_below T a k)
 
-module _ {a count : ℕ} {configurations sets : List ℕ} where
-  pub making_none : RowMaking a count configurations sets (replicate 16 0) 0
-  making_none = record { most = omega arith; size = length-replicate {A = ℕ} 16 0; made = λ T G. row_none T a }
+module _ {gathered : List SetAt} {k : ℕ} (h : k < length gathered) where
+  numbered : {T : Tables} → SetsGathered T gathered → k < permitted_in_all T
+  numbered G = subst (λ (n : ℕ). k < n) G.all h
 
-  module _ {words : List ℕ} {k : ℕ} (S : RowMaking a count configurations sets words k) where
-    module _ (h : k < count) where
-      numbered : {T : Tables} → SetsGathered T count configurations sets → k < permitted_in_all T
-      numbered G = subst (λ (n : ℕ). k < n) G.all h
+  -- the word of the configuration is there
+  pub making_place : SomeGathered gathered → (d : SetAt) → (get_or gathered k d).configuration / 64 < 16
+  making_place A d =
+      let e = (A.gathers.each k d h).permits in
+      let l = (is_permitted A.tables k (numbered A.gathers)).0 in
+      omega arith
 
-      -- configuration and set are there, and the word that is written
-      pub making_places : SomeGathered count configurations sets
-          → (k < 1024) × (k < length configurations) × (k < length sets) × (get_or configurations k 0 < 1024)
-      making_places A =
-          let G = A.gathered in
-          let c = G.permits.each k h in
-          let l = (is_permitted A.tables k (numbered G)).0 in
-          let x = G.permits.room in
-          let y = G.shown.room in
-          (lt_of_lt_of_le (numbered G) (most_permitted A.tables), omega arith, omega arith, omega arith)
+  pub making_more : {a : ℕ} {words : List ℕ} → RowMaking a gathered words k → (d : SetAt) {shown : ℕ}
+      → shown ≡ cond (bit (get_or gathered k d).set.bits a) (2 ^ ((get_or gathered k d).configuration % 64)) 0
+      → RowMaking a gathered
+      (set words ((get_or gathered k d).configuration / 64) (bit_or (get_or words ((get_or gathered k d).configuration / 64) 0) shown)) (k + 1)
+  making_more {a} {words} S d e = record {
+    size = length-set words _ _ ∙ S.size;
+    made = λ T G. let g = G.each k d h in rw (e, g.permits, g.shown, S.made T G) (row_next T a k (numbered G));
+  }
 
-      pub making_more : {s shown : ℕ} → s ≡ get_or sets k 0 → shown ≡ cond (bit s a) (2 ^ (get_or configurations k 0 % 64)) 0
-          → RowMaking a count configurations sets
-          (set words (get_or configurations k 0 / 64) (bit_or (get_or words (get_or configurations k 0 / 64) 0) shown)) (k + 1)
-      making_more r e = record {
-        most = omega arith;
-        size = length-set words _ _ ∙ S.size;
-        made = λ T G. rw (e, r, G.permits.each k h, G.shown.each k h, S.made T G) (row_next T a k (numbered G));
-      }
+module _ {a : ℕ} {gathered : List SetAt} where
+  pub making_none : RowMaking a gathered (replicate 16 0) 0
+  making_none = record { size = length-replicate {A = ℕ} 16 0; made = λ T G. row_none T a }
 
-    pub making_all : count ≤ k → (T : Tables) → SetsGathered T count configurations sets → words ≡ column_row T a
-    making_all h T G = S.made T G ∙ row_all T a k (subst (λ (n : ℕ). n ≤ k) G.all h)
+  pub making_all : {words : List ℕ} {k : ℕ} → RowMaking a gathered words k → length gathered ≤ k → (T : Tables) → SetsGathered T gathered
+      → words ≡ column_row T a
+  making_all {words} {k} S h T G = S.made T G ∙ row_all T a k (subst (λ (n : ℕ). n ≤ k) G.all h)
 
 -- ---- the attributes that any of the sets has: those of the sets below k have been looked at
 
-pub record Joining (count : ℕ) (sets : List ℕ) (shown k : ℕ) : Type 0 where
-  pub most : k ≤ count
-  pub has : (j a : ℕ) → j < k → bit (get_or sets j 0) a ≡ true → bit shown a ≡ true
+pub record Joining (gathered : List SetAt) (shown k : ℕ) : Type 0 where
+  pub has : (j a : ℕ) (d : SetAt) → j < k → bit (get_or gathered j d).set.bits a ≡ true → bit shown a ≡ true
 
-module _ {count : ℕ} {sets : List ℕ} where
-  pub joining_none : {shown : ℕ} → Joining count sets shown 0
-  joining_none = record { most = omega arith; has = λ j a h e. absurd (omega arith) }
+pub joining_more : {gathered : List SetAt} {shown k : ℕ} → Joining gathered shown k → k < length gathered → (e : SetAt) {joined : ℕ}
+    → joined ≡ bit_or shown (get_or gathered k e).set.bits → Joining gathered joined (k + 1)
+joining_more {gathered} {shown} {k} S h e {joined} is = record { has = λ j a d l t. go j a d l t (dec_lt j k) }
+  where
+    s : ℕ
+    s = (get_or gathered k e).set.bits
 
-  module _ {shown k : ℕ} (S : Joining count sets shown k) where
-    pub joining_more : k < count → {s joined : ℕ} → s ≡ get_or sets k 0 → joined ≡ bit_or shown s → Joining count sets joined (k + 1)
-    joining_more h {s} {joined} r e = record { most = omega arith; has = λ j a l t. go j a t (ℕ_discrete j k) (dec_lt j k) l }
-      where
-        either : (a : ℕ) → (bit shown a || bit s a) ≡ true → bit joined a ≡ true
-        either a t = ap (λ (x : ℕ). bit x a) e ∙ bit-or shown s a ∙ t
+    either : (a : ℕ) → (bit shown a || bit s a) ≡ true → bit joined a ≡ true
+    either a t = ap (λ (x : ℕ). bit x a) is ∙ bit-or shown s a ∙ t
 
-        go : (j a : ℕ) → bit (get_or sets j 0) a ≡ true → Dec (j ≡ k) → Dec (j < k) → j < k + 1 → bit joined a ≡ true
-        go j a t (yes d) m l =
-            either a (ap (λ (b : Bool). bit shown a || b) (ap (λ (x : ℕ). bit x a) (r ∙ ap (λ (i : ℕ). get_or sets i 0) (sym d)) ∙ t) ∙ or-true (bit shown a))
-        go j a t (no d) (yes m) l = either a (ap (λ (b : Bool). b || bit s a) (S.has j a m t))
-        go j a t (no d) (no m) l = absurd (omega arith)
-
-    pub joining_all : count ≤ k → ShownAnywhere count sets shown
-    joining_all h = record { has = λ j a l. S.has j a (omega arith) }
+    go : (j a : ℕ) (d : SetAt) → j < k + 1 → bit (get_or gathered j d).set.bits a ≡ true → Dec (j < k) → bit joined a ≡ true
+    go j a d l t (yes m) = either a (ap (λ (b : Bool). b || bit s a) (S.has j a d m t))
+    go j a d l t (no m) =
+        let i : k ≡ j = omega arith in
+        let same : get_or gathered k e ≡ get_or gathered j d = get_or_default gathered k e d h ∙ ap (λ (x : ℕ). get_or gathered x d) i in
+        either a (ap (λ (b : Bool). bit shown a || b) (ap (λ (x : SetAt). bit x.set.bits a) same ∙ t) ∙ or-true (bit shown a))
 
 -- an attribute that no set has has an empty row
-pub column_empty : {T : Tables} {count : ℕ} {configurations sets : List ℕ} {shown : ℕ} → SetsGathered T count configurations sets
-    → ShownAnywhere count sets shown → (a : ℕ) → bit shown a ≡ false → column_row T a ≡ replicate 16 0
+pub column_empty : {T : Tables} {gathered : List SetAt} {shown : ℕ} → SetsGathered T gathered
+    → ShownAnywhere gathered shown → (a : ℕ) → bit shown a ≡ false → column_row T a ≡ replicate 16 0
 unfolding permitted_in_all
-column_empty {T} {count} {configurations} {sets} {shown} G H a e =
+column_empty {T} {gathered} {shown} G H a e =
     row_of_same 16 (has_column T a) (λ c. false) (λ c l. go c l (permitted T c) refl (bit (set_of T c (report T)) a) refl) ∙ no_row
   where
+    nothing : SetAt
+    nothing = record { configuration = 0; set = record { bits = 0 } }
+
     go : (c : ℕ) → c < 1024 → (t : Bool) → permitted T c ≡ t → (b : Bool) → bit (set_of T c (report T)) a ≡ b → has_column T a c ≡ false
     go c l false p b q = ap (λ (t : Bool). t && bit (set_of T c (report T)) a) p
     go c l true p false q = ap₂ ◌&&◌ p q
     go c l true p true q =
         let k = count_below (permitted T) c in
-        let m : k < count = subst (λ (n : ℕ). k < n) (sym G.all) (count_lt (permitted T) c 1024 l p) in
-        let s : get_or sets k 0 ≡ set_of T c (report T) =
-        G.shown.each k m ∙ ap (λ (d : ℕ). set_of T d (report T)) (permitted_at_lem T c l p) in
-        absurd (false≢true (sym e ∙ H.has k a m (ap (λ (x : ℕ). bit x a) s ∙ q)))
+        let m : k < length gathered = subst (λ (n : ℕ). k < n) (sym G.all) (count_lt (permitted T) c 1024 l p) in
+        let s : (get_or gathered k nothing).set.bits ≡ set_of T c (report T) =
+        (G.each k nothing m).shown ∙ ap (λ (d : ℕ). set_of T d (report T)) (permitted_at_lem T c l p) in
+        absurd (false≢true (sym e ∙ H.has k a nothing m (ap (λ (x : ℕ). bit x a) s ∙ q)))
 
 -- ---- the loop over the attributes that stores their rows: one more
 

@@ -1,7 +1,7 @@
 // The column rows, made of the report's sets at the permitted configurations, one configuration after another.
 #![tactic(auto)]
 
-ghost use Rattle.std.specs.Prelude.{◌≡◌, cond, ◌%◌, ◌^◌, ◌<◌, ◌≤◌, length};
+ghost use Rattle.std.specs.Prelude.{◌≡◌, cond, ◌%◌, ◌^◌, ◌<◌};
 ghost use Rattle.sets.specs.Bits.{bit};
 ghost use Rattle.sets.specs.Lists.{concat};
 ghost use Rattle.sets.specs.Rows.{with_row};
@@ -11,6 +11,13 @@ ghost use Rattle.report.specs.ColumnRows.{column_row};
 ghost use Rattle.column_rows.specs.GatheredSets.{SetsGathered, SomeGathered, ShownAnywhere, ColumnFillable, ColumnsFillable};
 
 use sets::{AttributeSet, Row};
+
+// A permitted configuration, and the report's set there.
+#[derive(Clone, Copy)]
+pub struct SetAt {
+    pub configuration: u16,
+    pub set: AttributeSet,
+}
 
 // The bit of configuration c in its word of the row of attribute a, if the set at c has a; else 0.
 fn shown_bit(s: AttributeSet, a: usize, c: usize) -> u64
@@ -25,71 +32,49 @@ fn shown_bit(s: AttributeSet, a: usize, c: usize) -> u64
 
 // The column row of attribute a, from the report's sets at the permitted configurations. It is made in words of its own: a row by value would be copied at
 // each configuration.
-fn column_row(a: usize, count: usize, configurations: &[u16], sets: &[u64]) -> Row
-    requires { (a < 64) × SomeGathered count configurations.now sets.now }
-    ensures { (T : Tables) → SetsGathered T count configurations.now sets.now → result.words ≡ column_row T a }
+fn column_row(a: usize, gathered: &[SetAt]) -> Row
+    requires { (a < 64) × SomeGathered gathered.now }
+    ensures { (T : Tables) → SetsGathered T gathered.now → result.words ≡ column_row T a }
 {
     let mut words = [0; Row::WORDS];
-    let mut k = 0;
-    while k < count {
-        let c = configurations[k] as usize;
+    for set_at in gathered {
+        let c = set_at.configuration as usize;
         let w = c / 64;
-        words[w] = words[w] | shown_bit(AttributeSet::of_bits(sets[k]), a, c);
-        k += 1;
+        words[w] |= shown_bit(set_at.set, a, c);
     }
     Row { words: words }
 }
 
 // The attributes that any of the sets has.
-fn shown_anywhere(count: usize, sets: &[u64]) -> AttributeSet
-    requires { count ≤ length sets.now }
-    ensures { ShownAnywhere count sets.now result.bits }
+fn shown_anywhere(gathered: &[SetAt]) -> AttributeSet
+    ensures { ShownAnywhere gathered.now result.bits }
 {
     let mut shown = AttributeSet::empty();
-    let mut k = 0;
-    while k < count {
-        shown = shown.union(AttributeSet::of_bits(sets[k]));
-        k += 1;
+    for set_at in gathered {
+        shown = shown.union(set_at.set);
     }
     shown
 }
 
 // Stores the column row of attribute a. It is empty as it is, and stays so where no set has a.
-fn store_column(
-    a: usize,
-    shown: AttributeSet,
-    count: usize,
-    configurations: &[u16],
-    sets: &[u64],
-    columns: &mut [u64],
-)
-    requires { ColumnFillable a shown.bits count configurations.now sets.now columns.old }
-    ensures { (T : Tables) → SetsGathered T count configurations.now sets.now
-        → columns.new ≡ with_row 16 columns.old a (column_row T a) }
+fn store_column(a: usize, shown: AttributeSet, gathered: &[SetAt], columns: &mut [u64])
+    requires { ColumnFillable a shown.bits gathered.now columns.old }
+    ensures { (T : Tables) → SetsGathered T gathered.now → columns.new ≡ with_row 16 columns.old a (column_row T a) }
 {
     if !shown.has(a) {
         return;
     }
-    let row = column_row(a, count, configurations, sets);
+    let row = column_row(a, gathered);
     row.store(&mut *columns, a);
 }
 
 // Stores the column rows of the attributes below `items`.
-pub fn store_columns(
-    items: usize,
-    count: usize,
-    configurations: &[u16],
-    sets: &[u64],
-    columns: &mut [u64],
-)
-    requires { ColumnsFillable items count configurations.now sets.now columns.old }
-    ensures { (T : Tables) → SetsGathered T count configurations.now sets.now
-        → columns.new ≡ written (concat items (column_row T)) columns.old }
+pub fn store_columns(items: usize, gathered: &[SetAt], columns: &mut [u64])
+    requires { ColumnsFillable items gathered.now columns.old }
+    ensures { (T : Tables) → SetsGathered T gathered.now → columns.new ≡ written (concat items (column_row T)) columns.old }
 {
-    let shown = shown_anywhere(count, sets);
-    let mut a = 0;
-    while a < items {
-        store_column(a, shown, count, configurations, sets, &mut *columns);
-        a += 1;
+    let shown = shown_anywhere(gathered);
+    for a in 0..items {
+        store_column(a, shown, gathered, &mut *columns);
     }
 }

@@ -28,13 +28,11 @@ fn lowest_row(count: usize, rows: &[u64]) -> Option<usize>
     requires { count * 16 ≤ length rows.now }
     ensures { result ≡ lowest (rowed rows.now) count }
 {
-    let mut q = 0;
-    while q < count {
+    for q in 0..count {
         let row = Row::load(rows, q);
         if !row.is_empty() {
             return Some(q);
         }
-        q += 1;
     }
     None
 }

@@ -7,13 +7,16 @@ use mathlib.Core.List.{List}
 use native.Mathlib.Nat.{le_refl, lt_of_lt_of_le}
 use native.Mathlib.Numerals.{add-one}
 use native.Mathlib.Omega.{arith}
-use lib.ListN.{length, set, replicate, length-replicate}
+use native.Mathlib.Decide.{ℕ_discrete}
+use lib.ListN.{length, get_or, take, set, replicate, length-set, length-replicate}
+use Rattle.std.proofs.lemmas.List.{get_or-take, get_or-set_same, get_or-set_other}
 use lib.Pow.{pow_mono}
+use lib.Seq.{length-take-le}
 use Rattle.sets.specs.Search.{count_below}
 use Rattle.sets.specs.Lists.{concat, table, NumbersAre}
 use Rattle.sets.specs.Rows.{row_of, row_bit, row_count, row_lowest_from}
 use Rattle.sets.proofs.SearchLaws.{Least, count_same, count_yes, count_none, count_lt}
-use Rattle.sets.proofs.ListLaws.{numbers_are, NumbersFilling, filling_none, filling_below, filling_more}
+use Rattle.sets.proofs.ListLaws.{numbers_are}
 use Rattle.sets.proofs.RowLaws.{row_bit-row_of, row_in_zeros}
 use Rattle.report.specs.Tables.{Tables, query_count, report}
 use Rattle.report.specs.ColumnRows.{column_row}
@@ -34,7 +37,8 @@ use Rattle.sparing.specs.Sparing.{SparingReads, SparingReadable}
 use Rattle.typing_at.specs.declared.Here.{Here}
 use Rattle.typing_at.specs.TypingAt.{HereReads, HereChecked, SetsLent, HereFillable}
 use Rattle.typing_at.proofs.HereLaws.{sets_enough}
-use Rattle.column_rows.specs.GatheredSets.{permitted_at, report_set, permitted_in_all, SetsGathered, ColumnsFillable}
+use Rattle.column_rows.specs.declared.SetAt.{SetAt}
+use Rattle.column_rows.specs.GatheredSets.{permitted_at, permitted_in_all, IsSetAt, SetsGathered, ColumnsFillable}
 use Rattle.column_rows.proofs.ColumnLaws.{permitted_at_lem}
 use Rattle.typing_each.specs.TypingEach.{typing_below, EachReadable, EachFillable, SizeReadable}
 use Rattle.typing_each.proofs.EachLaws.{each_typing, below_skips, below_more}
@@ -114,33 +118,34 @@ module _ {scope : Scope} {expression_rows relation_entries project_entries relat
 
 -- ---- the loop
 
--- the configurations below `from` were gone through: `numbers` starts with the `count` of them that are permitted, and `sets` with the report's sets there
+-- the configurations below `from` were gone through: `gathered` starts with the `count` of them that are permitted, with the report's set at each
 pub record EachPassed (scope : Scope) (expression_rows relation_entries project_entries relations comparisons queries kinds reach : List ℕ)
-    (numbers sets : List ℕ) (count : ℕ) (answer : Verdict) (from : ℕ) : Type 0 where
+    (gathered : List SetAt) (count : ℕ) (answer : Verdict) (from : ℕ) : Type 0 where
   pub most : from ≤ 1024
+  pub size : length gathered ≡ 64
+  pub room : count ≤ 64
   pub within : (T : Tables) → TypingReads T scope expression_rows relation_entries project_entries relations comparisons queries kinds reach
       → from ≤ configurations T
   pub told : (T : Tables) → TypingReads T scope expression_rows relation_entries project_entries relations comparisons queries kinds reach
       → answer ≡ typing_below T scope.reading from
   pub counted : (T : Tables) → TypingReads T scope expression_rows relation_entries project_entries relations comparisons queries kinds reach
       → count ≡ count_below (permitted T) from
-  pub permits : NumbersFilling (λ T. TypingReads T scope expression_rows relation_entries project_entries relations comparisons queries kinds reach)
-      permitted_at 64 (replicate 64 0) numbers count
-  pub shown : NumbersFilling (λ T. TypingReads T scope expression_rows relation_entries project_entries relations comparisons queries kinds reach)
-      report_set 64 (replicate 64 0) sets count
+  pub each : (T : Tables) → TypingReads T scope expression_rows relation_entries project_entries relations comparisons queries kinds reach
+      → (k : ℕ) (d : SetAt) → k < count → IsSetAt T k (get_or gathered k d)
 
 module _ {scope : Scope} {expression_rows relation_entries project_entries relations comparisons queries kinds reach lent : List ℕ}
     (A : EachReadable scope expression_rows relation_entries project_entries relations comparisons queries kinds reach lent) where
-  pub each_none : EachPassed scope expression_rows relation_entries project_entries relations comparisons queries kinds reach (replicate 64 0)
-      (replicate 64 0) 0 (Ok tt) 0
+  pub each_none : (x : SetAt) → EachPassed scope expression_rows relation_entries project_entries relations comparisons queries kinds reach (replicate 64 x)
+      0 (Ok tt) 0
   unfolding typing_below
-  each_none = record {
+  each_none x = record {
     most = omega arith;
+    size = length-replicate {A = SetAt} 64 x;
+    room = omega arith;
     within = λ T R. omega arith;
     told = λ T R. refl;
     counted = λ T R. refl;
-    permits = filling_none;
-    shown = filling_none;
+    each = λ T R k d h. absurd (omega arith);
   }
 
   -- all that are permitted
@@ -151,8 +156,8 @@ module _ {scope : Scope} {expression_rows relation_entries project_entries relat
       (ap (row_count 16) R.scoped.permitting ∙ count_same (row_bit (row_of 16 (permitted T))) (permitted T) 1024 (row_bit-row_of 16 (permitted T)))
       A.few
 
-  module _ {numbers sets : List ℕ} {count : ℕ} {answer : Verdict} {from : ℕ}
-      (S : EachPassed scope expression_rows relation_entries project_entries relations comparisons queries kinds reach numbers sets count answer from)
+  module _ {gathered : List SetAt} {count : ℕ} {answer : Verdict} {from : ℕ}
+      (S : EachPassed scope expression_rows relation_entries project_entries relations comparisons queries kinds reach gathered count answer from)
       {next : Option ℕ} (found : next ≡ row_lowest_from 16 scope.permitted.words from) where
     -- none is left
     module _ (e : next ≡ None) where
@@ -160,29 +165,30 @@ module _ {scope : Scope} {expression_rows relation_entries project_entries relat
           → (d : ℕ) → from ≤ d → d < 1024 → permitted T d ≡ false
       none R = none_permitted R.scoped from found e
 
-      gathered : {T : Tables} → TypingReads T scope expression_rows relation_entries project_entries relations comparisons queries kinds reach
-          → SetsGathered T count numbers sets
+      gathers : {T : Tables} → TypingReads T scope expression_rows relation_entries project_entries relations comparisons queries kinds reach
+          → SetsGathered T (take count gathered)
       unfolding permitted_in_all
-      gathered {T} R = record {
-        all = S.counted T R ∙ sym (count_none (permitted T) from 1024 S.most (none R));
-        permits = filling_below S.permits R;
-        shown = filling_below S.shown R;
-      }
+      gathers {T} R =
+          let front : length (take count gathered) ≡ count = length-take-le count gathered (rw S.size S.room) in
+          record {
+            all = front ∙ S.counted T R ∙ sym (count_none (permitted T) from 1024 S.most (none R));
+            each = λ k d h. let l : k < count = rw front at h in rw get_or-take (S.each T R k d l);
+          }
 
-      pub each_columns : ColumnsFillable scope.items count numbers sets lent
+      pub each_columns : ColumnsFillable scope.items (take count gathered) lent
       each_columns =
           let R = A.readable.reads in
           let l = ap length A.readable.clear in
           let m = R.scoped.bounded.most in
           record {
-            some = record { tables = A.readable.tables; gathered = gathered R };
+            some = record { tables = A.readable.tables; gathers = gathers R };
             most = m;
             room = omega (arith, length-replicate {A = ℕ} 1024 0);
             clear = λ a h. rw A.readable.clear (row_in_zeros 16 1024 a (omega arith));
           }
 
       pub each_all : {columns : List ℕ}
-          → ((T : Tables) → SetsGathered T count numbers sets → columns ≡ written (concat scope.items (column_row T)) lent)
+          → ((T : Tables) → SetsGathered T (take count gathered) → columns ≡ written (concat scope.items (column_row T)) lent)
           → (T : Tables) → TypingReads T scope expression_rows relation_entries project_entries relations comparisons queries kinds reach
           → Checked T scope.reading answer columns
       each_all stored T R =
@@ -192,7 +198,7 @@ module _ {scope : Scope} {expression_rows relation_entries project_entries relat
                 ∙ each_typing T scope.reading (configurations T) (le_refl (configurations T));
             shows =
                 columns_shown R.report.prepared.formed R.scoped.bounded
-                (stored T (gathered R) ∙ ap (written (concat scope.items (column_row T))) A.readable.clear);
+                (stored T (gathers R) ∙ ap (written (concat scope.items (column_row T))) A.readable.clear);
           }
 
     -- c is the next
@@ -244,12 +250,13 @@ module _ {scope : Scope} {expression_rows relation_entries project_entries relat
               → ((T : Tables) (R : Reading)
               → HereReads T R c expression_rows relation_entries project_entries relations comparisons queries kinds reach spares → HereChecked T R c here)
               → after ≡ sooner answer here.verdict
-              → EachPassed scope expression_rows relation_entries project_entries relations comparisons queries kinds reach (set numbers count c)
-              (set sets count here.set.bits) (count + 1) after (c + 1)
-          each_more checked told =
-              let z = length-replicate {A = ℕ} 64 0 in
+              → EachPassed scope expression_rows relation_entries project_entries relations comparisons queries kinds reach
+              (set gathered count (record { configuration = c; set = here.set })) (count + 1) after (c + 1)
+          each_more {here} checked told =
               record {
                 most = let l = each_between.1 in omega arith;
+                size = length-set gathered count y ∙ S.size;
+                room = let l = each_room in omega arith;
                 within = λ T R. let l = permitted_within T c (least R).holds in omega arith;
                 told = λ T R.
                     let L = least R in
@@ -258,8 +265,16 @@ module _ {scope : Scope} {expression_rows relation_entries project_entries relat
                 counted = λ T R.
                     add-one count ∙ ap suc (ranked R) ∙ sym (count_yes (permitted T) c (least R).holds)
                     ∙ ap (count_below (permitted T)) (sym (add-one c));
-                permits = filling_more S.permits (omega arith) each_room (λ T R. sym (numbered R));
-                shown =
-                    filling_more S.shown (omega arith) each_room
-                    (λ T R. (checked T scope.reading (here_reads R)).shows ∙ ap (λ (d : ℕ). set_of T d (report T)) (sym (numbered R)));
+                each = λ T R k d h. gathered_more R (checked T scope.reading (here_reads R)).shows k d h (ℕ_discrete k count);
               }
+            where
+              y : SetAt
+              y = record { configuration = c; set = here.set }
+
+              gathered_more : {T : Tables} → TypingReads T scope expression_rows relation_entries project_entries relations comparisons queries kinds reach
+                  → here.set.bits ≡ set_of T c (report T) → (k : ℕ) (d : SetAt) → k < count + 1 → Dec (k ≡ count)
+                  → IsSetAt T k (get_or (set gathered count y) k d)
+              gathered_more {T} R e k d h (yes i) =
+                  rw (i, get_or-set_same gathered count y d (omega (arith, S.size, each_room)))
+                  (record { permits = sym (numbered R); shown = e ∙ ap (λ (d : ℕ). set_of T d (report T)) (sym (numbered R)) })
+              gathered_more {T} R e k d h (no n) = rw (get_or-set_other gathered count k y d n) (S.each T R k d (omega (arith, n)))

@@ -2,13 +2,15 @@
 // given, then of its first phase, then of the lowest configuration.
 #![tactic(auto)]
 
+ghost use Rattle.std.specs.Prelude.{◌≤◌};
 ghost use Rattle.report.specs.Tables.{Tables};
 ghost use Rattle.expression_rows.specs.TypingReads.{TypingReads, Checked};
 ghost use Rattle.typing_each.specs.TypingEach.{EachReadable, EachFillable, SizeReadable};
 
-use column_rows::store_columns;
+use column_rows::{SetAt, store_columns};
 use expression_rows::Scope;
 use report::{Limits, Verdict};
+use sets::AttributeSet;
 use sparing::fill_spared;
 use typing_at::fill_here;
 use verdicts::sooner_of;
@@ -44,8 +46,10 @@ fn check_with(
         → Checked T scope.reading result columns.new }
 {
     let permitted = scope.permitted;
-    let mut configurations = [0; FEW];
-    let mut sets = [0; FEW];
+    let mut gathered = [SetAt {
+        configuration: 0,
+        set: AttributeSet::empty(),
+    }; FEW];
     let mut count = 0;
     let mut answer = Ok(());
     let mut from = 0;
@@ -65,20 +69,20 @@ fn check_with(
             &mut *clash_sets,
             &mut *form_sets,
         );
-        configurations[count] = c as u16;
-        let set = here.set;
-        sets[count] = set.bits;
+        gathered[count] = SetAt {
+            configuration: c as u16,
+            set: here.set,
+        };
         count += 1;
-        let verdict = here.verdict;
-        answer = sooner_of(answer, verdict);
+        answer = sooner_of(answer, here.verdict);
         from = c + 1;
     }
-    store_columns(scope.items, count, &configurations, &sets, columns);
+    store_columns(scope.items, &gathered[..count], columns);
     answer
 }
 
-// The same with words of its own, and with what is spared worked out first, of small tables.
-fn check_small(
+// The same with words of its own, and with what is spared worked out first, of tables with at most FORMS comparisons and query forms.
+fn check_sized<const FORMS: usize>(
     scope: Scope,
     expression_rows: &[u64],
     relation_entries: &[u16],
@@ -90,14 +94,14 @@ fn check_small(
     reach: &[u64],
     columns: &mut [u64],
 ) -> Verdict
-    requires { SizeReadable 16 scope expression_rows.now relation_entries.now project_entries.now relations.now comparisons.now
-        queries.now kinds.now reach.now columns.old }
+    requires { (FORMS ≤ 256) × SizeReadable FORMS scope expression_rows.now relation_entries.now project_entries.now relations.now
+        comparisons.now queries.now kinds.now reach.now columns.old }
     ensures { (T : Tables)
         → TypingReads T scope expression_rows.now relation_entries.now project_entries.now
         relations.now comparisons.now queries.now kinds.now reach.now
         → Checked T scope.reading result columns.new }
 {
-    let mut spared_sets = [0; Limits::SMALL];
+    let mut spared_sets = [0; FORMS];
     fill_spared(
         scope,
         expression_rows,
@@ -108,61 +112,9 @@ fn check_small(
         reach,
         &mut spared_sets,
     );
-    let mut named_sets = [0; Limits::SMALL];
-    let mut clash_sets = [0; Limits::SMALL];
-    let mut form_sets = [0; Limits::SMALL];
-    check_with(
-        scope,
-        expression_rows,
-        relation_entries,
-        project_entries,
-        relations,
-        comparisons,
-        queries,
-        kinds,
-        reach,
-        &spared_sets,
-        columns,
-        &mut named_sets,
-        &mut clash_sets,
-        &mut form_sets,
-    )
-}
-
-// The same of tables of any size.
-fn check_large(
-    scope: Scope,
-    expression_rows: &[u64],
-    relation_entries: &[u16],
-    project_entries: &[u16],
-    relations: &[u16],
-    comparisons: &[u16],
-    queries: &[u16],
-    kinds: &[u16],
-    reach: &[u64],
-    columns: &mut [u64],
-) -> Verdict
-    requires { SizeReadable 256 scope expression_rows.now relation_entries.now project_entries.now relations.now comparisons.now
-        queries.now kinds.now reach.now columns.old }
-    ensures { (T : Tables)
-        → TypingReads T scope expression_rows.now relation_entries.now project_entries.now
-        relations.now comparisons.now queries.now kinds.now reach.now
-        → Checked T scope.reading result columns.new }
-{
-    let mut spared_sets = [0; Limits::MOST_QUERIES];
-    fill_spared(
-        scope,
-        expression_rows,
-        relation_entries,
-        project_entries,
-        relations,
-        queries,
-        reach,
-        &mut spared_sets,
-    );
-    let mut named_sets = [0; Limits::MOST_COMPARISONS];
-    let mut clash_sets = [0; Limits::MOST_COMPARISONS];
-    let mut form_sets = [0; Limits::MOST_QUERIES];
+    let mut named_sets = [0; FORMS];
+    let mut clash_sets = [0; FORMS];
+    let mut form_sets = [0; FORMS];
     check_with(
         scope,
         expression_rows,
@@ -202,7 +154,7 @@ pub fn check_each(
         → Checked T scope.reading result columns.new }
 {
     if comparisons.len() / 5 <= Limits::SMALL && queries.len() / 4 <= Limits::SMALL {
-        return check_small(
+        return check_sized::<{ Limits::SMALL }>(
             scope,
             expression_rows,
             relation_entries,
@@ -215,7 +167,7 @@ pub fn check_each(
             columns,
         );
     }
-    check_large(
+    check_sized::<{ Limits::MOST_QUERIES }>(
         scope,
         expression_rows,
         relation_entries,

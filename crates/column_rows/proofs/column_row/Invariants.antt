@@ -1,10 +1,6 @@
--- Configuration by configuration: the row has those numbered below k at which the report's set has a.
-use Prim.Native.Nat.{◌-◌}
+-- Configuration by configuration: the row has those numbered below the next at which the report's set has a.
 use Rattle.column_rows.proofs.ColumnLaws.{RowMaking}
 use Rattle.column_rows.proofs.column_row.Given as goal
 
-abbrev pub invariant-loop-k : goal.invariant-loop-k
-invariant-loop-k l = RowMaking l.a l.count l.configurations l.sets l.words l.k
-
-abbrev pub decreases-loop-k : goal.decreases-loop-k
-decreases-loop-k l = l.count - l.k
+abbrev pub invariant-loop-set_at : goal.invariant-loop-set_at
+invariant-loop-set_at l = RowMaking l.a l.gathered l.words l.set_at-index

@@ -18,7 +18,7 @@ store_column-requires c =
       shows = c.shown_anywhere-shown.ensures;
       most = omega arith;
       room = omega arith;
-      clear = filling_rest (λ T x. column_wide T) c.loop-a.invariant p.some.tables p.some.gathered c.loop-a.a (le_refl c.loop-a.a) ∙ p.clear c.loop-a.a h;
+      clear = filling_rest (λ T x. column_wide T) c.loop-a.invariant p.some.tables p.some.gathers c.loop-a.a (le_refl c.loop-a.a) ∙ p.clear c.loop-a.a h;
     }
 
 pub loop-a-preserved : goal.loop-a-preserved

@@ -15,38 +15,35 @@ module _ {from c : ℕ} (between : (from ≤ c) × (c < 1024)) where
   falls = omega arith
 
 pub loop-c-init : goal.loop-c-init
-loop-c-init c = (kept_none, each_none c.requires.each)
+loop-c-init c = (kept_none, each_none c.requires.each _)
 
 pub fill_here-here-requires : goal.fill_here-here-requires
 fill_here-here-requires c =
-    each_here c.requires.each c.loop-c.invariant.1 c.lowest_from-next.ensures c.in-At.is c.requires.sparing ((kept_lent c.loop-c.invariant.0 c.requires.lent))
+    each_here c.requires.each c.loop-c.invariant.1 c.lowest_from.ensures c.in-Some.is c.requires.sparing ((kept_lent c.loop-c.invariant.0 c.requires.lent))
 
-pub overflow_cast-configurations : goal.overflow_cast-configurations
-overflow_cast-configurations c = narrow (each_between c.requires.each c.loop-c.invariant.1 c.lowest_from-next.ensures c.in-At.is)
+pub overflow_cast-gathered : goal.overflow_cast-gathered
+overflow_cast-gathered c = narrow (each_between c.requires.each c.loop-c.invariant.1 c.lowest_from.ensures c.in-Some.is)
 
-pub bounds-configurations-count : goal.bounds-configurations-count
-bounds-configurations-count c = (each_room c.requires.each c.loop-c.invariant.1 c.lowest_from-next.ensures c.in-At.is)
-
-pub bounds-sets-count : goal.bounds-sets-count
-bounds-sets-count c = (each_room c.requires.each c.loop-c.invariant.1 c.lowest_from-next.ensures c.in-At.is)
+pub bounds-gathered-count : goal.bounds-gathered-count
+bounds-gathered-count c = (each_room c.requires.each c.loop-c.invariant.1 c.lowest_from.ensures c.in-Some.is)
 
 pub overflow_add-from : goal.overflow_add-from
-overflow_add-from c = next_fits (each_between c.requires.each c.loop-c.invariant.1 c.lowest_from-next.ensures c.in-At.is)
+overflow_add-from c = next_fits (each_between c.requires.each c.loop-c.invariant.1 c.lowest_from.ensures c.in-Some.is)
 
 pub loop-c-smaller : goal.loop-c-smaller
-loop-c-smaller c = falls (each_between c.requires.each c.loop-c.invariant.1 c.lowest_from-next.ensures c.in-At.is)
+loop-c-smaller c = falls (each_between c.requires.each c.loop-c.invariant.1 c.lowest_from.ensures c.in-Some.is)
 
 pub loop-c-preserved : goal.loop-c-preserved
 loop-c-preserved c = (
   kept_more c.loop-c.invariant.0 c.fill_here-here.auto.named_sets c.fill_here-here.auto.clash_sets c.fill_here-here.auto.form_sets,
-  each_more c.requires.each c.loop-c.invariant.1 c.lowest_from-next.ensures c.in-At.is c.requires.sparing
+  each_more c.requires.each c.loop-c.invariant.1 c.lowest_from.ensures c.in-Some.is c.requires.sparing
       (λ T R H. (c.fill_here-here.ensures T R H).checked) c.sooner_of-answer.ensures,
 )
 
 pub store_columns-requires : goal.store_columns-requires
 store_columns-requires c =
-    each_columns c.requires.each c.loop-c.invariant.1 c.lowest_from-next.ensures c.in_default.is
+    each_columns c.requires.each c.loop-c.invariant.1 c.lowest_from.ensures c.in_default.is
 
 pub returns : goal.returns
 returns c =
-    each_all c.requires.each c.loop-c.invariant.1 c.lowest_from-next.ensures c.in_default.is c.store_columns.ensures
+    each_all c.requires.each c.loop-c.invariant.1 c.lowest_from.ensures c.in_default.is c.store_columns.ensures
