@@ -60,9 +60,6 @@ module _ (n : Counts) (entries : List ℕ) (split : ℕ) (queries : List ℕ) (r
             let y = ready.fits in
             fits_below n entries 0 queries q (length marks) (omega arith) x (sym test_is ∙ not-false t u)
 
-        pub walked_below : {to : Operands} → to ≡ query_operands x → OperandsBelow (length marks) to
-        walked_below p = rw p below
-
         pub walked_inside : {l : ℕ} → l ≡ project_length x → end + l ≤ length entries / 2
         walked_inside p =
             let i = fits_inside n entries 0 queries q (rw s.ends at s.inside) x (sym test_is ∙ not-false t u) in
