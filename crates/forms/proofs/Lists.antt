@@ -16,15 +16,6 @@ use Rattle.table_checks.proofs.FormLoops.{FormsPassed, passed_none, passed_more}
 
 -- ---- one list
 
--- it lies in table 1 where there is room for it after its start
-pub list_room : (entries : List ℕ) (start count : ℕ) → start ≤ length entries / 2
-    → leb count (length entries / 2 - start) ≡ list_fits entries start count
-list_room entries start count h = go (leb count (length entries / 2 - start)) refl
-  where
-    go : (t : Bool) → leb count (length entries / 2 - start) ≡ t → t ≡ list_fits entries start count
-    go true e = let l = leb-true count (length entries / 2 - start) e in sym (le-leb (start + count) (length entries / 2) (omega arith))
-    go false e = let l = leb-false count (length entries / 2 - start) e in sym (lt-leb (start + count) (length entries / 2) (omega arith))
-
 -- ---- the relations
 
 -- the first r relations fit, and their lists end at `start`
@@ -38,9 +29,6 @@ pub next_start : (relations : List ℕ) (r : ℕ) {start n : ℕ} → start ≡ 
 next_start relations r e f = ap₂ ◌+◌ e f ∙ ap (relation_start relations) (sym (add-one r))
 
 module _ (e : ℕ) (entries relations : List ℕ) where
-  pub related_none : RelationsPassed e entries relations 0 0
-  related_none = record { passed = passed_none _ _; ends = refl; inside = omega arith }
-
   -- relation r, of expression x and n entries; t is whether its list fits
   module _ {start r x n : ℕ} {t : Bool} (s : RelationsPassed e entries relations start r) (f : x ≡ relation_expression relations r)
       (g : n ≡ relation_length relations r) (l : t ≡ list_fits entries start n)
@@ -62,9 +50,6 @@ pub record Summed (relations : List ℕ) (end r : ℕ) : Type 0 where
   pub small : end ≤ 65536 * r
 
 module _ (relations : List ℕ) where
-  pub summed_none : Summed relations 0 0
-  summed_none = record { within = omega arith; ends = refl; small = omega arith }
-
   pub summed_more : {end r n : ℕ} → Summed relations end r → r < length relations / 2 → IsWord (relation_length relations r) n
       → Summed relations (end + n) (r + 1)
   summed_more {r} s h w =
@@ -74,8 +59,3 @@ module _ (relations : List ℕ) where
         small = let m = s.small in let l = w.small in omega arith;
       }
 
-  pub summed_all : {end r : ℕ} → Summed relations end r → length relations / 2 ≤ r → end ≡ relation_start relations (length relations / 2)
-  summed_all {r} s h =
-      let w = s.within in
-      let e : r ≡ length relations / 2 = omega arith in
-      s.ends ∙ ap (relation_start relations) e

@@ -14,8 +14,9 @@ use Rattle.sets.proofs.SearchLaws.{some_below_suc, lowest_same}
 use Rattle.report.specs.Tables.{query, project_length, projected_before}
 use Rattle.report.specs.Operands.{query_operands}
 use Rattle.report.specs.FormChecks.{is_operand, taken_below, free, list_fits, query_fits, queries_check, untaken_check, left_entry_check}
-use Rattle.report.specs.Verdicts.{Verdict, refusal, refuse_at, or_else}
+use Rattle.report.specs.Verdicts.{Verdict, refusal, refuse_if, refuse_at, or_else}
 use Rattle.report.specs.Formed.{OperandsBelow}
+use Rattle.report.specs.declared.Refusal.{Refusal}
 use Rattle.report.specs.declared.Query.{Query}
 use Rattle.report.specs.declared.Operands.{Operands}
 use Rattle.report.proofs.VerdictLaws.{then_next, then_refused}
@@ -48,9 +49,9 @@ module _ (n : Counts) (entries : List ℕ) (split : ℕ) (queries : List ℕ) (r
       form_is : t ≡ fits n entries 0 queries q (query queries q)
       form_is = test_is ∙ ap (fits n entries 0 queries q) e
 
-      pub walked_first : {v : Verdict} → not t ≡ true → v ≡ Err (refusal 8 q 0 0) → v ≡ queries_rest n entries split queries
+      pub walked_first : {r : Refusal} → Err r ≡ refuse_if (not t) (refusal 8 q 0 0) → Err r ≡ queries_rest n entries split queries
       unfolding queries_check
-      walked_first u v = v ∙ sym (then_refused _ (sym (passed_first _ _ s.passed h form_is u (λ j. refusal 8 j 0 0))))
+      walked_first u = sym (then_refused _ (sym (passed_first _ _ s.passed h form_is (λ j. refusal 8 j 0 0) u)))
 
       module _ (u : not t ≡ false) where
         below : OperandsBelow (length marks) (query_operands x)
@@ -58,9 +59,6 @@ module _ (n : Counts) (entries : List ℕ) (split : ℕ) (queries : List ℕ) (r
             let z = s.size in
             let y = ready.fits in
             fits_below n entries 0 queries q (length marks) (omega arith) x (sym test_is ∙ not-false t u)
-
-        pub walked_below : {to : Operands} → to ≡ query_operands x → OperandsBelow (length marks) to
-        walked_below p = rw p below
 
         pub walked_inside : {l : ℕ} → l ≡ project_length x → end + l ≤ length entries / 2
         walked_inside p =

@@ -236,7 +236,7 @@ fn check_tables(
 
 // Checks 1 to 10, then 24. Where they accept, report's law `formed` gives a caller `Formed` of the tables in one line:
 // `formed _ (sym ensures ∙ accepted)`.
-#[tactic(auto, unfolding(report::specs::FormChecks::form_check))]
+#[tactic(auto, unfolding(report::specs::FormChecks::form_check, report::specs::FormChecks::tables_check))]
 pub fn check_forms(
     head: Head,
     expressions: &[u16],
