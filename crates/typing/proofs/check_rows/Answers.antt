@@ -6,11 +6,11 @@ returns-in_default c = λ T R A. no_form A c.lowest_row-form.ensures c.in_defaul
 
 pub load-requires : goal.load-requires
 load-requires c =
-    form_room c.requires.reads c.lowest_row-form.ensures c.in-At.is
+    form_room c.requires.reads c.lowest_row-form.ensures c.in-Some.is
 
 pub returns-in_default-configuration : goal.returns-in_default-configuration
 returns-in_default-configuration c =
-    λ T R A. no_configuration A c.lowest_row-form.ensures c.in-At.is c.load.ensures c.lowest-configuration.ensures
+    λ T R A. no_configuration A c.lowest_row-form.ensures c.in-Some.is c.load.ensures c.lowest-configuration.ensures
     c.in_default-configuration.is
 
 pub check_here-here-requires : goal.check_here-here-requires
@@ -20,11 +20,11 @@ check_here-here-requires c =
       tables = p.tables;
       reading = p.reading;
       reads =
-          here_reads p.reads c.lowest_row-form.ensures c.in-At.is c.load.ensures c.lowest-configuration.ensures
-          c.in-At-configuration.is;
+          here_reads p.reads c.lowest_row-form.ensures c.in-Some.is c.load.ensures c.lowest-configuration.ensures
+          c.in-Some-configuration.is;
     }
 
 pub returns : goal.returns
 returns c =
-    λ T R A. here_answers A c.lowest_row-form.ensures c.in-At.is c.load.ensures c.lowest-configuration.ensures
-    c.in-At-configuration.is c.check_here-here.ensures
+    λ T R A. here_answers A c.lowest_row-form.ensures c.in-Some.is c.load.ensures c.lowest-configuration.ensures
+    c.in-Some-configuration.is c.check_here-here.ensures
