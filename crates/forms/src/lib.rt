@@ -69,9 +69,7 @@ fn are_free(marks: &[bool], q: usize, x: usize, y: usize) -> bool
     requires { q ≤ length marks.now }
     ensures { result ≡ free_pair (marked marks.now) q x y }
 {
-    let a = is_free(marks, q, x);
-    let b = is_free(marks, q, y);
-    a & b & (x != y)
+    is_free(marks, q, x) && is_free(marks, q, y) && x != y
 }
 
 // How many forms the tables have that a query form may name.
@@ -100,9 +98,9 @@ fn query_fits(
         Query::Malformed => false,
         Query::Empty => true,
         Query::Relation(a) => a < counts.relations,
-        Query::Select(a, b) => (a < counts.comparisons) & is_free(marks, q, b),
-        Query::Project(a, b) => list_fits(start, a, entries) & is_free(marks, q, b),
-        Query::Choice(a, b, d) => (a < counts.expressions) & are_free(marks, q, b, d),
+        Query::Select(a, b) => a < counts.comparisons && is_free(marks, q, b),
+        Query::Project(a, b) => list_fits(start, a, entries) && is_free(marks, q, b),
+        Query::Choice(a, b, d) => a < counts.expressions && are_free(marks, q, b, d),
         Query::Product(a, b) | Query::Union(a, b) | Query::Intersection(a, b) => {
             are_free(marks, q, a, b)
         }
