@@ -37,8 +37,8 @@ pub fn check_relations(e: usize, entries: &[u16], relations: &[u16]) -> Verdict
     for r in 0..relations.len() / 2 {
         let x = relation_expression(relations, r);
         let length = relation_length(relations, r);
-        let good = list_fits(start, length, entries);
-        refuse_if(!((x < e) & good), 6, r)?;
+        let fits = (x < e) & list_fits(start, length, entries);
+        refuse_if(!fits, 6, r)?;
         start += length;
     }
     Ok(())
@@ -171,6 +171,7 @@ pub fn check_queries(
 }
 
 // Checks 6 to 10, where there are m attributes and e expressions.
+#[tactic(auto, using(crate::proofs::Chain::split_words))]
 fn check_lists(
     m: usize,
     e: usize,
