@@ -18,26 +18,26 @@ use Rattle.report.proofs.FormFacts.{list_inside, operands_free, free_below, belo
 use Rattle.forms.specs.declared.Counts.{Counts}
 use Rattle.forms.specs.MarkedForms.{marked, marked_by}
 
-pub unmarked : (n x : ℕ) → marked (replicate n 0) x ≡ false
+pub unmarked : (n x : ℕ) → marked (replicate n false) x ≡ false
 unmarked zero x = refl
 unmarked (suc n) zero = refl
 unmarked (suc n) (suc x) = unmarked n x
 
-set-marked : (marks : List ℕ) (i x : ℕ) → i < length marks → marked (set marks i 1) x ≡ (marked marks x || eqb x i)
+set-marked : (marks : List Bool) (i x : ℕ) → i < length marks → marked (set marks i true) x ≡ (marked marks x || eqb x i)
 set-marked marks i x h = go (eqb x i) refl
   where
-    go : (t : Bool) → eqb x i ≡ t → marked (set marks i 1) x ≡ (marked marks x || t)
+    go : (t : Bool) → eqb x i ≡ t → marked (set marks i true) x ≡ (marked marks x || t)
     go true e =
-        ap (marked (set marks i 1)) (eqb-true x i e)
-        ∙ ap (λ (z : ℕ). eqb z 1) (get_or-set_same marks i 1 0 h)
+        ap (marked (set marks i true)) (eqb-true x i e)
+        ∙ get_or-set_same marks i true false h
         ∙ sym (or-true (marked marks x))
-    go false e = ap (λ (z : ℕ). eqb z 1) (get_or-set_other marks i x 1 0 (eqb-false x i e)) ∙ sym (or-false (marked marks x))
+    go false e = get_or-set_other marks i x true false (eqb-false x i e) ∙ sym (or-false (marked marks x))
 
-module _ (marks : List ℕ) where
+module _ (marks : List Bool) where
   two_marked : (a b : ℕ) → (a < length marks) × (b < length marks) → (y : ℕ)
-      → marked (set (set marks a 1) b 1) y ≡ (marked marks y || (eqb y a || eqb y b))
+      → marked (set (set marks a true) b true) y ≡ (marked marks y || (eqb y a || eqb y b))
   two_marked a b l y =
-      set-marked (set marks a 1) b y (rw (length-set marks a 1) l.1)
+      set-marked (set marks a true) b y (rw (length-set marks a true) l.1)
       ∙ ap (λ (t : Bool). t || eqb y b) (set-marked marks a y l.0)
       ∙ or_assoc (marked marks y) (eqb y a) (eqb y b)
 
@@ -50,7 +50,7 @@ module _ (marks : List ℕ) where
 
   pub marks-length : (o : Operands) → length (marked_by o marks) ≡ length marks
   marks-length Operands.Nothing = refl
-  marks-length (Operands.One a) = length-set marks a 1
+  marks-length (Operands.One a) = length-set marks a true
   marks-length (Operands.Both a b) = simp length-set
   marks-length (Operands.Choice e a b) = simp length-set
 
@@ -60,7 +60,7 @@ module _ (n : Counts) (entries : List ℕ) (start : ℕ) (queries : List ℕ) (q
   fits = query_fits_at n.expressions n.relations n.comparisons entries start queries q
 
   -- marks that agree with the forms taken below q, and a list that starts where the lists before it end
-  pub fits_is : (marks : List ℕ) → ((y : ℕ) → marked marks y ≡ taken_below queries q y) → {end : ℕ} → end ≡ start + projected_before queries q
+  pub fits_is : (marks : List Bool) → ((y : ℕ) → marked marks y ≡ taken_below queries q y) → {end : ℕ} → end ≡ start + projected_before queries q
       → (x : Query) → query_fits n.expressions n.relations n.comparisons entries end (marked marks) q x ≡ fits x
   fits_is marks agree e x =
       ap₂ (λ (s : ℕ) (t : ℕ → Bool). query_fits n.expressions n.relations n.comparisons entries s t q x) e (λ i y. agree y i)

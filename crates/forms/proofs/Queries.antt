@@ -27,7 +27,7 @@ use Rattle.forms.specs.MarkedForms.{marked, marked_by, untaken_by, queries_rest,
 use Rattle.forms.proofs.Marks.{unmarked, operands_marked, marks-length, fits, fits_is, fits_inside, fits_below}
 
 -- the first q forms fit, their lists end at `end`, and the forms that they take are marked
-pub record QueriesPassed (n : Counts) (entries queries marks : List ℕ) (end q : ℕ) : Type 0 where
+pub record QueriesPassed (n : Counts) (entries queries : List ℕ) (marks : List Bool) (end q : ℕ) : Type 0 where
   pub passed : FormsPassed (λ j. fits n entries 0 queries j (query queries j)) (length queries / 4) q
   pub ends : end ≡ 0 + projected_before queries q
   pub inside : end ≤ length entries / 2
@@ -35,12 +35,12 @@ pub record QueriesPassed (n : Counts) (entries queries marks : List ℕ) (end q 
   pub agree : (x : ℕ) → marked marks x ≡ taken_below queries q x
 
 module _ (n : Counts) (entries : List ℕ) (split : ℕ) (queries : List ℕ) (ready : QueriesReady entries split queries) where
-  pub walked_none : QueriesPassed n entries queries (replicate 256 0) 0 0
+  pub walked_none : QueriesPassed n entries queries (replicate 256 false) 0 0
   walked_none =
       record { passed = passed_none _ _; ends = refl; inside = omega arith; size = refl; agree = unmarked 256 }
 
   -- form q is x; t is whether it fits
-  module _ {marks : List ℕ} {end q : ℕ} {x : Query} {t : Bool} (s : QueriesPassed n entries queries marks end q) (h : q < length queries / 4)
+  module _ {marks : List Bool} {end q : ℕ} {x : Query} {t : Bool} (s : QueriesPassed n entries queries marks end q) (h : q < length queries / 4)
       (e : x ≡ query queries q) (f : t ≡ query_fits n.expressions n.relations n.comparisons entries end (marked marks) q x)
     where
       test_is : t ≡ fits n entries 0 queries q x
@@ -60,12 +60,12 @@ module _ (n : Counts) (entries : List ℕ) (split : ℕ) (queries : List ℕ) (r
             let y = ready.fits in
             fits_below n entries 0 queries q (length marks) (omega arith) x (sym test_is ∙ not-false t u)
 
-        pub walked_inside : {l : ℕ} → l ≡ project_length x → end + l ≤ length entries / 2
+        walked_inside : {l : ℕ} → l ≡ project_length x → end + l ≤ length entries / 2
         walked_inside p =
             let i = fits_inside n entries 0 queries q (rw s.ends at s.inside) x (sym test_is ∙ not-false t u) in
             rw (s.ends, p) i
 
-        pub walked_more : {new : List ℕ} {to : Operands} {l : ℕ} → to ≡ query_operands x → new ≡ marked_by to marks → l ≡ project_length x
+        pub walked_more : {new : List Bool} {to : Operands} {l : ℕ} → to ≡ query_operands x → new ≡ marked_by to marks → l ≡ project_length x
             → QueriesPassed n entries queries new (end + l) (q + 1)
         walked_more {new} o p r = record {
           passed = passed_more _ _ s.passed h form_is u;
@@ -76,7 +76,7 @@ module _ (n : Counts) (entries : List ℕ) (split : ℕ) (queries : List ℕ) (r
           inside = walked_inside r;
           size = ap length marks_are ∙ marks-length marks (query_operands x) ∙ s.size;
           agree = λ y.
-              ap (λ (m : List ℕ). marked m y) marks_are
+              ap (λ (m : List Bool). marked m y) marks_are
               ∙ operands_marked marks (query_operands x) below y
               ∙ ap₂ ◌||◌ (s.agree y) (ap (is_operand y) e)
               ∙ sym (ap (λ (j : ℕ). taken_below queries j y) (add-one q) ∙ some_below_suc (λ j. is_operand y (query queries j)) q);
@@ -86,7 +86,7 @@ module _ (n : Counts) (entries : List ℕ) (split : ℕ) (queries : List ℕ) (r
             marks_are = p ∙ ap (λ (to : Operands). marked_by to marks) o
 
   -- after the loop checks 9 and 10 by the marks are what is left
-  pub walked_all : {marks : List ℕ} {end q : ℕ} {v : Verdict} → QueriesPassed n entries queries marks end q → length queries / 4 ≤ q
+  pub walked_all : {marks : List Bool} {end q : ℕ} {v : Verdict} → QueriesPassed n entries queries marks end q → length queries / 4 ≤ q
       → v ≡ or_else (untaken_by marks (length queries / 4 - 1)) (left_entry_check (split + end) (split + length entries / 2)) → v ≡ queries_rest n entries split queries
   unfolding queries_check untaken_check
   walked_all {marks} {end} {q} s h p =

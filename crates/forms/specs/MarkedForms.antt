@@ -1,5 +1,5 @@
 -- What the functions of checks 6 and 8 to 10 work with: each check over what it reads.
-use Rattle.std.specs.Prelude.{ℕ, ◌+◌, ◌/◌, ◌≤◌, Bool, not, List, length, get_or, set, eqb}
+use Rattle.std.specs.Prelude.{ℕ, ◌+◌, ◌/◌, ◌≤◌, Bool, true, false, not, List, length, get_or, set}
 use Rattle.sets.specs.Search.{lowest}
 use Rattle.report.specs.Tables.{relation_start, projected_before}
 use Rattle.report.specs.FormChecks.{expressions_check, model_form_check, entries_check, relations_check, comparisons_check}
@@ -10,23 +10,23 @@ use Rattle.forms.specs.declared.Counts.{Counts}
 
 -- ---- marks: form x is marked when it has been taken as an operand
 
-abbrev pub marked : List ℕ → ℕ → Bool
-marked marks x = eqb (get_or marks x 0) 1
+abbrev pub marked : List Bool → ℕ → Bool
+marked marks x = get_or marks x false
 
 -- what form q is tested with: its list starts in the entries or at their end, and the forms below it have marks
-pub record FormRoom (entries : List ℕ) (start : ℕ) (marks : List ℕ) (q : ℕ) : Type 0 where
+pub record FormRoom (entries : List ℕ) (start : ℕ) (marks : List Bool) (q : ℕ) : Type 0 where
   pub starts : start ≤ length entries / 2
   pub room : q ≤ length marks
 
 -- the marks with those of a form's operands
-abbrev pub marked_by : Operands → List ℕ → List ℕ
+abbrev pub marked_by : Operands → List Bool → List Bool
 marked_by Operands.Nothing marks = marks
-marked_by (Operands.One a) marks = set marks a 1
-marked_by (Operands.Both a b) marks = set (set marks a 1) b 1
-marked_by (Operands.Choice e a b) marks = set (set marks a 1) b 1
+marked_by (Operands.One a) marks = set marks a true
+marked_by (Operands.Both a b) marks = set (set marks a true) b true
+marked_by (Operands.Choice e a b) marks = set (set marks a true) b true
 
 -- check 9 by the marks of all forms
-abbrev pub untaken_by : List ℕ → ℕ → Verdict
+abbrev pub untaken_by : List Bool → ℕ → Verdict
 untaken_by marks last = refuse_at (λ q. refusal 9 q 0 0) (lowest (λ q. not (marked marks q)) last)
 
 -- ---- the checks from 8, from 6 and from 3 on, and what those before leave for them

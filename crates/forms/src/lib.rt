@@ -37,8 +37,8 @@ pub fn check_relations(e: usize, entries: &[u16], relations: &[u16]) -> Verdict
     for r in 0..relations.len() / 2 {
         let x = relation_expression(relations, r);
         let length = relation_length(relations, r);
-        let good = list_fits(start, length, entries);
-        refuse_if(!((x < e) & good), 6, r)?;
+        let fits = (x < e) & list_fits(start, length, entries);
+        refuse_if(!fits, 6, r)?;
         start += length;
     }
     Ok(())
@@ -57,21 +57,19 @@ pub fn relations_end(relations: &[u16]) -> usize
 }
 
 // Form x is below q and not taken yet.
-fn is_free(marks: &[u8], q: usize, x: usize) -> bool
+fn is_free(marks: &[bool], q: usize, x: usize) -> bool
     requires { q ≤ length marks.now }
     ensures { result ≡ free (marked marks.now) q x }
 {
-    x < q && marks[x] != 1
+    x < q && !marks[x]
 }
 
 // Two operands, of which the second is not the first once more.
-fn are_free(marks: &[u8], q: usize, x: usize, y: usize) -> bool
+fn are_free(marks: &[bool], q: usize, x: usize, y: usize) -> bool
     requires { q ≤ length marks.now }
     ensures { result ≡ free_pair (marked marks.now) q x y }
 {
-    let a = is_free(marks, q, x);
-    let b = is_free(marks, q, y);
-    a & b & (x != y)
+    is_free(marks, q, x) && is_free(marks, q, y) && x != y
 }
 
 // How many forms the tables have that a query form may name.
@@ -89,7 +87,7 @@ fn query_fits(
     q: usize,
     start: usize,
     entries: &[u16],
-    marks: &[u8],
+    marks: &[bool],
 ) -> bool
     requires { FormRoom entries.now start marks.now q }
     ensures { result
@@ -100,9 +98,9 @@ fn query_fits(
         Query::Malformed => false,
         Query::Empty => true,
         Query::Relation(a) => a < counts.relations,
-        Query::Select(a, b) => (a < counts.comparisons) & is_free(marks, q, b),
-        Query::Project(a, b) => list_fits(start, a, entries) & is_free(marks, q, b),
-        Query::Choice(a, b, d) => (a < counts.expressions) & are_free(marks, q, b, d),
+        Query::Select(a, b) => a < counts.comparisons && is_free(marks, q, b),
+        Query::Project(a, b) => list_fits(start, a, entries) && is_free(marks, q, b),
+        Query::Choice(a, b, d) => a < counts.expressions && are_free(marks, q, b, d),
         Query::Product(a, b) | Query::Union(a, b) | Query::Intersection(a, b) => {
             are_free(marks, q, a, b)
         }
@@ -110,33 +108,33 @@ fn query_fits(
 }
 
 // Marks the operands of a form that fits.
-fn mark_operands(marks: &mut [u8], to: Operands)
+fn mark_operands(marks: &mut [bool], to: Operands)
     requires { OperandsBelow (length marks.old) to }
     ensures { marks.new ≡ marked_by to marks.old }
 {
     match to {
         Operands::Nothing => {}
-        Operands::One(a) => marks[a] = 1,
+        Operands::One(a) => marks[a] = true,
         Operands::Both(a, b) | Operands::Choice(_, a, b) => {
-            marks[a] = 1;
-            marks[b] = 1;
+            marks[a] = true;
+            marks[b] = true;
         }
     }
 }
 
 // Check 9, by the marks of all forms.
-fn check_untaken(last: usize, marks: &[u8]) -> Verdict
+fn check_untaken(last: usize, marks: &[bool]) -> Verdict
     requires { last ≤ length marks.now }
     ensures { result ≡ untaken_by marks.now last }
 {
     for q in 0..last {
-        refuse_if(marks[q] != 1, 9, q)?;
+        refuse_if(!marks[q], 9, q)?;
     }
     Ok(())
 }
 
 // Checks 9 and 10, by the marks of all forms: their lists end at `end`, and table 1 has `count` entries.
-fn check_end(last: usize, end: usize, count: usize, marks: &[u8]) -> Verdict
+fn check_end(last: usize, end: usize, count: usize, marks: &[bool]) -> Verdict
     requires { last ≤ length marks.now }
     ensures { result ≡ or_else (untaken_by marks.now last) (left_entry_check end count) }
 {
@@ -154,7 +152,7 @@ pub fn check_queries(
     requires { QueriesReady project_entries.now split queries.now }
     ensures { result ≡ queries_rest counts project_entries.now split queries.now }
 {
-    let mut marks: [u8; Limits::MOST_QUERIES] = [0; Limits::MOST_QUERIES];
+    let mut marks = [false; Limits::MOST_QUERIES];
     let count = queries.len() / 4;
     let mut end = 0;
     for q in 0..count {
@@ -173,6 +171,7 @@ pub fn check_queries(
 }
 
 // Checks 6 to 10, where there are m attributes and e expressions.
+#[tactic(auto, using(crate::proofs::Chain::split_words))]
 fn check_lists(
     m: usize,
     e: usize,

@@ -11,7 +11,7 @@ returns-in_err-refuse_if c =
     let told : c.from_residual.result ≡ Err c.in_err-refuse_if.field-0.0 = search rules in
     told
     ∙ passed_first _ _ c.loop-r.invariant.passed c.loop-r-test.true
-    (relation_is _ _ _ c.loop-r.invariant c.relation_expression-x.ensures.same c.relation_length-length.ensures.same c.list_fits-good.ensures)
+    (relation_is c.loop-r.invariant c.relation_expression-x.ensures.same c.relation_length-length.ensures.same c.list_fits.ensures)
     _ c.in_err-refuse_if.ensures
 
 pub returns : goal.returns
