@@ -16,6 +16,7 @@ pub fn holds_at(rows: &[u64], x: usize, c: usize) -> bool
     requires { (x * 16 + 16 ≤ length rows.now) × (c < 1024) }
     ensures { result ≡ row_bit (row_in 16 rows.now x) c }
 {
+    // One word is read where it lies: `Row::load(rows, x).has(c)` copies the row first, and took five times as long.
     let word = rows[x * Row::WORDS + c / 64];
     (word >> (c % 64)) % 2 == 1
 }

@@ -165,8 +165,7 @@ pub fn fill_spared(
         queries.now reach.now
         → spared_sets.new ≡ written (table (query_count T) (spared T scope.reading)) spared_sets.old }
 {
-    let reading = scope.reading;
-    match reading {
+    match scope.reading {
         Reading::Strict => {}
         Reading::Filled => fill_found(
             scope,
