@@ -8,7 +8,7 @@ use native.Mathlib.Nat.{le_of_suc-le-suc, not-suc-le-zero, le_refl, eq-or-lt_of_
 use native.Mathlib.Numerals.{add-one}
 use native.Mathlib.Decide.{le_ind, ℕ_discrete}
 use native.Mathlib.Omega.{arith}
-use lib.ListN.{length, get_or, set, take, drop, replicate, length-set, length-append, length-replicate, drop_of_length-le, get_or-append}
+use lib.ListN.{length, get_or, set, take, drop, length-set, length-append, get_or-append}
 use lib.Seq.{ext_get_or, get_or-set_same, get_or-set_other, get_or-append-add, take_at, drop-append-add, drop-drop, drop-cons, set_at}
 use denote.Param.Members.{Mut, Called}
 use Rattle.std.specs.Array.{IsFromFnResult, IsFromFnResultFrom}
@@ -60,27 +60,6 @@ module _ {A : Type 0} where
       ∙ set_at (table n f) (get_or l n (f n)) (drop (suc n) l) (f n) n (table-length n f)
       ∙ sym (ap (λ (k : ℕ). table k f ++ drop k l) (add-one n) ∙ ap (λ (s : List A). s ++ drop (suc n) l) (table_suc n f)
       ∙ append_assoc (table n f) (f n ∷ []) (drop (suc n) l))
-
-  -- a loop that fills m places with the elements of f: n of them are there, and d from there on
-  pub record Filled (m : ℕ) (d : A) (f : ℕ → A) (l : List A) (n : ℕ) : Type 0 where
-    pub bound : n ≤ m
-    pub holds : l ≡ table n f ++ drop n (replicate m d)
-
-  module _ {m : ℕ} {d : A} {f : ℕ → A} where
-    pub fill_start : Filled m d f (replicate m d) 0
-    fill_start = record { bound = omega arith; holds = refl }
-
-    pub fill_more : {l : List A} {n : ℕ} {v : A} → Filled m d f l n → n < m → v ≡ f n → Filled m d f (set l n v) (n + 1)
-    fill_more {l} {n} {v} r h e = record {
-      bound = omega arith;
-      holds = ap₂ (λ (s : List A) (x : A). set s n x) r.holds e ∙ table_more n f (replicate m d) (omega (arith, length-replicate m d));
-    }
-
-    pub fill_end : {l : List A} {n : ℕ} → Filled m d f l n → m ≤ n → l ≡ table m f
-    fill_end {l} {n} r h =
-        let e : n ≡ m = omega arith in
-        r.holds ∙ ap₂ (λ (k : ℕ) (s : List A). table k f ++ s) e (drop_of_length-le (replicate m d) {i = n} (omega (arith, length-replicate m d)))
-        ∙ append-nil (table m f)
 
   -- what each call of a closure that stays as it is gives holds of the elements of the array that its calls made
   made_from : {F : Type 0} {g : Mut F (ℕ × Unit {0}) A} {f : F} (l : List A) (R : ℕ → A → Type 0)

@@ -110,12 +110,13 @@ impl Row {
     pub fn lowest_from(self, from: usize) -> Found
         ensures { result ≡ row_lowest_from 16 self.words from }
     {
+        let mut skipped = from % 64;
         for w in from / 64..Row::WORDS {
-            let c = from.max(w * 64);
-            let rest = self.words[w] >> (c % 64);
+            let rest = self.words[w] >> skipped;
             if rest != 0 {
-                return Found::At(c + rest.trailing_zeros() as usize);
+                return Found::At(w * 64 + skipped + rest.trailing_zeros() as usize);
             }
+            skipped = 0;
         }
         Found::Nothing
     }

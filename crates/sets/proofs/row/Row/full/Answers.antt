@@ -1,10 +1,10 @@
-use mathlib.Core.Path.{sym, ap, ◌∙◌}
+use mathlib.Core.Path.{sym, ◌∙◌}
 use mathlib.Core.Bool.{true}
-use Prim.Native.Nat.{ℕ, ◌^◌}
+use Prim.Native.Nat.{◌^◌}
 use native.Mathlib.Omega.{arith}
 use lib.Dec.{ltb}
 use Rattle.std.proofs.Common.{rules}
-use Rattle.sets.specs.Rows.{word_of, row_of, within}
+use Rattle.sets.specs.Rows.{word_of, within}
 use Rattle.sets.proofs.ListLaws.{made_table}
 use Rattle.sets.proofs.BitLaws.{shl_one}
 use Rattle.sets.proofs.RowLaws.{row_of_same, within_all}
