@@ -1,5 +1,5 @@
 -- Laws of sets as numbers, for any number of bits.
-use Rattle.std.specs.Prelude.{Some, None}
+use Rattle.std.specs.Prelude.{Some}
 use Prim.Native.Nat.{ℕ, zero, suc, ◌+◌, ◌-◌, ◌*◌, ◌/◌, ◌%◌, ◌^◌, ◌<◌, ◌≤◌, min, max}
 use mathlib.Core.Path.{◌≡◌, refl, sym, ap, ap₂, ◌∙◌}
 use mathlib.Core.Bool.{Bool, true, false, cond, not, ◌&&◌, ◌||◌, xor, and-true, and-false, or-false, or_assoc as or_assoc_bool, and-eq-true_iff, false≢true}
@@ -17,7 +17,7 @@ use lib.Count.{count_trailing_zeros, under, ones, ones_step}
 use borrow.Author.Tests.{lt-ltb, le-ltb, le-leb, leb-true, eq-eqb, ne_eqb}
 use Rattle.sets.specs.Search.{lowest, some_below, count_below, found_or_0, First}
 use Rattle.sets.specs.Bits.{bit, digit, bits_of, difference, subset, lowest_member}
-use Rattle.sets.proofs.SearchLaws.{nothing_lowest, at_lowest, some_at, at_some, count_head, count_same}
+use Rattle.sets.proofs.SearchLaws.{at_lowest, some_at, at_some, count_head, count_same}
 
 -- ---- one digit
 
@@ -407,10 +407,6 @@ shifted_first k x m h e = record { below = go (dec_lt (count_trailing_zeros k (x
 
 pub trailing_lowest : (k x : ℕ) → x < 2 ^ k → x ≢ 0 → lowest (bit x) k ≡ Some (count_trailing_zeros k x)
 trailing_lowest k x h e = at_lowest (bit x) k (count_trailing_zeros k x) (trailing_first k x h e)
-
--- 0 has none (`trailing_of_zero` of lib.Count: its trailing zeros are k)
-pub zero_lowest : (k : ℕ) → lowest (bit 0) k ≡ None
-zero_lowest k = nothing_lowest (bit 0) k (λ i l. bit_none i)
 
 pub trailing_member : (x : ℕ) → x < 2 ^ 64 → x ≢ 0 → lowest_member x ≡ count_trailing_zeros 64 x
 trailing_member x h e = ap found_or_0 (trailing_lowest 64 x h e)

@@ -8,8 +8,10 @@ use native.Mathlib.Nat.{le_of_suc-le-suc, not-suc-le-zero, le_refl, eq-or-lt_of_
 use native.Mathlib.Numerals.{add-one}
 use native.Mathlib.Decide.{le_ind, ℕ_discrete}
 use native.Mathlib.Omega.{arith}
-use lib.ListN.{length, get_or, set, take, drop, replicate, length-set, length-append, length-replicate, drop_of_length-le, get_or-append}
+use lib.ListN.{length, get_or, set, take, drop, length-set, length-append, get_or-append}
 use lib.Seq.{ext_get_or, get_or-set_same, get_or-set_other, get_or-append-add, take_at, drop-append-add, drop-drop, drop-cons, set_at}
+use denote.Param.Members.{Mut, Called}
+use Rattle.std.specs.Array.{IsFromFnResult, IsFromFnResultFrom}
 use Rattle.sets.specs.Search.{count_below}
 use Rattle.sets.specs.Lists.{table, concat, kept, NumbersAre}
 use Rattle.sets.proofs.SearchLaws.{count_yes, count_no}
@@ -59,26 +61,25 @@ module _ {A : Type 0} where
       ∙ sym (ap (λ (k : ℕ). table k f ++ drop k l) (add-one n) ∙ ap (λ (s : List A). s ++ drop (suc n) l) (table_suc n f)
       ∙ append_assoc (table n f) (f n ∷ []) (drop (suc n) l))
 
-  -- a loop that fills m places with the elements of f: n of them are there, and d from there on
-  pub record Filled (m : ℕ) (d : A) (f : ℕ → A) (l : List A) (n : ℕ) : Type 0 where
-    pub bound : n ≤ m
-    pub holds : l ≡ table n f ++ drop n (replicate m d)
+  -- what each call of a closure that stays as it is gives holds of the elements of the array that its calls made
+  made_from : {F : Type 0} {g : Mut F (ℕ × Unit {0}) A} {f : F} (l : List A) (R : ℕ → A → Type 0)
+      → ((i : ℕ) (x : A) (q : F) → Called g f (i, tt) x q → (q ≡ f) × R i x)
+      → (d : A) (i n : ℕ) → IsFromFnResultFrom g f l i n → (k : ℕ) → i ≤ k → k < i + n → R k (get_or l k d)
+  made_from l R step d i zero m k a b = absurd (omega arith)
+  made_from {F = F} {g = g} {f = f} l R step d i (suc n) m k a b =
+      let s = step i m.1 m.0 m.3 in
+      ⊎_elim (λ (e : i ≡ k). rw (← e, m.2.1 d) s.1)
+      (λ (u : i < k). made_from {g = g} {f = f} l R step d (i + 1) n (rw s.0 at m.4) k (omega arith) (omega arith)) (eq-or-lt_of_le a)
 
-  module _ {m : ℕ} {d : A} {f : ℕ → A} where
-    pub fill_start : Filled m d f (replicate m d) 0
-    fill_start = record { bound = omega arith; holds = refl }
+  module _ {F : Type 0} {g : Mut F (ℕ × Unit {0}) A} {f : F} {l : List A} {n : ℕ} where
+    pub made_at : IsFromFnResult g f l n → (R : ℕ → A → Type 0) → ((i : ℕ) (x : A) (q : F) → Called g f (i, tt) x q → (q ≡ f) × R i x)
+        → (d : A) (k : ℕ) → k < n → R k (get_or l k d)
+    made_at m R step d k h = made_from {g = g} {f = f} l R step d 0 n m.each k (omega arith) (omega arith)
 
-    pub fill_more : {l : List A} {n : ℕ} {v : A} → Filled m d f l n → n < m → v ≡ f n → Filled m d f (set l n v) (n + 1)
-    fill_more {l} {n} {v} r h e = record {
-      bound = omega arith;
-      holds = ap₂ (λ (s : List A) (x : A). set s n x) r.holds e ∙ table_more n f (replicate m d) (omega (arith, length-replicate m d));
-    }
-
-    pub fill_end : {l : List A} {n : ℕ} → Filled m d f l n → m ≤ n → l ≡ table m f
-    fill_end {l} {n} r h =
-        let e : n ≡ m = omega arith in
-        r.holds ∙ ap₂ (λ (k : ℕ) (s : List A). table k f ++ s) e (drop_of_length-le (replicate m d) {i = n} (omega (arith, length-replicate m d)))
-        ∙ append-nil (table m f)
+    -- so the array is a table
+    pub made_table : (d : A) → IsFromFnResult g f l n → (t : ℕ → A) → ((i : ℕ) (x : A) (q : F) → Called g f (i, tt) x q → (q ≡ f) × (x ≡ t i))
+        → l ≡ table n t
+    made_table d m t step = table_of d n t l m.long (λ k h. made_at m (λ i x. x ≡ t i) step d k h)
 
   -- ---- lists one after another: where they are equal, one more, and how their length grows
 

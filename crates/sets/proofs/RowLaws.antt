@@ -311,9 +311,6 @@ pub record Passed (l : List ℕ) (from c : ℕ) : Type 0 where
   pub after : from ≤ c
   pub none : (k : ℕ) → from ≤ k → k < c → row_bit l k ≡ false
 
-pub passed_none : (l : List ℕ) (from : ℕ) → Passed l from from
-passed_none l from = record { after = le_refl from; none = λ k h g. absurd (omega arith) }
-
 module _ {l : List ℕ} {from c : ℕ} (P : Passed l from c) where
   -- the word of c has nothing from c on: it is passed
   pub passed_word : rest l c ≡ 0 → Passed l from ((c / 64 + 1) * 64)

@@ -36,17 +36,12 @@ module _ {xs ys o : List ℕ} {at : ℕ} where
 pub room_first : {xs o : List ℕ} {at : ℕ} (ys : List ℕ) → Room (xs ++ ys) o at → Room xs o at
 room_first {xs} ys r = record { fits = omega (arith, r.fits, length-append xs ys) }
 
--- nothing, one number, and two
+-- nothing, and one number
 pub none_written : (o : List ℕ) (at : ℕ) → WrittenAt [] o at o at
 none_written o at = record { place = omega arith; stored = refl }
 
 pub one_written : (o : List ℕ) (at b : ℕ) → WrittenAt (b ∷ []) o at (set o at b) (at + 1)
 one_written o at b = record { place = omega arith; stored = refl }
-
-pub two_written : (o : List ℕ) (at x y : ℕ) → WrittenAt (x ∷ y ∷ []) o at (set (set o at x) (at + 1) y) (at + 2)
-two_written o at x y =
-    let w = and_then (one_written o at x) (one_written (set o at x) (at + 1) y) in
-    record { place = omega arith; stored = w.stored }
 
 -- the same text under another name
 pub same_room : {xs ys o : List ℕ} {at : ℕ} → xs ≡ ys → Room xs o at → Room ys o at

@@ -1,8 +1,11 @@
 // Rows: sets of configurations.
-ghost use Rattle.std.specs.Prelude.{◌≡◌, true, false, not, ◌+◌, ◌*◌, ◌<◌, ◌≤◌, ◌^◌, length, ltb};
+ghost use Rattle.std.specs.Prelude.{◌≡◌, true, false, not, ◌+◌, ◌*◌, ◌<◌, ◌≤◌, ◌^◌, ℕ, length, get_or, ltb};
 ghost use Rattle.sets.specs.Bits.{bit};
 ghost use Rattle.sets.specs.Rows.{row_bit, word_of, row_of, within, row_join, row_intersect, row_minus, row_is_empty};
 ghost use Rattle.sets.specs.Rows.{row_lowest, row_lowest_from, row_count, row_in, with_row};
+
+use crate::Found;
+use std::array::from_fn;
 
 // A set of configurations below 1,024: configuration c is bit c mod 64 of word c div 64.
 #[derive(Clone, Copy)]
@@ -12,6 +15,16 @@ pub struct Row {
 
 impl Row {
     pub const WORDS: usize = 16;
+
+    // The row whose each word is `op` of the words of two rows that stand in its place.
+    fn zip_words<F: Fn(u64, u64) -> u64>(self, other: Row, op: F) -> Row
+        requires { F.IsAlwaysCallable op }
+        ensures { (w : ℕ) → w < 16 → F.post op (get_or self.words w 0) (get_or other.words w 0) (get_or result.words w 0) }
+    {
+        Row {
+            words: from_fn(|w| op(self.words[w], other.words[w])),
+        }
+    }
 
     pub fn empty() -> Row
         ensures { result.words ≡ row_of 16 (λ c. false) }
@@ -27,13 +40,9 @@ impl Row {
         ensures { result.words ≡ row_of 16 (within n (λ c. true)) }
     {
         let many: usize = 1 << n;
-        let mut words = [0; Row::WORDS];
-        let mut w = 0;
-        while w < Row::WORDS {
-            words[w] = below_word(many, w);
-            w += 1;
+        Row {
+            words: from_fn(|w| below_word(many, w)),
         }
-        Row { words: words }
     }
 
     // The configurations where feature i is on, whatever the number of features.
@@ -42,63 +51,34 @@ impl Row {
         ensures { result.words ≡ row_of 16 (λ c. bit c i) }
     {
         if i < 6 {
-            let word = MASKS[i];
             return Row {
-                words: [word; Row::WORDS],
+                words: [MASKS[i]; Row::WORDS],
             };
         }
-        let mut words = [0; Row::WORDS];
-        let mut w = 0;
-        while w < Row::WORDS {
-            words[w] = feature_word(i, w);
-            w += 1;
+        Row {
+            words: from_fn(|w| feature_word(i, w)),
         }
-        Row { words: words }
     }
 
     // The configurations that either row has.
     pub fn join(self, other: Row) -> Row
         ensures { result.words ≡ row_join 16 self.words other.words }
     {
-        let a = self.words;
-        let b = other.words;
-        let mut words = [0; Row::WORDS];
-        let mut w = 0;
-        while w < Row::WORDS {
-            words[w] = a[w] | b[w];
-            w += 1;
-        }
-        Row { words: words }
+        self.zip_words(other, |a, b| a | b)
     }
 
     // The configurations that both rows have.
     pub fn intersect(self, other: Row) -> Row
         ensures { result.words ≡ row_intersect 16 self.words other.words }
     {
-        let a = self.words;
-        let b = other.words;
-        let mut words = [0; Row::WORDS];
-        let mut w = 0;
-        while w < Row::WORDS {
-            words[w] = a[w] & b[w];
-            w += 1;
-        }
-        Row { words: words }
+        self.zip_words(other, |a, b| a & b)
     }
 
     // The configurations of this row that the other lacks.
     pub fn minus(self, other: Row) -> Row
         ensures { result.words ≡ row_minus 16 self.words other.words }
     {
-        let a = self.words;
-        let b = other.words;
-        let mut words = [0; Row::WORDS];
-        let mut w = 0;
-        while w < Row::WORDS {
-            words[w] = a[w] ^ (a[w] & b[w]);
-            w += 1;
-        }
-        Row { words: words }
+        self.zip_words(other, |a, b| a ^ (a & b))
     }
 
     pub fn has(self, c: usize) -> bool
@@ -112,12 +92,9 @@ impl Row {
     pub fn is_empty(self) -> bool
         ensures { result ≡ row_is_empty 16 self.words }
     {
-        let words = self.words;
         let mut any = 0;
-        let mut w = 0;
-        while w < Row::WORDS {
-            any = any | words[w];
-            w += 1;
+        for word in self.words {
+            any |= word;
         }
         any == 0
     }
@@ -133,14 +110,13 @@ impl Row {
     pub fn lowest_from(self, from: usize) -> Option<usize>
         ensures { result ≡ row_lowest_from 16 self.words from }
     {
-        let words = self.words;
-        let mut c = from;
-        while c < Row::WORDS * 64 {
-            let rest = words[c / 64] >> (c % 64);
+        let mut skipped = from % 64;
+        for w in from / 64..Row::WORDS {
+            let rest = self.words[w] >> skipped;
             if rest != 0 {
-                return Some(c + u64::trailing_zeros(rest) as usize);
+                return Some(w * 64 + skipped + rest.trailing_zeros() as usize);
             }
-            c = (c / 64 + 1) * 64;
+            skipped = 0;
         }
         None
     }
@@ -149,12 +125,9 @@ impl Row {
     pub fn count(self) -> usize
         ensures { result ≡ row_count 16 self.words }
     {
-        let words = self.words;
         let mut many = 0;
-        let mut w = 0;
-        while w < Row::WORDS {
-            many += u64::count_ones(words[w]) as usize;
-            w += 1;
+        for word in self.words {
+            many += word.count_ones() as usize;
         }
         many
     }
@@ -165,13 +138,9 @@ impl Row {
         ensures { result.words ≡ row_in 16 rows.now a }
     {
         let at = a * Row::WORDS;
-        let mut words = [0; Row::WORDS];
-        let mut w = 0;
-        while w < Row::WORDS {
-            words[w] = rows[at + w];
-            w += 1;
+        Row {
+            words: from_fn(|w| rows[at + w]),
         }
-        Row { words: words }
     }
 
     // The row has a configuration in common with row number a of those rows: most rows that have one have it in an early word, where the search ends.
@@ -179,16 +148,8 @@ impl Row {
         requires { a * 16 + 16 ≤ length rows.now }
         ensures { result ≡ not (row_is_empty 16 (row_intersect 16 self.words (row_in 16 rows.now a))) }
     {
-        let words = self.words;
         let at = a * Row::WORDS;
-        let mut w = 0;
-        while w < Row::WORDS {
-            if words[w] & rows[at + w] != 0 {
-                return true;
-            }
-            w += 1;
-        }
-        false
+        (0..Row::WORDS).any(|w| self.words[w] & rows[at + w] != 0)
     }
 
     // Stores this row as number a of the rows that lie one after another in `rows`.
@@ -196,12 +157,9 @@ impl Row {
         requires { a * 16 + 16 ≤ length rows.old }
         ensures { rows.new ≡ with_row 16 rows.old a self.words }
     {
-        let words = self.words;
         let at = a * Row::WORDS;
-        let mut w = 0;
-        while w < Row::WORDS {
-            rows[at + w] = words[w];
-            w += 1;
+        for w in 0..Row::WORDS {
+            rows[at + w] = self.words[w];
         }
     }
 }

@@ -35,7 +35,7 @@ impl AttributeSet {
     pub fn of_bits(bits: u64) -> AttributeSet
         ensures { result.bits ≡ bits }
     {
-        AttributeSet { bits: bits }
+        AttributeSet { bits }
     }
 
     // The set of attribute a alone.
@@ -134,6 +134,6 @@ impl AttributeSet {
     pub fn count(self) -> usize
         ensures { result ≡ member_count self.bits }
     {
-        u64::count_ones(self.bits) as usize
+        self.bits.count_ones() as usize
     }
 }

@@ -1,11 +1,7 @@
--- After w words `any` is those w joined, which is 0 where each of them is.
+-- After so many words `any` is those words joined, which is 0 where each of them is.
 use mathlib.Core.Path.{◌≡◌}
-use Prim.Native.Nat.{◌≤◌, ◌-◌}
 use Rattle.sets.proofs.RowLaws.{joined}
 use Rattle.sets.proofs.row.Row.is_empty.Given as goal
 
-abbrev pub invariant-loop-w : goal.invariant-loop-w
-invariant-loop-w l = (l.w ≤ 16) × (l.any ≡ joined l.w l.words)
-
-abbrev pub decreases-loop-w : goal.decreases-loop-w
-decreases-loop-w l = 16 - l.w
+abbrev pub invariant-loop-word : goal.invariant-loop-word
+invariant-loop-word l = l.any ≡ joined l.word-index l.fn.self.words

@@ -1,7 +1,8 @@
-use mathlib.Core.Path.{refl}
-use native.Mathlib.Omega.{arith}
-use Rattle.sets.proofs.ListLaws.{fill_more}
+use Prim.Native.Nat.{◌+◌, ◌*◌}
+use lib.ListN.{get_or}
+use Rattle.std.proofs.Common.{rules}
+use Rattle.sets.proofs.ListLaws.{made_table}
 use Rattle.sets.proofs.row.Row.load.Goals as goal
 
-pub loop-w-preserved : goal.loop-w-preserved
-loop-w-preserved c = fill_more c.loop-w.invariant (omega arith) refl
+pub returns : goal.returns
+returns c = made_table 0 c.from_fn.ensures.items (λ w. get_or c.args.rows.now (c.args.a * 16 + w) 0) (λ w x q k. search rules)
