@@ -7,10 +7,10 @@ ghost use Rattle.report.specs.Text.{decimal};
 ghost use Rattle.writing.specs.Lines.{refusal_line, unread_line, member_text, members_text, configuration_line};
 
 use report::Refusal;
-use sets::AttributeSet;
+use sets::{AttributeSet, put};
 
 // A text.
-pub fn put_bytes(out: &mut [u8], at: usize, text: &[u8]) -> usize
+pub fn put(out: &mut [u8], at: usize, text: &[u8]) -> usize
     requires { Room text.now out.old at }
     ensures { WrittenAt text.now out.old at out.new result }
 {
@@ -50,12 +50,12 @@ pub fn put_refused(out: &mut [u8], at: usize, f: Refusal) -> usize
     requires { Room (refusal_line f) out.old at }
     ensures { WrittenAt (refusal_line f) out.old at out.new result }
 {
-    let p0 = put_bytes(out, at, b"(refused");
+    let p0 = put(out, at, b"(refused");
     let p1 = put_spaced(out, p0, f.number);
     let p2 = put_spaced(out, p1, f.place);
     let p3 = put_spaced(out, p2, f.item);
     let p4 = put_spaced(out, p3, f.configuration);
-    put_bytes(out, p4, b")\n")
+    put(out, p4, b")\n")
 }
 
 // The line of a file whose line n cannot be read.
@@ -63,9 +63,9 @@ pub fn put_unread(out: &mut [u8], at: usize, n: u64) -> usize
     requires { Room (unread_line n) out.old at }
     ensures { WrittenAt (unread_line n) out.old at out.new result }
 {
-    let p0 = put_bytes(out, at, b"(unread");
+    let p0 = put(out, at, b"(unread");
     let p1 = put_spaced(out, p0, n);
-    put_bytes(out, p1, b")\n")
+    put(out, p1, b")\n")
 }
 
 // Attribute a after a space, where it is in the set.
@@ -98,9 +98,9 @@ pub fn put_at_line(out: &mut [u8], at: usize, c: u64, s: AttributeSet) -> usize
     requires { Room (configuration_line c s.bits) out.old at }
     ensures { WrittenAt (configuration_line c s.bits) out.old at out.new result }
 {
-    let p0 = put_bytes(out, at, b"(at");
+    let p0 = put(out, at, b"(at");
     let p1 = put_spaced(out, p0, c);
-    let p2 = put_bytes(out, p1, b" (has");
+    let p2 = put(out, p1, b" (has");
     let p3 = put_members(out, p2, s);
-    put_bytes(out, p3, b"))\n")
+    put(out, p3, b"))\n")
 }
