@@ -9,30 +9,17 @@ ghost use Rattle.writing.specs.Lines.{refusal_line, unread_line, member_text, me
 use report::Refusal;
 use sets::{AttributeSet, put};
 
-// A text.
-pub fn put(out: &mut [u8], at: usize, text: &[u8]) -> usize
-    requires { Room text.now out.old at }
-    ensures { WrittenAt text.now out.old at out.new result }
-{
-    let mut i = 0;
-    while i < text.len() {
-        out[at + i] = text[i];
-        i += 1;
-    }
-    at + i
-}
-
 // A number in decimal.
 pub fn put_decimal(out: &mut [u8], at: usize, n: u64) -> usize
     requires { Room (decimal n) out.old at }
     ensures { WrittenAt (decimal n) out.old at out.new result }
 {
     if n < 10 {
-        out[at] = 48 + n as u8;
+        out[at] = b'0' + n as u8;
         return at + 1;
     }
     let p = put_decimal(out, at, n / 10);
-    out[p] = 48 + (n % 10) as u8;
+    out[p] = b'0' + (n % 10) as u8;
     p + 1
 }
 
@@ -41,7 +28,7 @@ fn put_spaced(out: &mut [u8], at: usize, n: u64) -> usize
     requires { Room (32 ∷ decimal n) out.old at }
     ensures { WrittenAt (32 ∷ decimal n) out.old at out.new result }
 {
-    out[at] = 32;
+    out[at] = b' ';
     put_decimal(out, at + 1, n)
 }
 
@@ -85,10 +72,8 @@ fn put_members(out: &mut [u8], at: usize, s: AttributeSet) -> usize
     ensures { WrittenAt (members_text s.bits) out.old at out.new result }
 {
     let mut p = at;
-    let mut a = 0;
-    while a < AttributeSet::MOST_ATTRIBUTES {
+    for a in 0..AttributeSet::MOST_ATTRIBUTES {
         p = put_member(out, p, s, a);
-        a += 1;
     }
     p
 }
