@@ -2,11 +2,14 @@
 use Prim.Native.Nat.{ℕ, suc, ◌+◌, ◌≤◌, ◌<◌}
 use mathlib.Core.Path.{◌≡◌, refl, sym, ap, ap₂, ◌∙◌}
 use mathlib.Core.Bool.{Bool, true, false, cond}
-use mathlib.Core.List.{List, [], ◌∷◌, ◌++◌}
+use mathlib.Core.List.{List, [], ◌∷◌, ◌++◌, append_assoc}
 use native.Mathlib.Numerals.{add-one}
 use native.Mathlib.Omega.{arith}
+use borrow.Rule.Slice.PartMut.{put_mid}
 use lib.ListN.{length, set, drop, length-append}
 use lib.Seq.{sets, length-sets, sets-eq}
+use Rattle.std.proofs.lemmas.Slice.{put_mid-paste}
+use Rattle.std.proofs.lemmas.List.Edits.{paste_all}
 use Rattle.sets.specs.Lists.{concat}
 use Rattle.sets.specs.Writing.{Room, WrittenAt}
 use Rattle.sets.proofs.ListLaws.{concat_grows}
@@ -59,6 +62,16 @@ same_written e w = rw e w
 pub from_start : {text before after : List ℕ} {answer : ℕ} → Room text before 0 → WrittenAt text before 0 after answer
     → after ≡ text ++ drop (length text) before
 from_start {text} {before} r w = let e : 0 + length text ≡ length text = omega arith in w.stored ∙ rw e at (sets-eq text before 0 r.fits)
+
+-- the part of n places from `at` on, where it is the text
+pub part_written : {A : Type 0} {text out part : List A} {at : ℕ} (n : ℕ) → Room text out at → part ≡ text → length text ≡ n
+    → WrittenAt text out at (put_mid at n out part) (at + length text)
+part_written {A} {text} {out} {part} {at} n r e l = record {
+  place = refl;
+  stored =
+      put_mid-paste at n out part text (length text) e l refl ∙ paste_all out at text (length text) refl
+      ∙ sym (simp append_assoc at (sets-eq text out at r.fits));
+}
 
 -- ---- a block of `kept`: written where it is kept, and nothing elsewhere
 
