@@ -21,7 +21,7 @@ use at_configuration::{holds_at, is_present, taken_at};
 use decoders::{comparison_operands, decode_comparison, decode_query, query_operands};
 use kept_lists::new_relation;
 use report::{Comparison, Operands, Query};
-use sets::AttributeSet;
+use sets::{AttributeSet, put};
 
 // The new number of what a form that refers to these forms leads to at c, where `kept` forms below it are kept and `numbers` has those of lower ones.
 fn form_number(to: Operands, c: usize, kept: usize, expression_rows: &[u64], numbers: &[u16]) -> u16
@@ -83,25 +83,12 @@ pub fn number_queries(
     }
 }
 
-// Writes words.
-fn put_words(out: &mut [u16], at: usize, words: &[u16]) -> usize
-    requires { Room words.now out.old at }
-    ensures { WrittenAt words.now out.old at out.new result }
-{
-    let mut i = 0;
-    while i < words.len() {
-        out[at + i] = words[i];
-        i += 1;
-    }
-    at + i
-}
-
 // Writes a comparison of the kind, which has no operator, with two words.
 fn put_comparison(out: &mut [u16], at: usize, kind: u16, a: u16, b: u16) -> usize
     requires { Room (kind ∷ 0 ∷ a ∷ b ∷ 0 ∷ []) out.old at }
     ensures { WrittenAt (kind ∷ 0 ∷ a ∷ b ∷ 0 ∷ []) out.old at out.new result }
 {
-    put_words(out, at, &[kind, 0, a, b, 0])
+    put(out, at, &[kind, 0, a, b, 0])
 }
 
 // Writes a comparison of an attribute with a constant, whose kind is k, or with an attribute, where k is 0.
@@ -109,7 +96,7 @@ fn put_atom(out: &mut [u16], at: usize, kind: u16, o: usize, a: usize, b: usize,
     requires { AtomWritable kind o a b k out.old at }
     ensures { WrittenAt (kind ∷ o ∷ a ∷ b ∷ k ∷ []) out.old at out.new result }
 {
-    put_words(out, at, &[kind, o as u16, a as u16, b as u16, k as u16])
+    put(out, at, &[kind, o as u16, a as u16, b as u16, k as u16])
 }
 
 // Writes a comparison that is no choice, with the new numbers of its operands.
@@ -165,7 +152,7 @@ fn put_query(out: &mut [u16], at: usize, kind: u16, a: u16, b: u16) -> usize
     requires { Room (kind ∷ a ∷ b ∷ 0 ∷ []) out.old at }
     ensures { WrittenAt (kind ∷ a ∷ b ∷ 0 ∷ []) out.old at out.new result }
 {
-    put_words(out, at, &[kind, a, b, 0])
+    put(out, at, &[kind, a, b, 0])
 }
 
 // Writes a form of relation a, with its new number. Where the relation is absent at c it is an empty one.

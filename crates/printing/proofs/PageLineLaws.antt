@@ -1,70 +1,84 @@
 -- One line of the page: the pieces that it is written in, and how long they are.
-use Prim.Native.Nat.{ℕ, ◌+◌, ◌-◌, ◌/◌, ◌%◌, ◌≤◌, ◌<◌, ◌^◌}
+use Prim.Native.Nat.{ℕ, zero, suc, ◌+◌, ◌-◌, ◌*◌, ◌/◌, ◌%◌, ◌≤◌, ◌<◌, ◌^◌, max}
 use mathlib.Core.Path.{◌≡◌, refl, sym, ap, ◌∙◌}
 use mathlib.Core.List.{List, [], ◌∷◌, ◌++◌, append_assoc}
+use native.Mathlib.Nat.{div-add-mod', pow-suc}
+use native.Mathlib.Numerals.{add-one}
 use native.Mathlib.Omega.{arith}
-use lib.ListN.{length, set, length-append}
+use borrow.Rule.Slice.PartMut.{put_mid}
+use lib.ListN.{length, set, replicate, length-append}
 use Rattle.sets.specs.Lists.{table}
 use Rattle.sets.specs.Bits.{bit, member_count}
 use Rattle.sets.specs.Writing.{Room, WrittenAt}
-use Rattle.sets.proofs.ListLaws.{table-length, table_at}
+use Rattle.sets.proofs.ListLaws.{table-length, table_suc}
 use Rattle.sets.proofs.SearchLaws.{count_le}
-use Rattle.sets.proofs.WritingLaws.{Copied, copied_none, copied_more, copied_all}
+use Rattle.sets.proofs.WritingLaws.{and_then, one_written, part_written, same_length}
 use Rattle.report.specs.Text.{decimal}
-use Rattle.report.proofs.TextLaws.{decimal_small, decimal_step, decimal-not_empty, decimal-length}
+use Rattle.report.proofs.TextLaws.{decimal_ind, decimal-length}
 use Rattle.printing.specs.Page.{aligned, mark, marks, page_line}
 
--- ---- the digits of a number, counted from the last
+-- ---- how many digits a number has
 
--- `count` counts the last digit of `rest` and those that stood after it
-pub record Counted (n rest count : ℕ) : Type 0 where
-  pub all : count + length (decimal rest) ≡ length (decimal n) + 1
-  pub few : length (decimal n) ≤ 20
+ten_powers : (k : ℕ) → 0 < 10 ^ k
+ten_powers zero = omega arith
+ten_powers (suc k) = omega (arith, pow-suc 10 k, ten_powers k)
 
-pub counted_none : (n : ℕ) → n < 2 ^ 64 → Counted n n 1
-counted_none n h = record { all = omega arith; few = decimal-length n 20 (omega arith) (omega arith) }
+-- a number that is the k-th power of 10 or more has more than k digits; 0 has one digit, as 1 has
+digits_least : (n k : ℕ) → 10 ^ k ≤ max n 1 → k < length (decimal n)
+digits_least = decimal_ind (λ n ds. (k : ℕ) → 10 ^ k ≤ max n 1 → k < length ds) one more
+  where
+    one : (n : ℕ) → n < 10 → (k : ℕ) → 10 ^ k ≤ max n 1 → k < 1
+    one n h zero l = omega arith
+    one n h (suc k) l = omega (arith, pow-suc 10 k, ten_powers k)
 
-module _ {n rest count : ℕ} (C : Counted n rest count) where
-  pub counted_more : 10 ≤ rest → Counted n (rest / 10) (count + 1)
-  counted_more h = record {
-    all =
-        omega (
-          arith,
-          C.all,
-          ap length (decimal_step rest h),
-          length-append (decimal (rest / 10)) ((48 + rest % 10) ∷ []),
-        );
-    few = C.few;
-  }
+    more : (n : ℕ) → 10 ≤ n → ((k : ℕ) → 10 ^ k ≤ max (n / 10) 1 → k < length (decimal (n / 10)))
+        → (k : ℕ) → 10 ^ k ≤ max n 1 → k < length (decimal (n / 10) ++ ((48 + n % 10) ∷ []))
+    more n h before zero l = omega (arith, length-append (decimal (n / 10)) ((48 + n % 10) ∷ []))
+    more n h before (suc k) l =
+        let b = before k (omega (arith, pow-suc 10 k, div-add-mod' n 10)) in
+        omega (arith, length-append (decimal (n / 10)) ((48 + n % 10) ∷ []))
 
-  pub counted_all : rest < 10 → count ≡ length (decimal n)
-  counted_all h = omega (arith, C.all, ap length (decimal_small rest h))
-
-  pub counted_few : count ≤ 20
-  counted_few = omega (arith, C.all, C.few, decimal-not_empty rest)
+pub digits_counted : (n k : ℕ) → 10 ^ k ≤ max n 1 → max n 1 < 10 * 10 ^ k → k + 1 ≡ length (decimal n)
+digits_counted n k l h = omega (arith, digits_least n k l, decimal-length n (suc k) (omega arith) (omega (arith, pow-suc 10 k)))
 
 -- ---- a loop that writes the n numbers f 0, f 1, .. from `at` on, one a turn
 
 -- i of them are written
 pub record TableWriting (n : ℕ) (f : ℕ → ℕ) (first : List ℕ) (at : ℕ) (out : List ℕ) (i : ℕ) : Type 0 where
-  pub copied : Copied (table n f) first at out i
+  pub written : WrittenAt (table i f) first at out (at + i)
 
 module _ {n : ℕ} {f : ℕ → ℕ} {first : List ℕ} {at : ℕ} where
   pub table_none : TableWriting n f first at first 0
-  table_none = record { copied = copied_none }
+  table_none = record { written = record { place = refl; stored = refl } }
 
   module _ {out : List ℕ} {i : ℕ} (w : TableWriting n f first at out i) where
     -- there is a place for the next number
     pub table_place : Room (table n f) first at → i < n → at + i < length out
-    table_place room h = omega (arith, room.fits, table-length n f, w.copied.long)
+    table_place room h = omega (arith, room.fits, table-length n f, same_length w.written)
 
-    pub table_more : {v : ℕ} → i < n → v ≡ f i → TableWriting n f first at (set out (at + i) v) (i + 1)
-    table_more h e = record { copied = rw (e ∙ sym (table_at n f 0 i h)) (copied_more w.copied (omega (arith, table-length n f))) }
+    pub table_more : {v : ℕ} → v ≡ f i → TableWriting n f first at (set out (at + i) v) (i + 1)
+    table_more {v} e =
+        let p : at + i + 1 ≡ at + (i + 1) = omega arith in
+        record { written = rw (add-one i, table_suc i f) (rw (← e, ← add-one i, ← p) (and_then w.written (one_written out (at + i) v))) }
 
-    pub table_all : n ≤ i → WrittenAt (table n f) first at out (at + i)
-    table_all h = copied_all w.copied (omega (arith, table-length n f))
+    pub table_all : n ≤ i → i ≤ n → WrittenAt (table n f) first at out (at + n)
+    table_all h l = let e : i ≡ n = omega arith in rw e at w.written
 
 -- ---- the pieces
+
+-- the spaces before the digits: room for them, and the part of so many places that is filled with them
+pub spaces_place : (count : ℕ) {out : List ℕ} {at : ℕ} → Room (table count (λ i. 32)) out at → at + count ≤ length out
+spaces_place count r = omega (arith, r.fits, table-length {A = ℕ} count (λ i. 32))
+
+spaces : (count : ℕ) → replicate {A = ℕ} count 32 ≡ table count (λ i. 32)
+spaces zero = refl
+spaces (suc count) = ap (λ (l : List ℕ). 32 ∷ l) (spaces count)
+
+pub spaces_written : (count n : ℕ) {out part : List ℕ} {at : ℕ} → Room (table count (λ i. 32)) out at → count ≡ n → part ≡ replicate n 32
+    → WrittenAt (table count (λ i. 32)) out at (put_mid at n out part) (at + count)
+spaces_written count n r e f =
+    let l = table-length {A = ℕ} count (λ i. 32) in
+    rw l at (part_written n r (f ∙ ap (λ (k : ℕ). replicate k 32) (sym e) ∙ spaces count) (l ∙ e))
 
 pub aligned_pieces : (width n : ℕ) → aligned width n ≡ table (width - length (decimal n)) (λ i. 32) ++ decimal n
 unfolding aligned

@@ -4,8 +4,8 @@ ghost use Rattle.sets.specs.Writing.{WrittenAt};
 ghost use Rattle.report.specs.ColumnRows.{shown};
 ghost use Rattle.printing.specs.ColumnLines.{configuration_text, accepted_text, RowsRead, ConfigurationRead, AcceptedRead};
 
-use sets::{AttributeSet, Row};
-use writing::{put_at_line, put_bytes};
+use sets::{AttributeSet, Row, put};
+use writing::put_at_line;
 
 // The attributes that the rows show at configuration c.
 pub fn shown_at(rows: &[u64], c: usize) -> AttributeSet
@@ -13,11 +13,9 @@ pub fn shown_at(rows: &[u64], c: usize) -> AttributeSet
     ensures { result.bits ≡ shown rows.now c }
 {
     let mut found = AttributeSet::empty();
-    let mut a = 0;
-    while a < AttributeSet::MOST_ATTRIBUTES {
+    for a in 0..AttributeSet::MOST_ATTRIBUTES {
         let word = rows[a * Row::WORDS + c / 64];
         found = found.with_if(a, (word >> (c % 64)) % 2 == 1);
-        a += 1;
     }
     found
 }
@@ -39,11 +37,9 @@ pub fn put_accepted(out: &mut [u8], at: usize, permitted: Row, count: usize, row
     requires { AcceptedRead permitted.words count rows.now out.old at }
     ensures { WrittenAt (accepted_text permitted.words count rows.now) out.old at out.new result }
 {
-    let mut p = put_bytes(out, at, b"(accepted)\n");
-    let mut c = 0;
-    while c < count {
+    let mut p = put(out, at, b"(accepted)\n");
+    for c in 0..count {
         p = put_configuration(out, p, permitted, rows, c);
-        c += 1;
     }
     p
 }

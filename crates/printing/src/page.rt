@@ -6,20 +6,14 @@ ghost use Rattle.printing.specs.Page.{aligned, mark, marks, page_line};
 ghost use Rattle.printing.specs.PageRows.{page_text, AlignedRead, LineRead, PageRead};
 
 use crate::shown_at;
-use sets::{AttributeSet, Row};
-use writing::{put_bytes, put_decimal};
+use sets::{AttributeSet, Row, put};
+use writing::put_decimal;
 
 // How many digits a number has.
 fn digit_count(n: u64) -> usize
     ensures { result ≡ length (decimal n) }
 {
-    let mut rest = n;
-    let mut count = 1;
-    while 10 <= rest {
-        rest = rest / 10;
-        count += 1;
-    }
-    count
+    n.max(1).ilog10() as usize + 1
 }
 
 // A number right-aligned in `width` characters.
@@ -28,22 +22,16 @@ fn put_aligned(out: &mut [u8], at: usize, n: u64, width: usize) -> usize
     ensures { WrittenAt (aligned width n) out.old at out.new result }
 {
     let spaces = width - digit_count(n);
-    let mut i = 0;
-    while i < spaces {
-        out[at + i] = 32;
-        i += 1;
-    }
-    put_decimal(out, at + i, n)
+    let digits = at + spaces;
+    out[at..digits].fill(b' ');
+    put_decimal(out, digits, n)
 }
 
 // The mark of an attribute: `o` where it is present, and else `.`.
 fn mark_of(present: bool) -> u8
     ensures { result ≡ mark present }
 {
-    if present {
-        return 111;
-    }
-    46
+    if present { b'o' } else { b'.' }
 }
 
 // The marks of all attributes, from 0 on.
@@ -51,12 +39,10 @@ fn put_marks(out: &mut [u8], at: usize, s: AttributeSet) -> usize
     requires { Room (marks s.bits) out.old at }
     ensures { WrittenAt (marks s.bits) out.old at out.new result }
 {
-    let mut a = 0;
-    while a < AttributeSet::MOST_ATTRIBUTES {
+    for a in 0..AttributeSet::MOST_ATTRIBUTES {
         out[at + a] = mark_of(s.has(a));
-        a += 1;
     }
-    at + a
+    at + AttributeSet::MOST_ATTRIBUTES
 }
 
 // The line of configuration c, which has the attributes of the set.
@@ -65,11 +51,11 @@ fn put_page_line(out: &mut [u8], at: usize, c: u64, s: AttributeSet) -> usize
     ensures { WrittenAt (page_line c s.bits) out.old at out.new result }
 {
     let p0 = put_aligned(out, at, c, 4);
-    let p1 = put_bytes(out, p0, b" ");
+    let p1 = put(out, p0, b" ");
     let p2 = put_marks(out, p1, s);
-    let p3 = put_bytes(out, p2, b" ");
+    let p3 = put(out, p2, b" ");
     let p4 = put_aligned(out, p3, s.count() as u64, 2);
-    put_bytes(out, p4, b"\n")
+    put(out, p4, b"\n")
 }
 
 // The line of each permitted configuration below `count`, with the marks that the column rows show.
@@ -78,13 +64,11 @@ pub fn put_page(out: &mut [u8], at: usize, permitted: Row, count: usize, rows: &
     ensures { WrittenAt (page_text permitted.words count rows.now) out.old at out.new result }
 {
     let mut p = at;
-    let mut c = 0;
-    while c < count {
+    for c in 0..count {
         if permitted.has(c) {
             let s = shown_at(rows, c);
             p = put_page_line(out, p, c as u64, s);
         }
-        c += 1;
     }
     p
 }

@@ -2,11 +2,14 @@
 use Prim.Native.Nat.{ℕ, suc, ◌+◌, ◌≤◌, ◌<◌}
 use mathlib.Core.Path.{◌≡◌, refl, sym, ap, ap₂, ◌∙◌}
 use mathlib.Core.Bool.{Bool, true, false, cond}
-use mathlib.Core.List.{List, [], ◌∷◌, ◌++◌}
+use mathlib.Core.List.{List, [], ◌∷◌, ◌++◌, append_assoc}
 use native.Mathlib.Numerals.{add-one}
 use native.Mathlib.Omega.{arith}
-use lib.ListN.{length, set, get_or, take, drop, length-append, length-set}
-use lib.Seq.{sets, length-sets, sets-eq, take-suc, take_all}
+use borrow.Rule.Slice.PartMut.{put_mid}
+use lib.ListN.{length, set, drop, length-append}
+use lib.Seq.{sets, length-sets, sets-eq}
+use Rattle.std.proofs.lemmas.Slice.{put_mid-paste}
+use Rattle.std.proofs.lemmas.List.Edits.{paste_all}
 use Rattle.sets.specs.Lists.{concat}
 use Rattle.sets.specs.Writing.{Room, WrittenAt}
 use Rattle.sets.proofs.ListLaws.{concat_grows}
@@ -55,6 +58,16 @@ pub from_start : {text before after : List ℕ} {answer : ℕ} → Room text bef
     → after ≡ text ++ drop (length text) before
 from_start {text} {before} r w = let e : 0 + length text ≡ length text = omega arith in w.stored ∙ rw e at (sets-eq text before 0 r.fits)
 
+-- the part of n places from `at` on, where it is the text
+pub part_written : {A : Type 0} {text out part : List A} {at : ℕ} (n : ℕ) → Room text out at → part ≡ text → length text ≡ n
+    → WrittenAt text out at (put_mid at n out part) (at + length text)
+part_written {A} {text} {out} {part} {at} n r e l = record {
+  place = refl;
+  stored =
+      put_mid-paste at n out part text (length text) e l refl ∙ paste_all out at text (length text) refl
+      ∙ sym (simp append_assoc at (sets-eq text out at r.fits));
+}
+
 -- ---- a block of `kept`: written where it is kept, and nothing elsewhere
 
 module _ {keep : Bool} (block : List ℕ) where
@@ -100,28 +113,3 @@ module _ {f : ℕ → List ℕ} {n : ℕ} {first : List ℕ} {at : ℕ} where
 
     pub writing_all : n ≤ k → WrittenAt (concat n f) first at out p
     writing_all h = let e : k ≡ n = omega (arith, w.within) in rw (← e) w.written
-
--- ---- a loop that copies a text, one number a turn
-
--- its first i numbers stand from `at` on
-pub record Copied (text first : List ℕ) (at : ℕ) (out : List ℕ) (i : ℕ) : Type 0 where
-  pub within : i ≤ length text
-  pub written : WrittenAt (take i text) first at out (at + i)
-  pub long : length out ≡ length first
-
-module _ {text first : List ℕ} {at : ℕ} where
-  pub copied_none : Copied text first at first 0
-  copied_none = record { within = omega arith; written = record { place = refl; stored = refl }; long = refl }
-
-  module _ {out : List ℕ} {i : ℕ} (r : Copied text first at out i) where
-    pub copied_more : i < length text → Copied text first at (set out (at + i) (get_or text i 0)) (i + 1)
-    copied_more h =
-        let e : at + i + 1 ≡ at + (i + 1) = omega arith in
-        record {
-          within = omega arith;
-          written = rw (add-one i, take-suc text i 0 h) (rw (← add-one i, ← e) (and_then r.written (one_written out (at + i) (get_or text i 0))));
-          long = length-set out (at + i) (get_or text i 0) ∙ r.long;
-        }
-
-    pub copied_all : length text ≤ i → WrittenAt text first at out (at + i)
-    copied_all h = rw (take_all i text h) at r.written

@@ -2,17 +2,13 @@
 use Rattle.std.specs.Prelude.{Ok, Err}
 use Prim.Native.Nat.{ℕ, suc, ◌+◌, ◌*◌, ◌%◌, ◌^◌, ◌≤◌, ◌<◌}
 use mathlib.Core.Path.{◌≡◌, refl, sym, ap, ◌∙◌}
-use mathlib.Core.Bool.{true, false}
 use mathlib.Core.List.{List}
-use native.Mathlib.Numerals.{add-one}
 use native.Mathlib.Omega.{arith}
 use borrow.Author.Tests.{ltb-false}
 use lib.Dec.{ltb}
 use lib.ListN.{length}
 use Rattle.sets.specs.Search.{count_below}
-use Rattle.sets.specs.Rows.{row_bit}
 use Rattle.sets.specs.Writing.{Room, WrittenAt}
-use Rattle.sets.proofs.SearchLaws.{count_yes, count_no}
 use Rattle.sets.proofs.WritingLaws.{from_start}
 use Rattle.report.specs.Tables.{Tables}
 use Rattle.report.specs.Expressions.{configurations, permitted}
@@ -31,37 +27,6 @@ use Rattle.printing.proofs.PageLaws.{permitted_count_lem, text_length, rows_page
 use Rattle.judging.specs.Judging.{report_check}
 use Rattle.judging.proofs.JudgingLaws.{call_refused, call_late, Columns, shifted_configurations, shifted_few}
 use Rattle.wall_page.specs.Page.{PageAnswer, line_count, writing_page, page_answer, PageWritten}
-
--- ---- a loop that counts the configurations of a row below `count`
-
--- those below c are counted
-pub record Tallied (permits : List ℕ) (count found c : ℕ) : Type 0 where
-  pub within : c ≤ count
-  pub least : found ≤ c
-  pub tally : found ≡ count_below (row_bit permits) c
-
-module _ {permits : List ℕ} {count : ℕ} where
-  pub tallied_none : Tallied permits count 0 0
-  tallied_none = record { within = omega arith; least = omega arith; tally = refl }
-
-  module _ {found c : ℕ} (t : Tallied permits count found c) where
-    pub tallied_yes : c < count → row_bit permits c ≡ true → Tallied permits count (found + 1) (c + 1)
-    tallied_yes h e = record {
-      within = omega arith;
-      least = omega (arith, t.least);
-      tally = add-one found ∙ ap suc t.tally ∙ sym (count_yes (row_bit permits) c e) ∙ ap (count_below (row_bit permits)) (sym (add-one c));
-    }
-
-    pub tallied_no : c < count → row_bit permits c ≡ false → Tallied permits count found (c + 1)
-    tallied_no h e = record {
-      within = omega arith;
-      least = omega (arith, t.least);
-      tally = t.tally ∙ sym (count_no (row_bit permits) c e) ∙ ap (count_below (row_bit permits)) (sym (add-one c));
-    }
-
-    pub tallied_all : count ≤ c → found ≡ permitted_count permits count
-    tallied_all h =
-        let e : c ≡ count = omega (arith, t.within) in t.tally ∙ ap (count_below (row_bit permits)) e ∙ sym (permitted_count_lem permits count)
 
 -- ---- the number of lines of the definition's page
 

@@ -24,12 +24,10 @@ fn permitted_count(row: Row, count: usize) -> usize
     ensures { result ≡ permitted_count row.words count }
 {
     let mut found = 0;
-    let mut c = 0;
-    while c < count {
+    for c in 0..count {
         if row.has(c) {
             found += 1;
         }
-        c += 1;
     }
     found
 }

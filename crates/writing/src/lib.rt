@@ -7,20 +7,7 @@ ghost use Rattle.report.specs.Text.{decimal};
 ghost use Rattle.writing.specs.Lines.{refusal_line, unread_line, member_text, members_text, configuration_line};
 
 use report::Refusal;
-use sets::AttributeSet;
-
-// A text.
-pub fn put_bytes(out: &mut [u8], at: usize, text: &[u8]) -> usize
-    requires { Room text.now out.old at }
-    ensures { WrittenAt text.now out.old at out.new result }
-{
-    let mut i = 0;
-    while i < text.len() {
-        out[at + i] = text[i];
-        i += 1;
-    }
-    at + i
-}
+use sets::{AttributeSet, put};
 
 // A number in decimal.
 pub fn put_decimal(out: &mut [u8], at: usize, n: u64) -> usize
@@ -28,11 +15,11 @@ pub fn put_decimal(out: &mut [u8], at: usize, n: u64) -> usize
     ensures { WrittenAt (decimal n) out.old at out.new result }
 {
     if n < 10 {
-        out[at] = 48 + n as u8;
+        out[at] = b'0' + n as u8;
         return at + 1;
     }
     let p = put_decimal(out, at, n / 10);
-    out[p] = 48 + (n % 10) as u8;
+    out[p] = b'0' + (n % 10) as u8;
     p + 1
 }
 
@@ -41,7 +28,7 @@ fn put_spaced(out: &mut [u8], at: usize, n: u64) -> usize
     requires { Room (32 ∷ decimal n) out.old at }
     ensures { WrittenAt (32 ∷ decimal n) out.old at out.new result }
 {
-    out[at] = 32;
+    out[at] = b' ';
     put_decimal(out, at + 1, n)
 }
 
@@ -50,12 +37,12 @@ pub fn put_refused(out: &mut [u8], at: usize, f: Refusal) -> usize
     requires { Room (refusal_line f) out.old at }
     ensures { WrittenAt (refusal_line f) out.old at out.new result }
 {
-    let p0 = put_bytes(out, at, b"(refused");
+    let p0 = put(out, at, b"(refused");
     let p1 = put_spaced(out, p0, f.number);
     let p2 = put_spaced(out, p1, f.place);
     let p3 = put_spaced(out, p2, f.item);
     let p4 = put_spaced(out, p3, f.configuration);
-    put_bytes(out, p4, b")\n")
+    put(out, p4, b")\n")
 }
 
 // The line of a file whose line n cannot be read.
@@ -63,9 +50,9 @@ pub fn put_unread(out: &mut [u8], at: usize, n: u64) -> usize
     requires { Room (unread_line n) out.old at }
     ensures { WrittenAt (unread_line n) out.old at out.new result }
 {
-    let p0 = put_bytes(out, at, b"(unread");
+    let p0 = put(out, at, b"(unread");
     let p1 = put_spaced(out, p0, n);
-    put_bytes(out, p1, b")\n")
+    put(out, p1, b")\n")
 }
 
 // Attribute a after a space, where it is in the set.
@@ -85,10 +72,8 @@ fn put_members(out: &mut [u8], at: usize, s: AttributeSet) -> usize
     ensures { WrittenAt (members_text s.bits) out.old at out.new result }
 {
     let mut p = at;
-    let mut a = 0;
-    while a < AttributeSet::MOST_ATTRIBUTES {
+    for a in 0..AttributeSet::MOST_ATTRIBUTES {
         p = put_member(out, p, s, a);
-        a += 1;
     }
     p
 }
@@ -98,9 +83,9 @@ pub fn put_at_line(out: &mut [u8], at: usize, c: u64, s: AttributeSet) -> usize
     requires { Room (configuration_line c s.bits) out.old at }
     ensures { WrittenAt (configuration_line c s.bits) out.old at out.new result }
 {
-    let p0 = put_bytes(out, at, b"(at");
+    let p0 = put(out, at, b"(at");
     let p1 = put_spaced(out, p0, c);
-    let p2 = put_bytes(out, p1, b" (has");
+    let p2 = put(out, p1, b" (has");
     let p3 = put_members(out, p2, s);
-    put_bytes(out, p3, b"))\n")
+    put(out, p3, b"))\n")
 }

@@ -3,8 +3,8 @@ use Rattle.sets.proofs.WritingLaws.{and_then, room_first, room_next, same_room, 
 use Rattle.printing.proofs.ColumnLaws.{accepted_pieces}
 use Rattle.printing.proofs.columns.put_accepted.Goals as goal
 
-pub put_bytes-p-requires : goal.put_bytes-p-requires
-put_bytes-p-requires c =
+pub put-p-requires : goal.put-p-requires
+put-p-requires c =
     room_first _ (same_room (accepted_pieces c.args.permitted.words c.args.count c.args.rows.now) c.requires.room)
 
 pub put_configuration-p-requires : goal.put_configuration-p-requires
@@ -15,7 +15,7 @@ put_configuration-p-requires c =
       room =
           writing_room c.loop-c.invariant
           (room_next (same_room (accepted_pieces c.args.permitted.words c.args.count c.args.rows.now) c.requires.room)
-          c.put_bytes-p.ensures) h;
+          c.put-p.ensures) h;
     }
 
 pub loop-c-preserved : goal.loop-c-preserved
@@ -25,4 +25,4 @@ loop-c-preserved c =
 pub returns : goal.returns
 returns c =
     same_written (accepted_pieces c.args.permitted.words c.args.count c.args.rows.now)
-    (and_then c.put_bytes-p.ensures (writing_all c.loop-c.invariant c.loop-c-test.false))
+    (and_then c.put-p.ensures (writing_all c.loop-c.invariant c.loop-c-test.false))

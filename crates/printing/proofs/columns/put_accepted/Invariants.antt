@@ -1,11 +1,7 @@
 -- The first line, and after c turns the lines of the permitted configurations below c.
-use Prim.Native.Nat.{◌-◌}
 use Rattle.sets.proofs.WritingLaws.{Writing}
 use Rattle.printing.specs.ColumnLines.{configuration_text}
 use Rattle.printing.proofs.columns.put_accepted.Given as goal
 
 abbrev pub invariant-loop-c : goal.invariant-loop-c
 invariant-loop-c l = Writing (configuration_text l.permitted.words l.rows) l.count l.initial.out l.initial.p l.out l.c l.p
-
-abbrev pub decreases-loop-c : goal.decreases-loop-c
-decreases-loop-c l = l.count - l.c

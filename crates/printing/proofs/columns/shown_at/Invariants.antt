@@ -1,10 +1,6 @@
 -- Attribute by attribute: of those passed the set has the ones that the rows show.
-use Prim.Native.Nat.{◌-◌}
 use Rattle.printing.proofs.ColumnLaws.{Showing}
 use Rattle.printing.proofs.columns.shown_at.Given as goal
 
 abbrev pub invariant-loop-a : goal.invariant-loop-a
 invariant-loop-a l = Showing l.rows l.c l.found.bits l.a
-
-abbrev pub decreases-loop-a : goal.decreases-loop-a
-decreases-loop-a l = 64 - l.a

@@ -1,34 +1,31 @@
-use mathlib.Core.Path.{refl}
+use Prim.Native.Nat.{◌+◌, ◌-◌, ◌≤◌}
 use native.Mathlib.Omega.{arith}
+use lib.ListN.{length}
+use Rattle.std.proofs.Common.{rules}
 use Rattle.sets.proofs.WritingLaws.{and_then, room_first, room_next, same_room, same_written}
-use Rattle.printing.proofs.PageLineLaws.{table_place, table_more, table_all, aligned_spaces}
+use Rattle.printing.proofs.PageLineLaws.{aligned_spaces, spaces_place, spaces_written}
 use Rattle.printing.proofs.page.put_aligned.Goals as goal
 
-pub overflow_add-out : goal.overflow_add-out
-overflow_add-out c =
+pub overflow_add-digits : goal.overflow_add-digits
+overflow_add-digits c =
     let pieces = aligned_spaces c.args.width c.args.n c.digit_count.ensures in
-    omega (arith, table_place c.loop-i.invariant (room_first _ (same_room pieces c.requires.room)) c.loop-i-test.true)
+    omega (arith, spaces_place (c.args.width - c.digit_count.result) (room_first _ (same_room pieces c.requires.room)))
 
-pub bounds-out-at : goal.bounds-out-at
-bounds-out-at c =
+pub slice_bounds-fill-end : goal.slice_bounds-fill-end
+slice_bounds-fill-end c =
     let pieces = aligned_spaces c.args.width c.args.n c.digit_count.ensures in
-    table_place c.loop-i.invariant (room_first _ (same_room pieces c.requires.room)) c.loop-i-test.true
-
-pub loop-i-preserved : goal.loop-i-preserved
-loop-i-preserved c = table_more c.loop-i.invariant c.loop-i-test.true refl
-
-pub overflow_add-at : goal.overflow_add-at
-overflow_add-at c =
-    let pieces = aligned_spaces c.args.width c.args.n c.digit_count.ensures in
-    let r = room_next (same_room pieces c.requires.room) (table_all c.loop-i.invariant c.loop-i-test.false) in
-    omega (arith, r.fits)
+    let h : c.args.at + (c.args.width - c.digit_count.result) ≤ length c.args.out.now =
+    spaces_place (c.args.width - c.digit_count.result) (room_first _ (same_room pieces c.requires.room)) in
+    search rules
 
 pub put_decimal-requires : goal.put_decimal-requires
 put_decimal-requires c =
     let pieces = aligned_spaces c.args.width c.args.n c.digit_count.ensures in
-    room_next (same_room pieces c.requires.room) (table_all c.loop-i.invariant c.loop-i-test.false)
+    let r = same_room pieces c.requires.room in
+    room_next r (spaces_written (c.args.width - c.digit_count.result) _ (room_first _ r) (omega arith) (search rules))
 
 pub returns : goal.returns
 returns c =
     let pieces = aligned_spaces c.args.width c.args.n c.digit_count.ensures in
-    same_written pieces (and_then (table_all c.loop-i.invariant c.loop-i-test.false) c.put_decimal.ensures)
+    let r = same_room pieces c.requires.room in
+    same_written pieces (and_then (spaces_written (c.args.width - c.digit_count.result) _ (room_first _ r) (omega arith) (search rules)) c.put_decimal.ensures)

@@ -1,5 +1,4 @@
 -- Attribute by attribute: the marks below a stand.
-use Prim.Native.Nat.{◌-◌}
 use Rattle.sets.specs.Bits.{bit}
 use Rattle.printing.specs.Page.{mark}
 use Rattle.printing.proofs.PageLineLaws.{TableWriting}
@@ -7,6 +6,3 @@ use Rattle.printing.proofs.page.put_marks.Given as goal
 
 abbrev pub invariant-loop-a : goal.invariant-loop-a
 invariant-loop-a l = TableWriting 64 (λ k. mark (bit l.s.bits k)) l.initial.out l.at l.out l.a
-
-abbrev pub decreases-loop-a : goal.decreases-loop-a
-decreases-loop-a l = 64 - l.a

@@ -1,5 +1,4 @@
 use mathlib.Core.Path.{sym, ◌∙◌}
-use mathlib.Core.Logic.{⊎_elim}
 use native.Mathlib.Omega.{arith}
 use Rattle.sets.proofs.WritingLaws.{same_room, same_written, kept_room, kept_written, dropped_written}
 use Rattle.sets.proofs.WritingLaws.{writing_all, writing_more, writing_room}
