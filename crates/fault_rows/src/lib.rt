@@ -317,7 +317,6 @@ pub fn fill_faults(
         → FailsFilled T scope.reading scope.items fault_rows.old fault_rows.new spared_sets.old
         spared_sets.new columns.old columns.new }
 {
-    let reading = scope.reading;
     let mut named_rows = [0; Limits::MOST_COMPARISONS * Row::WORDS];
     let mut relation_rows = [0; Limits::MOST_RELATIONS * Row::WORDS];
     let mut form_rows = [0; Limits::MOST_QUERIES * Row::WORDS];
@@ -339,7 +338,7 @@ pub fn fill_faults(
             &mut relation_rows,
         );
         type_forms(
-            reading,
+            scope.reading,
             a,
             expression_rows,
             project_entries,
