@@ -5,7 +5,7 @@
 ghost use Rattle.std.specs.Prelude.{◌≡◌, ◌+◌, ◌*◌, ◌^◌, ◌<◌, ◌≤◌, length, get_or, set};
 ghost use Rattle.std.specs.Int.Bits.{bit_or};
 ghost use Rattle.sets.specs.Lists.{concat};
-ghost use Rattle.sets.specs.Rows.{row_in, row_join, row_intersect, row_minus, with_row};
+ghost use Rattle.sets.specs.Rows.{row_in, row_join, row_intersect, with_row};
 ghost use Rattle.report.specs.Tables.{Tables, query_count};
 ghost use Rattle.report.specs.Configuring.{written};
 ghost use Rattle.report.specs.declared.Reading.{Reading};
