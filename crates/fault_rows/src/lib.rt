@@ -136,34 +136,6 @@ fn is_spared(
     }
 }
 
-// The configurations of `reached`, which has those that reach the form, at which item a is at fault in it.
-fn fault_row(
-    x: Query,
-    listed: Row,
-    reached: Row,
-    a: usize,
-    expression_rows: &[u64],
-    relations: &[u16],
-    named_rows: &[u64],
-    form_rows: &[u64],
-) -> Row
-    requires { FaultRead expression_rows.now relations.now named_rows.now form_rows.now x }
-    ensures { result.words ≡ row_intersect 16 (fault_step expression_rows.now relations.now named_rows.now
-        form_rows.now listed.words reached.words a x) reached.words }
-{
-    form_faults(
-        x,
-        listed,
-        reached,
-        a,
-        expression_rows,
-        relations,
-        named_rows,
-        form_rows,
-    )
-    .intersect(reached)
-}
-
 // Row q of `fault_rows` joined with `here`.
 fn join_fault(here: Row, q: usize, fault_rows: &mut [u64])
     requires { q * 16 + 16 ≤ length fault_rows.old }
@@ -182,8 +154,8 @@ fn spare_item(a: usize, q: usize, spared_sets: &mut [u64])
     spared_sets[q] = all.bits;
 }
 
-// Item a in form q: one that is spared goes to set q of `spared_sets`, and of any other row q of `fault_rows` is joined with the configurations at which it
-// is at fault.
+// Item a in form q: one that is spared goes to set q of `spared_sets`, and of any other row q of `fault_rows` is joined with the configurations of
+// `reached`, which has those that reach the form, at which it is at fault.
 fn judge_item(
     reading: Reading,
     x: Query,
@@ -216,7 +188,7 @@ fn judge_item(
     ) {
         spare_item(a, q, spared_sets);
     } else {
-        let here = fault_row(
+        let faults = form_faults(
             x,
             listed,
             reached,
@@ -226,7 +198,7 @@ fn judge_item(
             named_rows,
             form_rows,
         );
-        join_fault(here, q, fault_rows);
+        join_fault(faults.intersect(reached), q, fault_rows);
     }
 }
 
