@@ -1,18 +1,16 @@
 -- Laws of the rows of comparisons, of names and of clashes alike.
-use Prim.Native.Nat.{ℕ, ◌+◌, ◌/◌, ◌<◌, ◌≤◌}
+use Prim.Native.Nat.{ℕ, ◌+◌, ◌/◌, ◌<◌}
 use mathlib.Core.Path.{◌≡◌, sym, ap, ap₂, ◌∙◌}
 use mathlib.Core.Bool.{Bool, true, false, cond, ◌||◌}
 use mathlib.Core.List.{List}
 use native.Mathlib.Omega.{arith}
 use lib.Bits.{bit_or}
 use lib.ListN.{length}
-use Rattle.sets.specs.Lists.{concat}
 use Rattle.sets.specs.Rows.{row_of, row_join, with_row, within, RowsAre}
 use Rattle.sets.proofs.RowLaws.{join_within, none_within}
 use Rattle.report.specs.Tables.{Tables, comparison, comparison_count, expression_count, kind_in, kind_of}
 use Rattle.report.specs.Typing.{at, gathered_of, gathered}
 use Rattle.report.specs.Operands.{comparison_operands}
-use Rattle.report.specs.Configuring.{written}
 use Rattle.report.specs.Formed.{Formed, ComparisonLower}
 use Rattle.report.specs.declared.Comparison.{Comparison}
 use Rattle.report.specs.declared.Operands.{Operands}
@@ -21,7 +19,7 @@ use Rattle.report.proofs.StepLaws.{gathered_in}
 use Rattle.comparisons.specs.Gathering.{own_of, shows}
 use Rattle.comparisons.specs.declared.Gathered.{Gathered}
 use Rattle.comparisons.proofs.OwnLaws.{shows-or}
-use Rattle.expression_rows.proofs.RowsFilling.{RowsFilling, filling_more, filling_all}
+use Rattle.expression_rows.proofs.RowsFilling.{RowsFilling, filling_more}
 use Rattle.attribute_rows.specs.AttributeRows.{gathered_row, GatheredReads, GatheredReadable}
 use Rattle.attribute_rows.specs.RowRules.{gathered_step, OperandsLower, GatheredRead}
 use Rattle.attribute_rows.proofs.AttributeLaws.{row_same, taken_within, choice_of, gathered_wide}

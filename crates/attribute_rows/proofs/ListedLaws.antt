@@ -1,15 +1,14 @@
 -- Laws of the rows of lists and relations.
-use Prim.Native.Nat.{ℕ, ◌+◌, ◌*◌, ◌/◌, ◌^◌, ◌<◌, ◌≤◌}
-use mathlib.Core.Path.{◌≡◌, refl, sym, ap, ap₂, ◌∙◌}
+use Prim.Native.Nat.{ℕ, ◌+◌, ◌/◌, ◌^◌, ◌<◌}
+use mathlib.Core.Path.{◌≡◌, sym, ap, ap₂, ◌∙◌}
 use mathlib.Core.Bool.{Bool, true, false, cond, ◌&&◌, ◌||◌, and-true, and-false, or-false}
 use mathlib.Core.List.{List}
 use native.Mathlib.Numerals.{add-one}
 use native.Mathlib.Omega.{arith}
-use borrow.Author.Tests.{lt-ltb, eq-eqb, ne_eqb}
+use borrow.Author.Tests.{lt-ltb}
 use lib.Dec.{eqb}
 use lib.Bits.{bit_or}
 use lib.ListN.{length}
-use Rattle.sets.specs.Lists.{concat}
 use Rattle.sets.specs.Bits.{bit}
 use Rattle.sets.specs.Rows.{row_of, row_in, row_join, row_intersect, with_row, within}
 use Rattle.sets.proofs.BitLaws.{bit_none, bit-or, bit_pow}
@@ -17,12 +16,11 @@ use Rattle.sets.proofs.RowLaws.{join_within}
 use Rattle.report.specs.Tables.{Tables, expression_count, entry_count, entry_attribute, entry_expression}
 use Rattle.report.specs.Tables.{relation_count, relation_expression, relation_length, relation_start}
 use Rattle.report.specs.Typing.{at, joined_set, relation_set}
-use Rattle.report.specs.Configuring.{written}
 use Rattle.report.proofs.FormedFacts.{entry_expression_lem, relation_expression_lem}
 use Rattle.report.proofs.EntryParts.{relation_part, relation_in_part}
-use Rattle.expression_rows.proofs.RowsFilling.{RowsFilling, filling_none, filling_more, filling_all}
-use Rattle.attribute_rows.specs.AttributeRows.{has_row, list_row, relation_row, ListRowReads, ListRowReadable, RelationRowReads, RelationRowReadable}
-use Rattle.attribute_rows.specs.RowRules.{entry_row, EntryRead, RelationAt, SomeRelation}
+use Rattle.expression_rows.proofs.RowsFilling.{RowsFilling, filling_more}
+use Rattle.attribute_rows.specs.AttributeRows.{has_row, list_row, relation_row, ListRowReads, RelationRowReads}
+use Rattle.attribute_rows.specs.RowRules.{entry_row, RelationAt}
 use Rattle.attribute_rows.proofs.AttributeLaws.{row_same, relation_wide, has_none, has_where}
 
 -- ---- one entry more
@@ -133,7 +131,6 @@ module _ {expression_rows entries relations : List ℕ} {a : ℕ} {lent relation
     related_at R = record { reads = R; inside = rw R.relations_are at h; starts = rw R.relations_are at S.starts }
 
     module _ {n : ℕ} (e : n ≡ relation_length relations r) where
-
       pub related_more : {row after : List ℕ} → ((T : Tables) → RelationAt T expression_rows entries relations r start → row ≡ relation_row T a r)
           → length after ≡ length relation_rows → after ≡ with_row 16 relation_rows r row
           → RelationsFilling expression_rows entries relations a lent after (r + 1) (start + n)

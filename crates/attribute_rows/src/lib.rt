@@ -3,16 +3,16 @@
 // that others share is worked out once.
 #![tactic(auto)]
 
-ghost use Rattle.std.specs.Prelude.{◌≡◌, false, cond, ℕ, ◌+◌, ◌*◌, ◌≤◌, length};
+ghost use Rattle.std.specs.Prelude.{◌≡◌, ℕ, ◌+◌};
 ghost use Rattle.sets.specs.Lists.{concat};
-ghost use Rattle.sets.specs.Rows.{row_of, row_in, row_join, row_intersect, row_minus};
+ghost use Rattle.sets.specs.Rows.{row_join, row_intersect, row_minus};
 ghost use Rattle.report.specs.Tables.{Tables, kind_in, relation_count, comparison_count};
 ghost use Rattle.report.specs.Operands.{comparison_operands};
 ghost use Rattle.report.specs.Configuring.{written};
 ghost use Rattle.comparisons.specs.Gathering.{shows, own_of};
 ghost use Rattle.attribute_rows.specs.AttributeRows.{list_row, relation_row, gathered_row, ListRowReads, ListRowReadable};
 ghost use Rattle.attribute_rows.specs.AttributeRows.{RelationRowReads, RelationRowReadable, GatheredReads, GatheredReadable};
-ghost use Rattle.attribute_rows.specs.RowRules.{choice_row, entry_row, EntryRead, RelationAt, SomeRelation};
+ghost use Rattle.attribute_rows.specs.RowRules.{entry_row, EntryRead, RelationAt, SomeRelation};
 ghost use Rattle.attribute_rows.specs.RowRules.{gathered_step, GatheredRead, set_step, SetRead};
 
 use comparisons::{Gathered, own_shows};
@@ -113,8 +113,8 @@ pub fn fill_gathered_rows(
     let count = comparisons.len() / 5;
     for f in 0..count {
         let x = decode_comparison(comparisons, f);
-        let r = gathered_row(x, what, a, full, expression_rows, kinds, &*rows);
-        r.store(&mut *rows, f);
+        let r = gathered_row(x, what, a, full, expression_rows, kinds, rows);
+        r.store(rows, f);
     }
 }
 
@@ -154,7 +154,7 @@ pub fn fill_relation_rows(
     let mut start = 0;
     for r in 0..count {
         let row = relation_row(r, start, a, expression_rows, relation_entries, relations);
-        row.store(&mut *relation_rows, r);
+        row.store(relation_rows, r);
         start += relation_length(relations, r);
     }
 }

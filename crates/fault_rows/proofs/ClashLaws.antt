@@ -1,15 +1,14 @@
 -- Laws of the second phase: clashes of kinds, in the forms that fail nowhere in the first.
-use Prim.Native.Nat.{ℕ, ◌+◌, ◌*◌, ◌/◌, ◌<◌, ◌≤◌}
+use Prim.Native.Nat.{ℕ, ◌+◌, ◌/◌, ◌<◌, ◌≤◌}
 use mathlib.Core.Path.{◌≡◌, refl, sym, ap, ap₂, ◌∙◌}
 use mathlib.Core.Bool.{Bool, true, false, cond, not, ◌&&◌, and-false}
 use mathlib.Core.List.{List}
 use native.Mathlib.Nat.{le_refl}
-use native.Mathlib.Omega.{arith}
 use lib.Dec.{eqb}
 use lib.ListN.{length}
 use Rattle.sets.specs.Search.{some_below}
 use Rattle.sets.specs.Lists.{concat}
-use Rattle.sets.specs.Rows.{row_of, row_in, row_is_empty, row_intersect, with_row, RowsAre}
+use Rattle.sets.specs.Rows.{row_of, row_in, row_intersect, with_row, RowsAre}
 use Rattle.sets.proofs.SearchLaws.{same_truth, some_at, at_some}
 use Rattle.sets.proofs.RowLaws.{row_of_same, row_of_row, empty_row_of, rows_are}
 use Rattle.report.specs.Tables.{Tables, query, comparison_count, query_count}
@@ -25,7 +24,7 @@ use Rattle.report.proofs.ReadingLaws.{faults_later}
 use Rattle.report.proofs.TypingLaws.{permitted_within, permitted_1024, fails_permitted}
 use Rattle.comparisons.specs.declared.Gathered.{Gathered}
 use Rattle.expression_rows.specs.ExpressionRows.{reach_row}
-use Rattle.expression_rows.proofs.RowsFilling.{RowsFilling, filling_none, filling_more, filling_rest, filling_all}
+use Rattle.expression_rows.proofs.RowsFilling.{RowsFilling, filling_more, filling_rest, filling_all}
 use Rattle.attribute_rows.specs.AttributeRows.{gathered_row}
 use Rattle.fault_rows.specs.FaultRows.{fails_row, fails_at, failing_row, ClashReads, ClashReadable}
 use Rattle.fault_rows.specs.FaultRules.{clash_step, ClashRead, first_found}

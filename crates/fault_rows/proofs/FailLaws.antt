@@ -28,10 +28,10 @@ use Rattle.expression_rows.specs.declared.Scope.{Scope}
 use Rattle.expression_rows.specs.TypingReads.{Items, TypingReads}
 use Rattle.expression_rows.proofs.RowsFilling.{RowsFilling, filling_none, filling_more, filling_all}
 use Rattle.report.proofs.TypingLaws.{column_wide}
-use Rattle.attribute_rows.specs.AttributeRows.{relation_row, gathered_row, RelationRowReads, RelationRowReadable, GatheredReads, GatheredReadable}
+use Rattle.attribute_rows.specs.AttributeRows.{relation_row, gathered_row, RelationRowReads, GatheredReads}
 use Rattle.attribute_rows.proofs.AttributeLaws.{relations_are_lem, gathered_are}
 use Rattle.fault_rows.specs.FaultRows.{faulty_row, fails_row, FailReadable, FailsFilled}
-use Rattle.fault_rows.specs.FaultRules.{spared_below, FormRowsReads, FormRowsReadable, FormsFilled, stored_column, ColumnRead}
+use Rattle.fault_rows.specs.FaultRules.{spared_below, FormRowsReads, FormRowsReadable, FormsFilled, stored_column}
 use Rattle.fault_rows.proofs.TypeLaws.{faulty_wide}
 use Rattle.fault_rows.proofs.FoundLaws.{spared_none}
 use Rattle.fault_rows.proofs.FaultLaws.{spared_all, faulty_fails}

@@ -4,7 +4,7 @@ use mathlib.Core.Path.{◌≡◌, refl, sym, ap, ap₂, ◌∙◌}
 use mathlib.Core.Bool.{Bool, true, false, cond, not, ◌&&◌, ◌||◌, xor, and-true, and-false}
 use mathlib.Core.List.{List}
 use native.Mathlib.Omega.{arith}
-use borrow.Author.Tests.{lt-ltb, eq-eqb, ne_eqb}
+use borrow.Author.Tests.{lt-ltb}
 use lib.Bits.{bit_and, bit_xor}
 use lib.Dec.{ltb, eqb}
 use Rattle.sets.specs.Bits.{bit, difference}
@@ -25,7 +25,7 @@ use Rattle.expression_rows.specs.ExpressionRows.{TruthFilled, reach_row}
 use Rattle.attribute_rows.specs.AttributeRows.{has_row, list_row, gathered_row, set_row}
 use Rattle.attribute_rows.proofs.AttributeLaws.{row_same, has_none, has_and}
 use Rattle.fault_rows.specs.FaultRows.{fault_row}
-use Rattle.fault_rows.specs.FaultRules.{unequal_row, absent_row, AbsentRead, fault_step, FaultRead}
+use Rattle.fault_rows.specs.FaultRules.{unequal_row, fault_step, FaultRead}
 
 -- ---- rows of sets
 

@@ -6,7 +6,7 @@ use mathlib.Core.List.{List}
 use native.Mathlib.Nat.{not-suc-le-zero}
 use native.Mathlib.Decide.{dec_lt}
 use native.Mathlib.Omega.{arith}
-use borrow.Author.Tests.{lt-ltb, le-ltb, eq-eqb, ne_eqb}
+use borrow.Author.Tests.{lt-ltb, le-ltb}
 use lib.Bits.{bit_and, bit_or}
 use lib.Dec.{ltb, eqb}
 use lib.Pow.{pow_mono}
@@ -29,16 +29,8 @@ use Rattle.report.proofs.TreeLaws.{reached-permitted}
 use Rattle.report.proofs.TypingLaws.{permitted_within}
 use Rattle.expression_rows.specs.ExpressionRows.{TruthFilled, reach_row}
 use Rattle.attribute_rows.specs.AttributeRows.{list_row, set_row}
-use Rattle.fault_rows.specs.FaultRules.{present_in, AbsentRead, found_step, spared_step, spared_below}
+use Rattle.fault_rows.specs.FaultRules.{present_in, found_step, spared_step, spared_below}
 use Rattle.fault_rows.proofs.FormLaws.{cut_within}
-
--- ---- a relation that is present
-
-module _ {expression_rows relations : List ℕ} {r : ℕ} (A : AbsentRead expression_rows relations r) (among : List ℕ) {a : ℕ} {t : Bool} where
-  pub present_here : a ≡ r → {x : ℕ} → x ≡ relation_expression relations r
-      → t ≡ not (row_is_empty 16 (row_intersect 16 among (row_in 16 expression_rows x))) → t ≡ present_in expression_rows among relations a r
-  present_here e p is =
-      rw (eq-eqb a r e) (is ∙ ap (λ (y : ℕ). not (row_is_empty 16 (row_intersect 16 among (row_in 16 expression_rows y)))) p)
 
 -- ---- rows that meet
 

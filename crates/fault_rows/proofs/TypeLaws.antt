@@ -14,7 +14,7 @@ use Rattle.sets.specs.Lists.{table}
 use Rattle.sets.specs.Bits.{bit}
 use Rattle.sets.specs.Rows.{row_of, row_in, row_join, row_intersect, with_row, RowsAre}
 use Rattle.sets.proofs.SearchLaws.{some_below_suc}
-use Rattle.sets.proofs.ListLaws.{table-length, NumbersFilling, filling_none as numbers_none, filling_place as numbers_place}
+use Rattle.sets.proofs.ListLaws.{table-length, NumbersFilling, filling_place as numbers_place}
 use Rattle.sets.proofs.ListLaws.{filling_more as numbers_more, filling_all as numbers_all}
 use Rattle.sets.proofs.RowLaws.{row_of_same, row_of_row, join_row_of, rows_are, with_row_again}
 use Rattle.report.specs.Tables.{Tables, query, query_count, relations_end, project_length, projected_before, project_start}
@@ -23,7 +23,7 @@ use Rattle.report.specs.Readings.{spared, faults_by}
 use Rattle.report.specs.declared.Query.{Query}
 use Rattle.report.specs.declared.Reading.{Reading}
 use Rattle.report.proofs.EntryParts.{project_part, project_in_part}
-use Rattle.expression_rows.proofs.RowsFilling.{RowsFilling, filling_none, filling_more, filling_rest, filling_all}
+use Rattle.expression_rows.proofs.RowsFilling.{RowsFilling, filling_more, filling_rest, filling_all}
 use Rattle.attribute_rows.specs.AttributeRows.{list_row, set_row, ListRowReads, ListRowReadable}
 use Rattle.attribute_rows.specs.RowRules.{set_step, SetRead}
 use Rattle.attribute_rows.proofs.AttributeLaws.{set_wide, sets_are}
@@ -52,17 +52,6 @@ held_join : (p : ℕ → Bool) (spares : Bool) (here : List ℕ)
     → cond spares (row_of 16 p) (row_join 16 (row_of 16 p) here) ≡ row_join 16 (row_of 16 p) (cond spares (row_of 16 (λ c. false)) here)
 held_join p true here = sym (join_row_of 16 p (λ c. false) ∙ row_of_same 16 (λ c. p c || false) p (λ c h. or-false (p c)))
 held_join p false here = refl
-
--- an item that is spared, and one that is held against the form
-module _ {spares told : Bool} (is : told ≡ spares) {here : List ℕ} {a q : ℕ} {lent lent_sets : List ℕ} where
-  pub judged_held : told ≡ false → {row fault_rows : List ℕ} → row ≡ here → fault_rows ≡ with_row 16 lent q (row_join 16 (row_in 16 lent q) row)
-      → ItemJudged spares here a q lent fault_rows lent_sets lent_sets
-  judged_held e made joined = record {
-    held =
-        joined ∙ ap (λ (l : List ℕ). with_row 16 lent q (row_join 16 (row_in 16 lent q) l)) made
-        ∙ ap (λ (t : Bool). cond t lent (with_row 16 lent q (row_join 16 (row_in 16 lent q) here))) (sym e ∙ is);
-    sparing = ap (λ (t : Bool). cond t (set lent_sets q (bit_or (get_or lent_sets q 0) (2 ^ a))) lent_sets) (sym e ∙ is);
-  }
 
 -- what is judged of an item is stored in the form's own row and set, spared or not
 module _ {spares : Bool} {here : List ℕ} {a q : ℕ} {lent fault_rows lent_sets spared_sets : List ℕ}

@@ -5,7 +5,7 @@
 ghost use Rattle.std.specs.Prelude.{◌≡◌, ◌+◌, ◌*◌, ◌^◌, ◌<◌, ◌≤◌, length, get_or, set};
 ghost use Rattle.std.specs.Int.Bits.{bit_or};
 ghost use Rattle.sets.specs.Lists.{concat};
-ghost use Rattle.sets.specs.Rows.{row_in, row_join, row_intersect, row_minus, with_row};
+ghost use Rattle.sets.specs.Rows.{row_in, row_join, row_intersect, with_row};
 ghost use Rattle.report.specs.Tables.{Tables, query_count};
 ghost use Rattle.report.specs.Configuring.{written};
 ghost use Rattle.report.specs.declared.Reading.{Reading};
@@ -136,34 +136,6 @@ fn is_spared(
     }
 }
 
-// The configurations of `reached`, which has those that reach the form, at which item a is at fault in it.
-fn fault_row(
-    x: Query,
-    listed: Row,
-    reached: Row,
-    a: usize,
-    expression_rows: &[u64],
-    relations: &[u16],
-    named_rows: &[u64],
-    form_rows: &[u64],
-) -> Row
-    requires { FaultRead expression_rows.now relations.now named_rows.now form_rows.now x }
-    ensures { result.words ≡ row_intersect 16 (fault_step expression_rows.now relations.now named_rows.now
-        form_rows.now listed.words reached.words a x) reached.words }
-{
-    form_faults(
-        x,
-        listed,
-        reached,
-        a,
-        expression_rows,
-        relations,
-        named_rows,
-        form_rows,
-    )
-    .intersect(reached)
-}
-
 // Row q of `fault_rows` joined with `here`.
 fn join_fault(here: Row, q: usize, fault_rows: &mut [u64])
     requires { q * 16 + 16 ≤ length fault_rows.old }
@@ -182,8 +154,8 @@ fn spare_item(a: usize, q: usize, spared_sets: &mut [u64])
     spared_sets[q] = all.bits;
 }
 
-// Item a in form q: one that is spared goes to set q of `spared_sets`, and of any other row q of `fault_rows` is joined with the configurations at which it
-// is at fault.
+// Item a in form q: one that is spared goes to set q of `spared_sets`, and of any other row q of `fault_rows` is joined with the configurations of
+// `reached`, which has those that reach the form, at which it is at fault.
 fn judge_item(
     reading: Reading,
     x: Query,
@@ -216,7 +188,7 @@ fn judge_item(
     ) {
         spare_item(a, q, spared_sets);
     } else {
-        let here = fault_row(
+        let faults = form_faults(
             x,
             listed,
             reached,
@@ -226,7 +198,7 @@ fn judge_item(
             named_rows,
             form_rows,
         );
-        join_fault(here, q, fault_rows);
+        join_fault(faults.intersect(reached), q, fault_rows);
     }
 }
 
@@ -317,7 +289,6 @@ pub fn fill_faults(
         → FailsFilled T scope.reading scope.items fault_rows.old fault_rows.new spared_sets.old
         spared_sets.new columns.old columns.new }
 {
-    let reading = scope.reading;
     let mut named_rows = [0; Limits::MOST_COMPARISONS * Row::WORDS];
     let mut relation_rows = [0; Limits::MOST_RELATIONS * Row::WORDS];
     let mut form_rows = [0; Limits::MOST_QUERIES * Row::WORDS];
@@ -339,7 +310,7 @@ pub fn fill_faults(
             &mut relation_rows,
         );
         type_forms(
-            reading,
+            scope.reading,
             a,
             expression_rows,
             project_entries,

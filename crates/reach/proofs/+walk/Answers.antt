@@ -1,7 +1,5 @@
-use Rattle.std.proofs.Common.{ℕ, List, ap, ◌∙◌, arith, rules}
+use Rattle.std.proofs.Common.{ap, ◌∙◌, arith}
 use Rattle.report.specs.Operands.{query_operands}
-use Rattle.report.specs.Typing.{leads}
-use Rattle.reach.specs.Reach.{joined}
 use Rattle.reach.proofs.WalkLaws.{reads_intersect, reads_minus, ready_lower, inside_words, free}
 use Rattle.reach.proofs.WalkLaws.{walk_nothing, walk_one, walk_both, walk_choice}
 use Rattle.reach.proofs.+walk.Goals as goal
@@ -28,42 +26,29 @@ returns-in-Nothing t c =
 pub returns-in-One : goal.returns-in-One
 returns-in-One t c =
     let e = c.in-One.ensures ∙ ap query_operands c.decode_query.ensures in
-    let reached = c.args.reached.words in
     record {
       rows = λ T S.
-          c.walk.ensures.rows T S
-          ∙ ap (λ (w : List ℕ). joined w reached (λ c' x. leads T c' x c.in-One.b)) c.join_row.ensures
-          ∙ walk_one S _ (inside_words c.requires) _ c.in-One.b e;
+          rw c.join_row.ensures at (c.walk.ensures.rows T S) ∙ walk_one S _ (inside_words c.requires) _ c.in-One.b e;
     }
 
 pub returns-in-Both : goal.returns-in-Both
 returns-in-Both t c =
     let e = c.in-Both.ensures ∙ ap query_operands c.decode_query.ensures in
-    let reached = c.args.reached.words in
-    let a = c.in-Both.a in
-    let b = c.in-Both.b in
     record {
       rows = λ T S.
-          c.walk-in-Both-2.ensures.rows T S
-          ∙ ap (λ (w : List ℕ). joined w reached (λ c' x. leads T c' x b))
-          (c.walk-in-Both.ensures.rows T S
-          ∙ ap (λ (w : List ℕ). joined w reached (λ c' x. leads T c' x a)) c.join_row.ensures)
-          ∙ walk_both S _ (inside_words c.requires) _ a b e;
+          rw (c.walk-in-Both.ensures.rows T S, c.join_row.ensures) at (c.walk-in-Both-2.ensures.rows T S)
+          ∙ walk_both S _ (inside_words c.requires) _ c.in-Both.a c.in-Both.b e;
     }
 
 pub returns-in-Choice : goal.returns-in-Choice
 returns-in-Choice t c =
     let e = c.in-Choice.ensures ∙ ap query_operands c.decode_query.ensures in
     let row = c.load-holds in
-    let chosen = c.intersect-chosen in
-    let others = c.minus-others in
-    let b = c.in-Choice.b in
-    let d = c.in-Choice.d in
+    let chosen = c.intersect-chosen.ensures in
+    let others = c.minus-others.ensures in
     record {
       rows = λ T S.
-          c.walk-in-Choice-2.ensures.rows T (reads_minus _ row.result.words others.ensures S)
-          ∙ ap (λ (w : List ℕ). joined w others.result.words (λ c' x. leads T c' x d))
-          (c.walk-in-Choice.ensures.rows T (reads_intersect _ row.result.words chosen.ensures S)
-          ∙ ap (λ (w : List ℕ). joined w chosen.result.words (λ c' x. leads T c' x b)) c.join_row.ensures)
-          ∙ walk_choice S _ (inside_words c.requires) _ _ b d e _ _ _ row.ensures chosen.ensures others.ensures;
+          rw (c.walk-in-Choice.ensures.rows T (reads_intersect _ row.result.words chosen S), c.join_row.ensures)
+          at (c.walk-in-Choice-2.ensures.rows T (reads_minus _ row.result.words others S))
+          ∙ walk_choice S _ (inside_words c.requires) _ _ c.in-Choice.b c.in-Choice.d e _ _ _ row.ensures chosen others;
     }
