@@ -1,17 +1,15 @@
 -- Laws of new numbers: that of one form, and the loops that number all forms.
 use Prim.Native.Nat.{ℕ, ◌+◌, ◌*◌, ◌/◌, ◌<◌, ◌≤◌}
-use mathlib.Core.Path.{◌≡◌, refl, sym, ap, ap₂, ◌∙◌}
-use mathlib.Core.Bool.{Bool, true, false, cond, not, ◌&&◌}
-use mathlib.Core.List.{List, [], ◌∷◌}
+use mathlib.Core.Path.{◌≡◌, sym, ap, ap₂, ◌∙◌}
+use mathlib.Core.Bool.{Bool, cond, not, ◌&&◌}
+use mathlib.Core.List.{List}
 use native.Mathlib.Numerals.{add-one}
 use native.Mathlib.Omega.{arith}
-use types.Run.{OneOf, miss}
-use denote.Enum.Declared.{tag_of}
 use lib.ListN.{length, get_or, set}
 use Rattle.sets.specs.Search.{count_below}
 use Rattle.sets.specs.Rows.{row_bit, row_in}
 use Rattle.sets.proofs.SearchLaws.{count_le}
-use Rattle.sets.proofs.ListLaws.{NumbersFilling, filling_none, filling_below, filling_place, filling_more}
+use Rattle.sets.proofs.ListLaws.{NumbersFilling, filling_below, filling_place, filling_more}
 use Rattle.report.specs.Tables.{Tables, comparison, query, expression_count, query_count}
 use Rattle.report.specs.Operands.{comparison_operands, query_operands, is_choice}
 use Rattle.report.specs.Typing.{at, taken, reached}
@@ -20,26 +18,15 @@ use Rattle.report.specs.Formed.{OperandsBelow}
 use Rattle.report.specs.declared.Comparison.{Comparison}
 use Rattle.report.specs.declared.Query.{Query}
 use Rattle.report.specs.declared.Operands.{Operands}
-use Rattle.report.specs.contracts.Operands as operands_type
 use Rattle.report.proofs.FormedFacts.{comparison_at, comparison_operands_lem, query_at, query_operands_lem}
 use Rattle.report.proofs.StepLaws.{taken_below, comparison_target_in, query_target_in}
 use Rattle.report.proofs.OperandLaws.{choice_comparison, choice_query}
 use Rattle.at_configuration.specs.AtConfiguration.{AtReads, ComparisonReads}
-use Rattle.at_configuration.proofs.HoldLaws.{rowed, taken_is, taken_in, reach_row, reach_has}
+use Rattle.at_configuration.proofs.HoldLaws.{rowed, taken_is, reach_row, reach_has}
 use Rattle.kept_forms.specs.Numbering.{QueryReads}
 use Rattle.kept_forms.specs.FormWords.{TargetReads, TargetReadable}
 
 -- ---- the number of one form
-
--- the kinds of operands but those of a choice
-abbrev plain_kinds : List ℕ
-plain_kinds = 0 ∷ 1 ∷ 2 ∷ []
-
-pub plain_operands : (to : Operands) → OneOf plain_kinds (tag_of operands_type.the_type to) → is_choice to ≡ false
-plain_operands Operands.Nothing h = refl
-plain_operands (Operands.One a) h = refl
-plain_operands (Operands.Both a b) h = refl
-plain_operands (Operands.Choice e a b) h = absurd (miss plain_kinds 3 tt h)
 
 -- that of a choice is the number of the alternative that it takes
 module _ {T : Tables} {expression_rows : List ℕ} {c : ℕ} {numbers : List ℕ} {to : Operands} (R : TargetReads T expression_rows c numbers to) {e a b : ℕ}
@@ -48,9 +35,6 @@ module _ {T : Tables} {expression_rows : List ℕ} {c : ℕ} {numbers : List ℕ
   choice_rowed = rowed R.reads (R.lower e a b w).0
 
   module _ {k : ℕ} (p : k ≡ cond (row_bit (row_in 16 expression_rows e) c) a b) where
-    pub choice_in : k < length numbers
-    choice_in = let l = R.lower e a b w in taken_in R.reads l.0 (l.1, l.2) p
-
     pub choice_number : (kept : ℕ) → get_or numbers k 0 ≡ target_of T c (λ j. get_or numbers j 0) kept to
     choice_number kept =
         let l = R.lower e a b w in
@@ -83,11 +67,6 @@ module _ {T : Tables} {expression_rows : List ℕ} {c : ℕ} {target : ℕ → �
       go (Operands.Both a b) l = same
       go (Operands.Choice e a b) l = each (taken T c e a b) (taken_below (at T c e) l)
 
--- a count is at most one more for one form more
-pub one_more : (t : Bool) → cond t 1 0 ≤ 1
-one_more true = omega arith
-one_more false = omega arith
-
 -- ---- a loop that numbers n forms
 
 -- the new numbers of the forms below k stand over `lent`, and `count` of these forms are kept: for tables that the loop can read
@@ -97,9 +76,6 @@ pub record Numbering (Reads : Tables → Type 0) (target : Tables → ℕ → �
   pub counted : (T : Tables) → Reads T → count ≡ count_below (keep T) k
 
 module _ {Reads : Tables → Type 0} {target : Tables → ℕ → ℕ} {keep : Tables → ℕ → Bool} {n : ℕ} {lent : List ℕ} where
-  pub numbering_none : Numbering Reads target keep n lent lent 0 0
-  numbering_none = record { filling = filling_none; counted = λ T R. refl }
-
   module _ {numbers : List ℕ} {count k : ℕ} (S : Numbering Reads target keep n lent numbers count k) where
     pub numbering_few : {T : Tables} → Reads T → count ≤ k
     numbering_few {T} R = omega (arith, S.counted T R, count_le (keep T) k)

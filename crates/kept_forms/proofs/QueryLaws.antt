@@ -18,11 +18,11 @@ use Rattle.report.specs.Formed.{Formed, QueryLower}
 use Rattle.report.specs.declared.Query.{Query}
 use Rattle.report.specs.declared.Reading.{Reading}
 use Rattle.report.proofs.FormedFacts.{query_at}
-use Rattle.at_configuration.specs.AtConfiguration.{PresentReads, PresentReadable}
-use Rattle.kept_lists.proofs.BlockLaws.{Keeping, keeping_none, keeping_room, keeping_more, keeping_all, keeping_length}
+use Rattle.at_configuration.specs.AtConfiguration.{PresentReads}
+use Rattle.kept_lists.proofs.BlockLaws.{Keeping, keeping_room, keeping_more, keeping_all}
 use Rattle.kept_lists.proofs.ProjectSets.{project_count}
 use Rattle.kept_forms.specs.Numbering.{query_forms, QueryFormReads, QueryFormWritable}
-use Rattle.kept_forms.specs.FormWords.{relation_words, RelationWritable, query_words, QueryWritable}
+use Rattle.kept_forms.specs.FormWords.{relation_words, query_words, QueryWritable}
 use Rattle.kept_forms.proofs.NumberLaws.{query_in, query_is, reached-at}
 
 -- ---- a relation
@@ -37,47 +37,6 @@ relation_words_lem T c to_comparison to_query entries a = go (present T c a)
         ≡ cond t (1 ∷ new_relation T c a ∷ 0 ∷ 0 ∷ []) (0 ∷ 0 ∷ 0 ∷ 0 ∷ [])
     go true = refl
     go false = refl
-
-module _ {expression_rows relations : List ℕ} {c a : ℕ} {out : List ℕ} {at : ℕ} (A : RelationWritable expression_rows relations c a out at) where
-  -- it can be asked for, and so can those below it
-  pub present_readable : PresentReadable expression_rows relations c (a + 1)
-  present_readable = record { tables = A.tables; reads = A.reads; few = let l = A.inside in omega arith }
-
-  pub number_readable : PresentReadable expression_rows relations c a
-  number_readable = record { tables = A.tables; reads = A.reads; few = let l = A.inside in omega arith }
-
-  -- there is room for either form
-  pub form_fits : at + 4 ≤ length out
-  form_fits = go (present A.tables c a) A.room.fits
-    where
-      go : (t : Bool) → at + length (cond t (1 ∷ new_relation A.tables c a ∷ 0 ∷ 0 ∷ []) (0 ∷ 0 ∷ 0 ∷ 0 ∷ [])) ≤ length out → at + 4 ≤ length out
-      go true h = h
-      go false h = h
-
--- the words of each form
-module _ (T : Tables) (c a : ℕ) {b : Bool} (p : b ≡ present T c a) {o o' : List ℕ} {at k : ℕ} where
-  pub relation_present : b ≡ true → {n : ℕ} → n ≡ new_relation T c a → WrittenAt (1 ∷ n ∷ 0 ∷ 0 ∷ []) o at o' k → WrittenAt (relation_words T c a) o at o' k
-  relation_present f e w =
-      same_written (ap₂ (λ (t : Bool) (m : ℕ). cond t (1 ∷ m ∷ 0 ∷ 0 ∷ []) (0 ∷ 0 ∷ 0 ∷ 0 ∷ [])) (sym p ∙ f) (sym e)) w
-
-  pub relation_absent : b ≡ false → WrittenAt (0 ∷ 0 ∷ 0 ∷ 0 ∷ []) o at o' k → WrittenAt (relation_words T c a) o at o' k
-  relation_absent f w = same_written (ap (λ (t : Bool). cond t (1 ∷ new_relation T c a ∷ 0 ∷ 0 ∷ []) (0 ∷ 0 ∷ 0 ∷ 0 ∷ [])) (sym p ∙ f)) w
-
-pub relation_writable : {expression_rows relations : List ℕ} {c q : ℕ} {form_sets comparison_numbers query_numbers : List ℕ} {x : Query} {out : List ℕ}
-    {at : ℕ}
-    → QueryWritable expression_rows relations c q form_sets comparison_numbers query_numbers x out at → {a : ℕ} → x ≡ Query.Relation a
-    → RelationWritable expression_rows relations c a out at
-relation_writable {c = c} A {a} e = record {
-  tables = A.tables;
-  reads = A.reads;
-  inside = rw e at A.lower;
-  room = same_room (relation_words_lem A.tables c _ _ _ a) (rw e at A.room);
-}
-
--- the same words, the second under another name
-pub same_second : {kind a a' b p : ℕ} {o o' : List ℕ} {at : ℕ} → a ≡ a' → WrittenAt (kind ∷ a ∷ b ∷ 0 ∷ []) o at o' p
-    → WrittenAt (kind ∷ a' ∷ b ∷ 0 ∷ []) o at o' p
-same_second e w = rw e at w
 
 -- ---- what query form q writes: a choice, or a form that c does not reach, nothing, any other its words
 
@@ -139,9 +98,6 @@ pub record QueryWriting (expression_rows reach form_sets relations queries : Lis
       (length queries / 4) first 0 out q p
 
 module _ {expression_rows reach form_sets relations queries : List ℕ} {c : ℕ} {comparison_numbers query_numbers first : List ℕ} where
-  pub query_forms_none : QueryWriting expression_rows reach form_sets relations queries c comparison_numbers query_numbers first first 0 0
-  query_forms_none = record { keeping = keeping_none }
-
   module _ {out : List ℕ} {q p : ℕ} (S : QueryWriting expression_rows reach form_sets relations queries c comparison_numbers query_numbers first out q p)
     where
       module _ (h : q < length queries / 4) {x : Query} (e : x ≡ query queries q) {b : Bool} (r : b ≡ row_bit (row_in 16 reach q) c) where
@@ -166,10 +122,6 @@ module _ {expression_rows reach form_sets relations queries : List ℕ} {c : ℕ
             → QueryWriting expression_rows reach form_sets relations queries c comparison_numbers query_numbers first o (q + 1) n
         query_forms_more w =
             record { keeping = keeping_more S.keeping h (λ T R. same_written (part_is R h e r) (w T (relation_reads R))) }
-
-      pub query_forms_long : QueryFormWritable expression_rows reach form_sets relations queries c comparison_numbers query_numbers first
-          → length out ≡ length first
-      query_forms_long A = keeping_length S.keeping A.reads
 
       pub query_forms_all : length queries / 4 ≤ q → (T : Tables)
           → QueryFormReads T expression_rows reach form_sets relations queries c comparison_numbers query_numbers

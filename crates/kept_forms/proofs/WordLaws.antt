@@ -7,8 +7,8 @@ use native.Mathlib.Omega.{arith}
 use lib.ListN.{length, get_or}
 use Rattle.sets.specs.Lists.{concat}
 use Rattle.sets.specs.Writing.{WrittenAt}
-use Rattle.sets.proofs.WritingLaws.{same_length, same_written, same_room}
-use Rattle.sets.proofs.WritingLaws.{Writing, writing_none, writing_room, writing_more, writing_all}
+use Rattle.sets.proofs.WritingLaws.{same_written, same_room}
+use Rattle.sets.proofs.WritingLaws.{Writing, writing_room, writing_more, writing_all}
 use Rattle.report.specs.Tables.{Tables, word, all_zero, unused, comparison_of, comparison, expression_count}
 use Rattle.report.specs.Operands.{comparison_operands, is_choice}
 use Rattle.report.specs.Configuring.{comparison_kept, new_comparison, comparison_form_of}
@@ -86,9 +86,6 @@ pub record ComparisonWriting (comparisons numbers first out : List ℕ) (f p : �
       → Writing (comparison_part T c) (length comparisons / 5) first 0 out f p
 
 module _ {comparisons numbers first : List ℕ} where
-  pub comparison_forms_none : ComparisonWriting comparisons numbers first first 0 0
-  comparison_forms_none = record { each = λ T c R. writing_none }
-
   module _ {out : List ℕ} {f p : ℕ} (S : ComparisonWriting comparisons numbers first out f p) where
     module _ (h : f < length comparisons / 5) {x : Comparison} (e : x ≡ comparison comparisons f) where
       pub comparison_forms_read : ((i : ℕ) → get_or comparisons i 0 < 65536) → ComparisonFormWritable comparisons numbers first
@@ -111,9 +108,6 @@ module _ {comparisons numbers first : List ℕ} where
       pub comparison_forms_more : {o : List ℕ} {q : ℕ} → WrittenAt (comparison_words numbers x) out p o q
           → ComparisonWriting comparisons numbers first o (f + 1) q
       comparison_forms_more w = record { each = λ T c R. writing_more (S.each T c R) h (same_written (part_is R h e) w) }
-
-    pub comparison_forms_long : ComparisonFormWritable comparisons numbers first → length out ≡ length first
-    comparison_forms_long A = same_length (S.each A.tables A.configuration A.reads).written
 
     pub comparison_forms_all : length comparisons / 5 ≤ f → (T : Tables) (c : ℕ) → ComparisonFormReads T c comparisons numbers
         → WrittenAt (comparison_forms T c) first 0 out p

@@ -4,12 +4,11 @@ use mathlib.Core.Path.{◌≡◌, sym, ap, ap₂, ◌∙◌}
 use mathlib.Core.Bool.{Bool, cond, ◌&&◌, not}
 use mathlib.Core.List.{List}
 use native.Mathlib.Omega.{arith}
-use lib.ListN.{length}
 use lib.Bits.{bit_or}
 use Rattle.sets.specs.Bits.{bit}
 use Rattle.sets.specs.Lists.{concat}
 use Rattle.sets.specs.Writing.{Room, WrittenAt}
-use Rattle.sets.proofs.WritingLaws.{same_length, same_room, same_written, Writing, writing_none, writing_room, writing_more, writing_all}
+use Rattle.sets.proofs.WritingLaws.{same_room, same_written, Writing, writing_none, writing_room, writing_more, writing_all}
 use Rattle.decoders.specs.Words.{IsWord}
 use Rattle.report.specs.Tables.{Tables, entry_attribute}
 use Rattle.report.specs.Typing.{entry_holds}
@@ -41,9 +40,6 @@ module _ {Reads : Tables → Type 0} {f : Tables → ℕ → List ℕ} {n : ℕ}
 
     pub keeping_all : n ≤ k → (T : Tables) → Reads T → WrittenAt (concat n (f T)) first at out p
     keeping_all h T R = writing_all (S.each T R) h
-
-    pub keeping_length : {T : Tables} → Reads T → length out ≡ length first
-    keeping_length {T} R = same_length (S.each T R).written
 
 -- ---- the loop over a list
 

@@ -1,5 +1,4 @@
 pub mod BlockLaws
-pub mod CountLaws
 pub mod ProjectLaws
 pub mod RelationLaws
 pub mod ProjectSets

@@ -4,7 +4,6 @@ use mathlib.Core.Path.{◌≡◌, refl, sym, ap, ap₂, ◌∙◌}
 use mathlib.Core.Bool.{Bool, true, false, cond, ◌&&◌, not}
 use mathlib.Core.List.{List, []}
 use native.Mathlib.Numerals.{add-one}
-use native.Mathlib.Omega.{arith}
 use lib.ListN.{length, get_or}
 use Rattle.sets.specs.Bits.{bit}
 use Rattle.sets.specs.Lists.{concat}
@@ -23,7 +22,7 @@ use Rattle.at_configuration.proofs.HoldLaws.{reach_row, reach_has}
 use Rattle.at_configuration.proofs.ListLaws.{form_list}
 use Rattle.kept_lists.specs.Keeping.{project_lists, ProjectReads, ProjectWritable}
 use Rattle.kept_lists.specs.Blocks.{list_if, project_list_at, ListIfWritable}
-use Rattle.kept_lists.proofs.BlockLaws.{Keeping, keeping_none, keeping_room, keeping_more, keeping_all}
+use Rattle.kept_lists.proofs.BlockLaws.{Keeping, keeping_room, keeping_more, keeping_all}
 use Rattle.kept_lists.proofs.ProjectSets.{project_list}
 
 -- A form that is no project lists no entries, so a reached form writes the list of its entries whatever its kind
@@ -78,23 +77,13 @@ pub record Projecting (expression_rows reach form_sets entries queries : List �
   pub kept : Keeping (λ T. ProjectReads T expression_rows reach form_sets entries queries c) (λ T. project_list_at T c) (length queries / 4) lent at out q p
   pub starts : start ≡ projected_before queries q
 
-pub projecting_none : {expression_rows reach form_sets entries queries : List ℕ} {c : ℕ} {lent : List ℕ} {at : ℕ}
-    → Projecting expression_rows reach form_sets entries queries c lent at lent 0 0 at
-projecting_none = record { kept = keeping_none; starts = refl }
-
 module _ {expression_rows reach form_sets entries queries : List ℕ} {c : ℕ} {lent : List ℕ} {at : ℕ} {q : ℕ} where
   pub projecting_rowed : ProjectWritable expression_rows reach form_sets entries queries c lent at → q < length queries / 4 → (q * 16 + 16 ≤ length reach)
       × (c < 1024)
   projecting_rowed A h = reach_row A.reads.reads A.reads.reaching (in_table A.reads h)
 
-  pub projecting_typed : ProjectWritable expression_rows reach form_sets entries queries c lent at → q < length queries / 4 → q < length form_sets
-  projecting_typed A h = let i = in_table A.reads h in let m = A.reads.typed.room in omega arith
-
   module _ {out : List ℕ} {start p : ℕ} (S : Projecting expression_rows reach form_sets entries queries c lent at out q start p) where
     module _ (h : q < length queries / 4) {x : Query} (f : x ≡ query queries q) {n : ℕ} (e : n ≡ project_length x) where
-      pub projecting_small : ProjectWritable expression_rows reach form_sets entries queries c lent at → start + n ≤ length entries / 2
-      projecting_small A = (form_list (form_at A.reads h S.starts f) e).lies
-
       module _ {b : Bool} (r : b ≡ row_bit (row_in 16 reach q) c) {stays : ℕ} (t : stays ≡ get_or form_sets q 0) where
         pub projecting_room : ProjectWritable expression_rows reach form_sets entries queries c lent at → ListIfWritable b expression_rows entries c start n stays out p
         projecting_room A =

@@ -1,6 +1,6 @@
 -- Laws of the loops over the relations: the lists of those that are present, and their forms.
 use Prim.Native.Nat.{ℕ, ◌+◌, ◌-◌, ◌/◌, ◌^◌, ◌<◌, ◌≤◌}
-use mathlib.Core.Path.{◌≡◌, refl, sym, ap, ap₂, ◌∙◌}
+use mathlib.Core.Path.{◌≡◌, sym, ap, ap₂, ◌∙◌}
 use mathlib.Core.Bool.{Bool, cond}
 use mathlib.Core.List.{List, []}
 use native.Mathlib.Numerals.{add-one}
@@ -15,11 +15,11 @@ use Rattle.decoders.specs.Words.{IsWord}
 use Rattle.report.specs.Tables.{Tables, relation_length, relation_start}
 use Rattle.report.specs.Typing.{present}
 use Rattle.report.specs.Configuring.{entry_kept, all_stay, kept_length}
-use Rattle.at_configuration.specs.AtConfiguration.{ListReads, ListReadable, PresentReads, PresentReadable, RelationReads}
+use Rattle.at_configuration.specs.AtConfiguration.{ListReads, ListReadable, PresentReads, RelationReads}
 use Rattle.at_configuration.proofs.ListLaws.{reads_present, starts_at, is_long, relation_list_lem}
 use Rattle.kept_lists.specs.Keeping.{relation_lists, relation_forms, KeptRelationWritable}
 use Rattle.kept_lists.specs.Blocks.{pair_if, list_if, relation_list_at, relation_form_at, WordPairWritable, ListIfWritable}
-use Rattle.kept_lists.proofs.BlockLaws.{Keeping, keeping_none, keeping_room, keeping_more, keeping_all}
+use Rattle.kept_lists.proofs.BlockLaws.{Keeping, keeping_room, keeping_more, keeping_all}
 use Rattle.report.proofs.StayLaws.{all_staying}
 
 -- ---- what is read of one relation
@@ -57,22 +57,9 @@ pub record Relating (f : Tables → ℕ → ℕ → List ℕ) (expression_rows e
   pub kept : Keeping (λ T. RelationReads T expression_rows entries relations c) (λ T. f T c) (length relations / 2) first 0 out r p
   pub starts : start ≡ relation_start relations r
 
-pub relating_none : {f : Tables → ℕ → ℕ → List ℕ} {expression_rows entries relations : List ℕ} {c : ℕ} {first : List ℕ}
-    → Relating f expression_rows entries relations c first first 0 0 0
-relating_none = record { kept = keeping_none; starts = refl }
-
--- relation r can be asked for
-pub relating_present : {f : Tables → ℕ → List ℕ} {expression_rows entries relations : List ℕ} {c : ℕ} {first : List ℕ} {r : ℕ}
-    → KeptRelationWritable f expression_rows entries relations c first 0 → r < length relations / 2 → PresentReadable expression_rows relations c (r + 1)
-relating_present A h = record { tables = A.tables; reads = reads_present A.reads; few = let l = rw A.reads.relations_are at h in omega arith }
-
 module _ {f : Tables → ℕ → ℕ → List ℕ} {expression_rows entries relations : List ℕ} {c : ℕ} {first out : List ℕ} {r start p : ℕ}
     (S : Relating f expression_rows entries relations c first out r start p) (h : r < length relations / 2) {n : ℕ}
     (e : IsWord (relation_length relations r) n) where
-  pub relating_small : {g : Tables → ℕ → List ℕ} → KeptRelationWritable g expression_rows entries relations c first 0
-      → start + n ≤ length entries / 2
-  relating_small A = (relation_list_lem A.reads S.starts h e.same).lies
-
   pub relating_list : {g : Tables → ℕ → List ℕ} → KeptRelationWritable g expression_rows entries relations c first 0
       → ListReadable expression_rows entries c start n
   relating_list A = record { tables = A.tables; offset = 0; reads = relation_list_lem A.reads S.starts h e.same }

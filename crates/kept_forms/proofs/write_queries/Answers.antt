@@ -1,4 +1,3 @@
-use mathlib.Core.Logic.{⊎_elim}
 use Rattle.sets.proofs.WritingLaws.{kept_written, dropped_written}
 use Rattle.kept_forms.proofs.NumberLaws.{reach_rowed}
 use Rattle.kept_forms.proofs.QueryLaws.{query_forms_read, query_forms_more, query_forms_all}
