@@ -4,7 +4,6 @@ ghost use Rattle.sets.specs.Bits.{bit};
 ghost use Rattle.sets.specs.Rows.{row_bit, word_of, row_of, within, row_join, row_intersect, row_minus, row_is_empty};
 ghost use Rattle.sets.specs.Rows.{row_lowest, row_lowest_from, row_count, row_in, with_row};
 
-use crate::Found;
 use std::array::from_fn;
 
 // A set of configurations below 1,024: configuration c is bit c mod 64 of word c div 64.
