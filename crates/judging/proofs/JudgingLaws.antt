@@ -1,6 +1,6 @@
 -- How the parts of judging make its answer, what each part leaves for the next, and what a caller has of tables that pass.
 use Rattle.std.specs.Prelude.{Ok, Err}
-use Prim.Native.Nat.{ℕ, ◌+◌, ◌-◌, ◌*◌, ◌/◌, ◌%◌, ◌^◌, ◌≤◌, max}
+use Prim.Native.Nat.{ℕ, ◌-◌, ◌*◌, ◌/◌, ◌%◌, ◌^◌, ◌≤◌, max}
 use mathlib.Core.Path.{◌≡◌, refl, sym, ap, ◌∙◌}
 use mathlib.Core.Bool.{true, false}
 use mathlib.Core.List.{List}
@@ -28,15 +28,15 @@ use Rattle.report.proofs.VerdictLaws.{or_else_assoc, both_accepted, then_next, t
 use Rattle.report.proofs.CallLaws.{answer_run}
 use Rattle.expression_rows.specs.ExpressionRows.{rows_of, TruthFilled, SchemaReads, ReachFilled}
 use Rattle.expression_rows.proofs.FillLaws.{filled}
-use Rattle.expression_rows.proofs.PermittedLaws.{model_check_lem, model_room, model_row}
+use Rattle.expression_rows.proofs.PermittedLaws.{model_check_lem, model_row}
 use Rattle.expression_rows.proofs.PreparedLaws.{prepare}
 use Rattle.reach.specs.Reach.{reach_rows, ReachReads}
 use Rattle.reach.proofs.ReachRows.{reach_rows_lem}
 use Rattle.forms.proofs.Chain.{stops, goes_on}
 use Rattle.expression_rows.specs.TypingReads.{Items, TypingReads, Checked}
 use Rattle.expression_rows.specs.declared.Scope.{Scope}
-use Rattle.judging.specs.Judging.{meaning_check, report_check, early_check, JudgeReads, JudgeReadable, Judged, ColumnsReadable, ColumnsJudged}
-use Rattle.judging.specs.Judging.{TablesFillable, TablesFilled, TablesReadable, TablesJudged, ColumnsChecked, RowsLent, RowsChecked}
+use Rattle.judging.specs.Judging.{meaning_check, report_check, early_check, JudgeReads, JudgeReadable, Judged, ColumnsReadable}
+use Rattle.judging.specs.Judging.{TablesFilled, TablesReadable, TablesJudged, ColumnsChecked, RowsLent, RowsChecked}
 
 -- ---- the answer of any call
 
@@ -146,24 +146,6 @@ module _ {T : Tables} (R : Reading) {v : Verdict} (early : v ≡ model_and_schem
 
 -- ---- reach rows of its own
 
--- `most` rows are enough for tables that have at most so many query forms
-pub own_reach : (most : ℕ) {head : Head} {expression_rows relation_entries project_entries relations comparisons queries kinds columns : List ℕ}
-    → ColumnsReadable most head expression_rows relation_entries project_entries relations comparisons queries kinds columns
-    → JudgeReadable head expression_rows relation_entries project_entries relations comparisons queries kinds (replicate (most * 16) 0) columns
-own_reach most A =
-    let l = length-replicate {A = ℕ} (most * 16) 0 in
-    record {
-      tables = A.tables;
-      reads = A.reads;
-      forms = let f = A.few in let e = ap length A.reads.prepared.queries_are in omega arith;
-      unreached = ap (λ (k : ℕ). replicate {A = ℕ} k 0) (sym l);
-      unshown = A.unshown;
-    }
-
-pub columns_judged : {T : Tables} {R : Reading} {v : Verdict} {lent_reach lent_columns reach columns : List ℕ} → Judged T R v lent_reach lent_columns reach columns
-    → ColumnsJudged T R v lent_columns columns
-columns_judged J = record { answers = J.answers; shows = J.shows }
-
 -- tables with any number of query forms
 pub any_forms : {head : Head} {expression_rows relation_entries project_entries relations comparisons queries kinds columns : List ℕ} {T : Tables}
     → JudgeReads T head expression_rows relation_entries project_entries relations comparisons queries kinds → columns ≡ replicate 1024 0
@@ -189,25 +171,14 @@ module _ {T : Tables} (F : Formed T) where
   pub any_tables : {columns : List ℕ} → columns ≡ replicate 1024 0 → TablesReadable 256 T columns
   any_tables unshown = record { formed = F; few = (counts F).most0; unshown = unshown }
 
--- `most` rows are enough for tables that have at most so many expressions
-pub own_expressions : (most : ℕ) {T : Tables} {columns : List ℕ} → TablesReadable most T columns → TablesFillable T (replicate (most * 16) 0) columns
-own_expressions most A = record {
-  formed = A.formed;
-  room = let f = A.few in let l = length-replicate {A = ℕ} (most * 16) 0 in omega arith;
-  unshown = A.unshown;
-}
-
-module _ (most : ℕ) {T : Tables} {R : Reading} {lent_columns : List ℕ} (A : TablesReadable most T lent_columns) {v : Verdict} {expression_rows columns : List ℕ}
-    (J : TablesFilled T R v (replicate (most * 16) 0) lent_columns expression_rows columns) where
-  truth_filled : TruthFilled T expression_rows
-  truth_filled = filled T.features T.truth (expression_count T) (replicate (most * 16) 0) (own_expressions most A).room J.fills
-
-  -- the model has a row among the expressions
-  pub own_model : T.model * 16 + 16 ≤ length expression_rows
-  own_model = model_room A.formed truth_filled refl
-
+-- so many words are enough, and the model has a row in them
+module _ (words : ℕ) {T : Tables} {R : Reading} {lent_columns : List ℕ} (A : TablesReadable (words / 16) T lent_columns) {v : Verdict}
+    {expression_rows columns : List ℕ} (J : TablesFilled T R v (replicate words 0) lent_columns expression_rows columns) where
   pub own_judged : {permits : List ℕ} → permits ≡ row_in 16 expression_rows T.model → TablesJudged T R v permits lent_columns columns
-  own_judged load = record { judged = J.judged; permitting = load ∙ model_row A.formed truth_filled refl }
+  own_judged load =
+      let room : expression_count T * 16 ≤ length (replicate {A = ℕ} words 0) = (let f = A.few in omega (arith, length-replicate {A = ℕ} words 0)) in
+      let truth = filled T.features T.truth (expression_count T) (replicate words 0) room J.fills in
+      record { judged = J.judged; permitting = load ∙ model_row A.formed truth refl }
 
 -- the form checks, and then these
 module _ {T : Tables} (R : Reading) {v : Verdict} (forms : v ≡ form_check T) {lent_columns : List ℕ} where

@@ -4,7 +4,7 @@
 // `check_into_columns`), or the caller's to be filled (`check_into_rows`).
 #![tactic(auto)]
 
-ghost use Rattle.std.specs.Prelude.{◌≡◌, replicate, max};
+ghost use Rattle.std.specs.Prelude.{◌≡◌, ◌≤◌, ◌/◌, replicate};
 ghost use Rattle.report.specs.Tables.{Tables};
 ghost use Rattle.report.specs.Expressions.{tables_under};
 ghost use Rattle.report.specs.Checks.{model_and_schema_check};
@@ -28,16 +28,6 @@ pub const COLUMN_WORDS: usize = AttributeSet::MOST_ATTRIBUTES * Row::WORDS;
 
 // Those of the expression rows and of the reach rows of small tables.
 const SMALL_WORDS: usize = Limits::SMALL * Row::WORDS;
-
-// The larger of two numbers.
-fn larger(x: usize, y: usize) -> usize
-    ensures { result ≡ max x y }
-{
-    if x < y {
-        return y;
-    }
-    x
-}
 
 // Checks 12 to 14, where these configurations are permitted.
 fn check_model_and_schema(
@@ -84,7 +74,7 @@ pub fn judge_into_rows(
     let scope = Scope {
         full: Row::full(head.features),
         permitted: permitted,
-        items: larger(head.attributes, relations.len() / 2),
+        items: head.attributes.max(relations.len() / 2),
         reading: reading,
     };
     check_typing(
@@ -101,8 +91,8 @@ pub fn judge_into_rows(
     )
 }
 
-// The same with reach rows of its own, of tables with few query forms.
-fn judge_few_queries(
+// The same with reach rows of its own, in WORDS words, of tables that have no more query forms than these have rows for.
+fn judge_with_reach<const WORDS: usize>(
     head: Head,
     reading: Reading,
     expression_rows: &[u64],
@@ -114,50 +104,14 @@ fn judge_few_queries(
     kinds: &[u16],
     columns: &mut [u64],
 ) -> Verdict
-    requires { ColumnsReadable 16 head expression_rows.now relation_entries.now project_entries.now relations.now comparisons.now
-        queries.now kinds.now columns.old }
+    requires { (WORDS ≤ 4096) × ColumnsReadable (WORDS / 16) head expression_rows.now relation_entries.now project_entries.now
+        relations.now comparisons.now queries.now kinds.now columns.old }
     ensures { (T : Tables)
         → JudgeReads T head expression_rows.now relation_entries.now project_entries.now
         relations.now comparisons.now queries.now kinds.now
         → ColumnsJudged T reading result columns.old columns.new }
 {
-    let mut reach = [0; SMALL_WORDS];
-    judge_into_rows(
-        head,
-        reading,
-        expression_rows,
-        relation_entries,
-        project_entries,
-        relations,
-        comparisons,
-        queries,
-        kinds,
-        &mut reach,
-        columns,
-    )
-}
-
-// The same of tables with any number of query forms.
-fn judge_many_queries(
-    head: Head,
-    reading: Reading,
-    expression_rows: &[u64],
-    relation_entries: &[u16],
-    project_entries: &[u16],
-    relations: &[u16],
-    comparisons: &[u16],
-    queries: &[u16],
-    kinds: &[u16],
-    columns: &mut [u64],
-) -> Verdict
-    requires { ColumnsReadable 256 head expression_rows.now relation_entries.now project_entries.now relations.now comparisons.now
-        queries.now kinds.now columns.old }
-    ensures { (T : Tables)
-        → JudgeReads T head expression_rows.now relation_entries.now project_entries.now
-        relations.now comparisons.now queries.now kinds.now
-        → ColumnsJudged T reading result columns.old columns.new }
-{
-    let mut reach = [0; REACH_WORDS];
+    let mut reach = [0; WORDS];
     judge_into_rows(
         head,
         reading,
@@ -195,7 +149,7 @@ pub fn judge_into_columns(
         → ColumnsJudged T reading result columns.old columns.new }
 {
     if queries.len() / 4 <= Limits::SMALL {
-        return judge_few_queries(
+        return judge_with_reach::<SMALL_WORDS>(
             head,
             reading,
             expression_rows,
@@ -208,7 +162,7 @@ pub fn judge_into_columns(
             columns,
         );
     }
-    judge_many_queries(
+    judge_with_reach::<REACH_WORDS>(
         head,
         reading,
         expression_rows,
@@ -266,8 +220,8 @@ fn fill_and_judge(
     )
 }
 
-// The same with expression rows of its own, of tables with few expressions.
-fn judge_few_expressions(
+// The same with expression rows of its own, in WORDS words, of tables that have no more expressions than these have rows for.
+fn judge_with_expression_rows<const WORDS: usize>(
     head: Head,
     reading: Reading,
     expressions: &[u16],
@@ -278,50 +232,13 @@ fn judge_few_expressions(
     kinds: &[u16],
     columns: &mut [u64],
 ) -> Judgement
-    requires { TablesReadable 16 (tables_under head expressions.now entries.now relations.now comparisons.now queries.now kinds.now) columns.old }
+    requires { (WORDS ≤ 4096) × TablesReadable (WORDS / 16) (tables_under head expressions.now entries.now relations.now comparisons.now queries.now kinds.now) columns.old }
     ensures { TablesJudged
         (tables_under head expressions.now entries.now relations.now comparisons.now
         queries.now kinds.now)
         reading result.verdict result.permitted.words columns.old columns.new }
 {
-    let mut expression_rows = [0; SMALL_WORDS];
-    let verdict = fill_and_judge(
-        head,
-        reading,
-        expressions,
-        entries,
-        relations,
-        comparisons,
-        queries,
-        kinds,
-        &mut expression_rows,
-        columns,
-    );
-    Judgement {
-        verdict: verdict,
-        permitted: Row::load(&expression_rows, head.model),
-    }
-}
-
-// The same of tables with any number of expressions.
-fn judge_many_expressions(
-    head: Head,
-    reading: Reading,
-    expressions: &[u16],
-    entries: &[u16],
-    relations: &[u16],
-    comparisons: &[u16],
-    queries: &[u16],
-    kinds: &[u16],
-    columns: &mut [u64],
-) -> Judgement
-    requires { TablesReadable 256 (tables_under head expressions.now entries.now relations.now comparisons.now queries.now kinds.now) columns.old }
-    ensures { TablesJudged
-        (tables_under head expressions.now entries.now relations.now comparisons.now
-        queries.now kinds.now)
-        reading result.verdict result.permitted.words columns.old columns.new }
-{
-    let mut expression_rows = [0; EXPRESSION_WORDS];
+    let mut expression_rows = [0; WORDS];
     let verdict = fill_and_judge(
         head,
         reading,
@@ -359,7 +276,7 @@ pub fn judge_tables_into_columns(
         reading result.verdict result.permitted.words columns.old columns.new }
 {
     if expressions.len() / 3 <= Limits::SMALL {
-        return judge_few_expressions(
+        return judge_with_expression_rows::<SMALL_WORDS>(
             head,
             reading,
             expressions,
@@ -371,7 +288,7 @@ pub fn judge_tables_into_columns(
             columns,
         );
     }
-    judge_many_expressions(
+    judge_with_expression_rows::<EXPRESSION_WORDS>(
         head,
         reading,
         expressions,

@@ -20,7 +20,7 @@ check_typing-requires c =
     record {
       tables = p.tables;
       reads = typing_reads p.reads c.load-permitted.ensures p.forms (c.fill_reach.ensures p.tables (reach_reads p.reads c.load-permitted.ensures))
-          c.full.ensures c.larger.ensures refl refl refl;
+          c.full.ensures c.max.ensures refl refl refl;
       clear = p.unshown;
     }
 
@@ -30,4 +30,4 @@ returns c =
     let filled = c.fill_reach.ensures T (reach_reads R c.load-permitted.ensures) in
     typing_answers _ (c.check_model_and_schema-schema.ensures T (schema_reads R c.load-permitted.ensures)) _ _ c.in_default.is filled
     (c.check_typing.ensures T
-    (typing_reads R c.load-permitted.ensures (reach_room c.requires R) filled c.full.ensures c.larger.ensures refl refl refl))
+    (typing_reads R c.load-permitted.ensures (reach_room c.requires R) filled c.full.ensures c.max.ensures refl refl refl))
