@@ -13,43 +13,43 @@ use Rattle.judging.proofs.check_into_rows.Goals as goal
 
 pub fill_expression_rows-requires : goal.fill_expression_rows-requires
 fill_expression_rows-requires c =
-    let F = formed _ (sym c.check_forms-form.ensures ∙ c.in_default.is) in
+    let F = formed _ (sym c.in_ok-check_forms.ensures) in
     fillable F c.args.expression_rows.now (rows_room F c.requires)
 
 pub relations_end-end-requires : goal.relations_end-end-requires
 relations_end-end-requires c =
-    let F = formed _ (sym c.check_forms-form.ensures ∙ c.in_default.is) in
+    let F = formed _ (sym c.in_ok-check_forms.ensures) in
     let m = (counts F).most2 in omega arith
 
 pub overflow_mul-end : goal.overflow_mul-end
 overflow_mul-end c =
-    let F = formed _ (sym c.check_forms-form.ensures ∙ c.in_default.is) in
+    let F = formed _ (sym c.in_ok-check_forms.ensures) in
     let l = split_in F c.relations_end-end.ensures in omega arith
 
 pub slice_bounds-judge_into_rows-end : goal.slice_bounds-judge_into_rows-end
 slice_bounds-judge_into_rows-end c =
-    let F = formed _ (sym c.check_forms-form.ensures ∙ c.in_default.is) in
+    let F = formed _ (sym c.in_ok-check_forms.ensures) in
     sym (length-take-le (c.relations_end-end.result * 2) _ (split_in F c.relations_end-end.ensures))
 
 pub offset_bounds-entries-end : goal.offset_bounds-entries-end
 offset_bounds-entries-end c =
-    let F = formed _ (sym c.check_forms-form.ensures ∙ c.in_default.is) in
+    let F = formed _ (sym c.in_ok-check_forms.ensures) in
     let l = split_in F c.relations_end-end.ensures in omega arith
 
 pub slice_bounds-judge_into_rows-count : goal.slice_bounds-judge_into_rows-count
 slice_bounds-judge_into_rows-count c =
-    let F = formed _ (sym c.check_forms-form.ensures ∙ c.in_default.is) in
+    let F = formed _ (sym c.in_ok-check_forms.ensures) in
     split_in F c.relations_end-end.ensures
 
 pub slice_bounds-judge_into_rows-start : goal.slice_bounds-judge_into_rows-start
 slice_bounds-judge_into_rows-start c =
-    let F = formed _ (sym c.check_forms-form.ensures ∙ c.in_default.is) in
+    let F = formed _ (sym c.in_ok-check_forms.ensures) in
     split_in F c.relations_end-end.ensures
 
 pub judge_into_rows-requires : goal.judge_into_rows-requires
 judge_into_rows-requires c =
     let a = c.args in
-    let F = formed _ (sym c.check_forms-form.ensures ∙ c.in_default.is) in
+    let F = formed _ (sym c.in_ok-check_forms.ensures) in
     let truth = filled a.head.features (holds a.expressions.now) (length a.expressions.now / 3) a.expression_rows.now
     (rows_room F c.requires) c.fill_expression_rows.ensures in
     rows_read F c.requires (tables_read F c.relations_end-end.ensures truth refl refl refl)
@@ -57,8 +57,8 @@ judge_into_rows-requires c =
 pub returns : goal.returns
 returns c =
     let a = c.args in
-    let F = formed _ (sym c.check_forms-form.ensures ∙ c.in_default.is) in
+    let F = formed _ (sym c.in_ok-check_forms.ensures) in
     let truth = filled a.head.features (holds a.expressions.now) (length a.expressions.now / 3) a.expression_rows.now
     (rows_room F c.requires) c.fill_expression_rows.ensures in
-    judging_answers _ c.check_forms-form.ensures c.in_default.is c.fill_expression_rows.ensures
+    judging_answers _ c.in_ok-check_forms.ensures refl c.fill_expression_rows.ensures
     (c.judge_into_rows.ensures _ (tables_read F c.relations_end-end.ensures truth refl refl refl))
