@@ -3,7 +3,7 @@ use lib.Bits.{bit_and}
 use Rattle.report.specs.Tables.{relations_end}
 use Rattle.at_configuration.proofs.HoldLaws.{rowed}
 use Rattle.at_configuration.proofs.ListLaws.{form_lower}
-use Rattle.faults_at.proofs.ReadLaws.{either_is}
+use Rattle.faults_at.proofs.ReadLaws.{either_in, either_is}
 use Rattle.faults_at.proofs.SetLaws.{pair_lower, project_list, project_joined}
 use Rattle.faults_at.proofs.set_at.Goals as goal
 
@@ -31,3 +31,9 @@ returns-in-Choice c = λ T q A.
     let e = c.in-Choice.is in
     let l = rw e at (form_lower A.at) in
     rw e (either_is A.below (pair_lower l.1) A.at.reads l.0 c.taken_at.ensures c.set_in-in-Choice.ensures)
+
+pub set_in-requires-in-Choice : goal.set_in-requires-in-Choice
+set_in-requires-in-Choice c =
+    let A = c.requires.at in
+    let l = rw c.in-Choice.is at (form_lower A.at) in
+    either_in A.below (pair_lower l.1) A.at.reads l.0 c.taken_at.ensures
