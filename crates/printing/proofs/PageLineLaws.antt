@@ -66,10 +66,7 @@ module _ {n : ℕ} {f : ℕ → ℕ} {first : List ℕ} {at : ℕ} where
 
 -- ---- the pieces
 
--- the spaces before the digits: room for them, and the part of so many places that is filled with them
-pub spaces_place : (count : ℕ) {out : List ℕ} {at : ℕ} → Room (table count (λ i. 32)) out at → at + count ≤ length out
-spaces_place count r = omega (arith, r.fits, table-length {A = ℕ} count (λ i. 32))
-
+-- the spaces before the digits: the part of so many places that is filled with them
 spaces : (count : ℕ) → replicate {A = ℕ} count 32 ≡ table count (λ i. 32)
 spaces zero = refl
 spaces (suc count) = ap (λ (l : List ℕ). 32 ∷ l) (spaces count)

@@ -3,19 +3,15 @@ use native.Mathlib.Omega.{arith}
 use lib.ListN.{length}
 use Rattle.std.proofs.Common.{rules}
 use Rattle.sets.proofs.WritingLaws.{and_then, room_first, room_next, same_room, same_written}
-use Rattle.printing.proofs.PageLineLaws.{aligned_spaces, spaces_place, spaces_written}
+use Rattle.printing.proofs.PageLineLaws.{aligned-length, aligned_spaces, spaces_written}
 use Rattle.printing.proofs.page.put_aligned.Goals as goal
 
 pub overflow_add-digits : goal.overflow_add-digits
-overflow_add-digits c =
-    let pieces = aligned_spaces c.args.width c.args.n c.digit_count.ensures in
-    omega (arith, spaces_place (c.args.width - c.digit_count.result) (room_first _ (same_room pieces c.requires.room)))
+overflow_add-digits c = omega (arith, aligned-length c.args.width c.args.n c.requires.digits)
 
 pub slice_bounds-fill-end : goal.slice_bounds-fill-end
 slice_bounds-fill-end c =
-    let pieces = aligned_spaces c.args.width c.args.n c.digit_count.ensures in
-    let h : c.args.at + (c.args.width - c.digit_count.result) ≤ length c.args.out.now =
-    spaces_place (c.args.width - c.digit_count.result) (room_first _ (same_room pieces c.requires.room)) in
+    let h : c.args.at + c.args.width ≤ length c.args.out.now = omega (arith, aligned-length c.args.width c.args.n c.requires.digits) in
     search rules
 
 pub put_decimal-requires : goal.put_decimal-requires
