@@ -1,6 +1,6 @@
 -- How the parts of judging make its answer, what each part leaves for the next, and what a caller has of tables that pass.
 use Rattle.std.specs.Prelude.{Ok, Err}
-use Prim.Native.Nat.{ℕ, ◌-◌, ◌*◌, ◌/◌, ◌%◌, ◌^◌, ◌≤◌, max}
+use Prim.Native.Nat.{ℕ, ◌*◌, ◌/◌, ◌%◌, ◌^◌, ◌≤◌, max}
 use mathlib.Core.Path.{◌≡◌, refl, sym, ap, ◌∙◌}
 use mathlib.Core.Bool.{true, false}
 use mathlib.Core.List.{List}
@@ -29,7 +29,6 @@ use Rattle.report.proofs.CallLaws.{answer_run}
 use Rattle.expression_rows.specs.ExpressionRows.{rows_of, TruthFilled, SchemaReads, ReachFilled}
 use Rattle.expression_rows.proofs.FillLaws.{filled}
 use Rattle.expression_rows.proofs.PermittedLaws.{model_check_lem, model_row}
-use Rattle.expression_rows.proofs.PreparedLaws.{prepare}
 use Rattle.reach.specs.Reach.{reach_rows, ReachReads}
 use Rattle.reach.proofs.ReachRows.{reach_rows_lem}
 use Rattle.forms.proofs.Chain.{stops, goes_on}
@@ -161,11 +160,26 @@ any_forms {T} R unshown = record {
 
 module _ {T : Tables} (F : Formed T) where
   -- the tables, with the expression rows and table 1 in its parts
-  pub tables_read : {split : ℕ} → split ≡ relations_end T → {expression_rows : List ℕ} → TruthFilled T expression_rows → {head : Head}
+  pub tables_read : {split : ℕ} → split ≡ relations_end T → {relation_entries project_entries : List ℕ}
+      → relation_entries ≡ take (split * 2) T.entries → project_entries ≡ drop (split * 2) T.entries
+      → {expression_rows : List ℕ} → TruthFilled T expression_rows → {head : Head}
       → head.features ≡ T.features → head.attributes ≡ T.attributes → head.model ≡ T.model
-      → JudgeReads T head expression_rows (take (split * 2) T.entries)
-      (take (length T.entries - split * 2) (drop (split * 2) T.entries)) T.relations T.comparisons T.queries T.kinds
-  tables_read is C n m k = record { prepared = prepare F C is refl refl refl refl; features = n; attributes = m; model = k; kinds_are = refl }
+      → JudgeReads T head expression_rows relation_entries project_entries T.relations T.comparisons T.queries T.kinds
+  tables_read is r p C n m k = record {
+    prepared = record {
+      formed = F;
+      filled = C;
+      relation_entries_are = r ∙ ap (λ (k : ℕ). take (k * 2) T.entries) is;
+      project_entries_are = p ∙ ap (λ (k : ℕ). drop (k * 2) T.entries) is;
+      relations_are = refl;
+      comparisons_are = refl;
+      queries_are = refl;
+    };
+    features = n;
+    attributes = m;
+    model = k;
+    kinds_are = refl;
+  }
 
   -- tables with any number of expressions
   pub any_tables : {columns : List ℕ} → columns ≡ replicate 1024 0 → TablesReadable 256 T columns

@@ -206,12 +206,13 @@ fn fill_and_judge(
 {
     fill_expression_rows(head.features, expressions, &mut *expression_rows);
     let split = relations_end(relations) * 2;
+    let (relation_entries, project_entries) = entries.split_at(split);
     judge_into_columns(
         head,
         reading,
         &*expression_rows,
-        &entries[..split],
-        &entries[split..],
+        relation_entries,
+        project_entries,
         relations,
         comparisons,
         queries,
@@ -380,12 +381,13 @@ pub fn check_into_rows(
     )?;
     fill_expression_rows(head.features, expressions, &mut *expression_rows);
     let end = relations_end(relations) * 2;
+    let (relation_entries, project_entries) = entries.split_at(end);
     judge_into_rows(
         head,
         reading,
         &*expression_rows,
-        &entries[..end],
-        &entries[end..],
+        relation_entries,
+        project_entries,
         relations,
         comparisons,
         queries,

@@ -1,8 +1,7 @@
-use Prim.Native.Nat.{◌*◌, ◌/◌}
+use Prim.Native.Nat.{◌/◌}
 use mathlib.Core.Path.{refl, sym, ◌∙◌}
 use native.Mathlib.Omega.{arith}
 use lib.ListN.{length}
-use lib.Seq.{length-take-le}
 use Rattle.report.specs.Expressions.{holds}
 use Rattle.report.proofs.Formed.{formed}
 use Rattle.report.proofs.FormedFacts.{counts}
@@ -26,23 +25,8 @@ overflow_mul-end c =
     let F = formed _ (sym c.in_ok-check_forms.ensures) in
     let l = split_in F c.relations_end-end.ensures in omega arith
 
-pub slice_bounds-judge_into_rows-end : goal.slice_bounds-judge_into_rows-end
-slice_bounds-judge_into_rows-end c =
-    let F = formed _ (sym c.in_ok-check_forms.ensures) in
-    sym (length-take-le (c.relations_end-end.result * 2) _ (split_in F c.relations_end-end.ensures))
-
-pub offset_bounds-entries-end : goal.offset_bounds-entries-end
-offset_bounds-entries-end c =
-    let F = formed _ (sym c.in_ok-check_forms.ensures) in
-    let l = split_in F c.relations_end-end.ensures in omega arith
-
-pub slice_bounds-judge_into_rows-count : goal.slice_bounds-judge_into_rows-count
-slice_bounds-judge_into_rows-count c =
-    let F = formed _ (sym c.in_ok-check_forms.ensures) in
-    split_in F c.relations_end-end.ensures
-
-pub slice_bounds-judge_into_rows-start : goal.slice_bounds-judge_into_rows-start
-slice_bounds-judge_into_rows-start c =
+pub split_at-requires : goal.split_at-requires
+split_at-requires c =
     let F = formed _ (sym c.in_ok-check_forms.ensures) in
     split_in F c.relations_end-end.ensures
 
@@ -52,7 +36,7 @@ judge_into_rows-requires c =
     let F = formed _ (sym c.in_ok-check_forms.ensures) in
     let truth = filled a.head.features (holds a.expressions.now) (length a.expressions.now / 3) a.expression_rows.now
     (rows_room F c.requires) c.fill_expression_rows.ensures in
-    rows_read F c.requires (tables_read F c.relations_end-end.ensures truth refl refl refl)
+    rows_read F c.requires (tables_read F c.relations_end-end.ensures c.split_at.ensures.front c.split_at.ensures.back truth refl refl refl)
 
 pub returns : goal.returns
 returns c =
@@ -61,4 +45,4 @@ returns c =
     let truth = filled a.head.features (holds a.expressions.now) (length a.expressions.now / 3) a.expression_rows.now
     (rows_room F c.requires) c.fill_expression_rows.ensures in
     judging_answers _ c.in_ok-check_forms.ensures refl c.fill_expression_rows.ensures
-    (c.judge_into_rows.ensures _ (tables_read F c.relations_end-end.ensures truth refl refl refl))
+    (c.judge_into_rows.ensures _ (tables_read F c.relations_end-end.ensures c.split_at.ensures.front c.split_at.ensures.back truth refl refl refl))
