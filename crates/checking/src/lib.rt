@@ -9,7 +9,7 @@ ghost use Rattle.checking.specs.Meaning.{MeaningReads, Meant};
 use forms::check_forms;
 use judging::{COLUMN_WORDS, judge_tables_into_columns};
 use report::{Head, Reading, Verdict};
-use verdicts::refuse_if;
+use verdicts::refuse;
 
 // Checks 12 to 19 and 25 of tables that have passed 1 to 10 and 24. Accepted: `rows`, of 1,024 words, holds the column rows. Refused: `rows` is as it was.
 fn check_meaning(
@@ -69,7 +69,9 @@ pub fn check(
         queries,
         kinds,
     )?;
-    refuse_if(rows.len() != COLUMN_WORDS, 11, 0)?;
+    if rows.len() != COLUMN_WORDS {
+        return refuse(11, 0);
+    }
     check_meaning(
         head,
         reading,

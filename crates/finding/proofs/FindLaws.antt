@@ -22,7 +22,7 @@ use Rattle.report.proofs.FirstFault.{first_none, first_one}
 use Rattle.report.proofs.TypingLaws.{shown_columns}
 use Rattle.expression_rows.proofs.PermittedLaws.{permitted_out}
 use Rattle.judging.specs.Judging.{report_check}
-use Rattle.judging.proofs.JudgingLaws.{call_parts, Columns}
+use Rattle.judging.proofs.JudgingLaws.{call_refused, call_late, Columns}
 use Rattle.finding.specs.Finding.{wanted_condition, finding, has_wanted, lowest_wanted, found_answer, Finds}
 use Rattle.finding.specs.ColumnSearch.{shows_wanted, lowest_shown}
 
@@ -47,24 +47,25 @@ shown_wanted {T} F wanted =
 
 -- ---- the answer
 
-module _ (T : Tables) (R : Reading) {wanted set : ℕ} (same : set ≡ wanted) {checked : Verdict} (before : checked ≡ report_check T R) {bad : Bool}
-    (tells : bad ≡ has_from set T.attributes) {late v : Verdict} (own : late ≡ refuse_if bad (refusal 22 0 0 0)) (joined : v ≡ or_else checked late) where
-  is_late : late ≡ first_of (wanted_condition wanted T)
-  is_late =
-      own ∙ ap (λ (b : Bool). refuse_if b (refusal 22 0 0 0)) (tells ∙ ap (λ (x : ℕ). has_from x T.attributes) same)
-      ∙ sym (first_one (has_from wanted T.attributes) (refusal 22 0 0 0))
+module _ (T : Tables) (R : Reading) (wanted : ℕ) {checked : Verdict} (before : checked ≡ report_check T R) where
+  -- a check of the report refuses
+  pub checked_refused : {r : Refusal} → checked ≡ Err r → Finds T R wanted (Err r)
+  checked_refused e = ap (λ (v : Verdict). found_answer v (lowest_wanted T wanted)) (call_refused T R (finding wanted) first_none before e)
 
-  verdict : v ≡ answer T R (finding wanted)
-  verdict = joined ∙ ap₂ or_else before is_late ∙ sym (call_parts T R (finding wanted) first_none)
+  -- none does, and then 22
+  module _ (e : checked ≡ Ok tt) {set : ℕ} (same : set ≡ wanted) {bad : Bool} (tells : bad ≡ has_from set T.attributes) where
+    late_is : refuse_if bad (refusal 22 0 0 0) ≡ answer T R (finding wanted)
+    late_is =
+        ap (λ (b : Bool). refuse_if b (refusal 22 0 0 0)) (tells ∙ ap (λ (x : ℕ). has_from x T.attributes) same)
+        ∙ sym (first_one (has_from wanted T.attributes) (refusal 22 0 0 0)) ∙ call_late T R (finding wanted) first_none before e
 
-  -- a check refuses
-  pub refused_answers : {r : Refusal} → v ≡ Err r → Finds T R wanted (Err r)
-  refused_answers f = ap (λ (x : Verdict). found_answer x (lowest_wanted T wanted)) (sym f ∙ verdict)
+    pub late_refused : {r : Refusal} → Err r ≡ refuse_if bad (refusal 22 0 0 0) → Finds T R wanted (Err r)
+    late_refused f = ap (λ (v : Verdict). found_answer v (lowest_wanted T wanted)) (f ∙ late_is)
 
-  -- none does, and the search answers
-  pub found_answers : v ≡ Ok tt → {permits columns : List ℕ} → Columns T permits columns → {found : Option ℕ}
-      → found ≡ lowest_shown permits columns set → Finds T R wanted (found_answer (Ok tt) found)
-  found_answers f C search =
-      ap₂ found_answer (sym f ∙ verdict)
-      (search ∙ ap₂ (λ (row rows : List ℕ). lowest_shown row rows set) C.permitting C.shows
-      ∙ ap (lowest_shown (row_of 16 (permitted T)) (column_rows T)) same ∙ shown_wanted C.formed wanted)
+    -- neither does 22, and the search answers
+    pub found_answers : Ok tt ≡ refuse_if bad (refusal 22 0 0 0) → {permits columns : List ℕ} → Columns T permits columns → {found : Option ℕ}
+        → found ≡ lowest_shown permits columns set → Finds T R wanted (Ok found)
+    found_answers f C search =
+        ap₂ found_answer (f ∙ late_is)
+        (search ∙ ap₂ (λ (row rows : List ℕ). lowest_shown row rows set) C.permitting C.shows
+        ∙ ap (lowest_shown (row_of 16 (permitted T)) (column_rows T)) same ∙ shown_wanted C.formed wanted)
