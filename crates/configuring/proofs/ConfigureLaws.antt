@@ -26,7 +26,8 @@ use Rattle.report.proofs.SameTables.{same_tables}
 use Rattle.report.proofs.FirstFault.{first_none, room_fits, first_own}
 use Rattle.judging.specs.Judging.{meaning_check, report_check}
 use Rattle.judging.proofs.JudgingLaws.{call_refused, call_late, Rows}
-use Rattle.configuring.specs.Promises.{Configured, counts, configured_answer, Rooms, Leaves, Configures, is_configured_fault}
+use Rattle.configuring.specs.declared.FormCounts.{FormCounts}
+use Rattle.configuring.specs.Promises.{Configured, form_counts, configured_answer, Rooms, Leaves, Configures, is_configured_fault}
 use Rattle.configuring.specs.AfterTyping.{late_verdict, ConfigureReads}
 
 -- ---- 20 and 21
@@ -132,24 +133,25 @@ read {new} lent count width e f whole =
 read_tables : {U : Tables} → U.truth ≡ holds U.expressions → Formed U
     → {new_entries new_relations new_comparisons new_queries new_entries' new_relations' new_comparisons' new_queries' : List ℕ} {a b c d : ℕ}
     → Leaves (Ok tt) U new_entries new_relations new_comparisons new_queries
-    (Ok (counts a b c d)) new_entries' new_relations' new_comparisons' new_queries'
+    (Ok (form_counts a b c d)) new_entries' new_relations' new_comparisons' new_queries'
     → tables_of U.features U.attributes U.model U.expressions (take (a * 2) new_entries') (take (b * 2) new_relations')
     (take (c * 5) new_comparisons') (take (d * 4) new_queries') U.kinds
     ≡ U
 read_tables {U} worked F {new_entries} {new_relations} {new_comparisons} {new_queries} {new_entries'} {new_relations'} {new_comparisons'} {new_queries'} {a} {b} {c}
     {d} L =
-    let counted = L.answers in
-    let e1 : take (a * 2) new_entries' ≡ U.entries = read new_entries a 2 L.entries (cc) F.sized1.whole in
-    let e2 : take (b * 2) new_relations' ≡ U.relations = read new_relations b 2 L.relations (cc) F.sized2.whole in
-    let e3 : take (c * 5) new_comparisons' ≡ U.comparisons = read new_comparisons c 5 L.comparisons (cc) F.sized3.whole in
-    let e4 : take (d * 4) new_queries' ≡ U.queries = read new_queries d 4 L.queries (cc) F.sized4.whole in
+    let answered = L.answers in
+    let counted : form_counts a b c d ≡ form_counts (entry_count U) (relation_count U) (comparison_count U) (query_count U) = cc in
+    let e1 : take (a * 2) new_entries' ≡ U.entries = read new_entries a 2 L.entries (ap (λ (n : FormCounts). n.entries) counted) F.sized1.whole in
+    let e2 : take (b * 2) new_relations' ≡ U.relations = read new_relations b 2 L.relations (ap (λ (n : FormCounts). n.relations) counted) F.sized2.whole in
+    let e3 : take (c * 5) new_comparisons' ≡ U.comparisons = read new_comparisons c 5 L.comparisons (ap (λ (n : FormCounts). n.comparisons) counted) F.sized3.whole in
+    let e4 : take (d * 4) new_queries' ≡ U.queries = read new_queries d 4 L.queries (ap (λ (n : FormCounts). n.queries) counted) F.sized4.whole in
     rw (e1, e2, e3, e4, ← worked)
 
 -- so what the call answers and leaves gives the tables written
 pub read_back_lem : (T : Tables) (k : ℕ) (R : Reading) → Formed (configured T k R)
     → {new_entries new_relations new_comparisons new_queries new_entries' new_relations' new_comparisons' new_queries' : List ℕ} {a b c d : ℕ}
     → Leaves (Ok tt) (configured T k R) new_entries new_relations new_comparisons new_queries
-    (Ok (counts a b c d)) new_entries' new_relations' new_comparisons' new_queries'
+    (Ok (form_counts a b c d)) new_entries' new_relations' new_comparisons' new_queries'
     → tables_of 0 T.attributes 0 (1 ∷ 0 ∷ 0 ∷ []) (take (a * 2) new_entries') (take (b * 2) new_relations') (take (c * 5) new_comparisons')
     (take (d * 4) new_queries') T.kinds ≡ configured T k R
 unfolding configured

@@ -30,7 +30,7 @@ use Rattle.kept_lists.specs.Keeping.{relation_lists, project_lists, relation_for
 use Rattle.kept_forms.specs.Numbering.{comparison_forms, query_forms, ComparisonFormReads, ComparisonFormWritable}
 use Rattle.kept_forms.specs.Numbering.{QueryReads, QueryNumberable, QueryFormReads, QueryFormWritable}
 use Rattle.late_checks.specs.LateReads.{LateReads}
-use Rattle.configuring.specs.Promises.{counts, Rooms, Leaves}
+use Rattle.configuring.specs.Promises.{form_counts, Rooms, Leaves}
 use Rattle.configuring.specs.AfterTyping.{ConfigureReads, EntriesReads, EntriesWritable, KeptReads, KeptWritable, TypedReads, TypedWritable}
 
 -- ---- the texts are the tables of `configured`
@@ -102,7 +102,7 @@ module _ {T : Tables} (F : Formed T) (c : ℕ) {new_entries new_relations new_co
       → WrittenAt (relation_forms T c) new_relations 0 new_relations' r → WrittenAt (comparison_forms T c) new_comparisons 0 new_comparisons' f
       → WrittenAt (query_forms T c) new_queries 0 new_queries' q
       → Leaves (Ok tt) (configured T c Reading.Filled) new_entries new_relations new_comparisons new_queries
-      (Ok (counts (e / 2) (r / 2) (f / 5) (q / 4))) new_entries' new_relations' new_comparisons' new_queries'
+      (Ok (form_counts (e / 2) (r / 2) (f / 5) (q / 4))) new_entries' new_relations' new_comparisons' new_queries'
   tables_left entries_written relations_written comparisons_written queries_written =
       let w1 = text_written (entries_text T c) entries_fit entries_written in
       let w2 = text_written (relations_text T c) relations_fit relations_written in

@@ -10,8 +10,8 @@ use Rattle.report.specs.declared.Refusal.{Refusal}
 use Rattle.configuring.specs.declared.FormCounts.{FormCounts}
 
 -- how many forms tables 1 to 4 have
-abbrev pub counts : ℕ → ℕ → ℕ → ℕ → FormCounts
-counts entries relations comparisons queries = record { entries = entries; relations = relations; comparisons = comparisons; queries = queries }
+abbrev pub form_counts : ℕ → ℕ → ℕ → ℕ → FormCounts
+form_counts entries relations comparisons queries = record { entries = entries; relations = relations; comparisons = comparisons; queries = queries }
 
 -- what configuring answers: these, or the refusal
 abbrev pub Configured : Type 0
@@ -19,7 +19,7 @@ Configured = Result FormCounts Refusal
 
 -- the answer: the number of forms in tables 1 to 4 of what is written, or the refusal
 abbrev pub configured_answer : Verdict → Tables → Configured
-configured_answer (Ok tt) U = Ok (counts (entry_count U) (relation_count U) (comparison_count U) (query_count U))
+configured_answer (Ok tt) U = Ok (form_counts (entry_count U) (relation_count U) (comparison_count U) (query_count U))
 configured_answer (Err r) U = Err r
 
 -- a table lent for writing, afterwards: the new words, followed by what stood there; unchanged by a refused call

@@ -28,7 +28,7 @@ use Rattle.report.proofs.KindLaws.{kinds_0_before}
 use Rattle.report.proofs.KindMembers.{seven_asks}
 use Rattle.report.proofs.KindCalls.{accepted_one_kind, exactly_25}
 use Rattle.checking.specs.Promises.{Checks}
-use Rattle.configuring.specs.Promises.{counts, Rooms, Leaves, Configures}
+use Rattle.configuring.specs.Promises.{form_counts, Rooms, Leaves, Configures}
 use Rattle.finding.specs.Finding.{lowest_wanted, Finds}
 use Rattle.wall_page.specs.Page.{line_count, page_after, PageWritten}
 use Rattle.demands.specs.FoundWritten.{FoundWritten}
@@ -53,7 +53,7 @@ abbrev lent4 : List ℕ
 lent4 = replicate 8 9
 
 -- H4: H1 configured at 0. The words after those written are as they were
-pub h4_configures : Configures (h1 2) Reading.Strict 0 lent1 lent2 [] lent4 (Ok (counts 3 1 0 2)) (0 ∷ 0 ∷ 1 ∷ 0 ∷ 0 ∷ 0 ∷ replicate 6 9) (0 ∷ 2 ∷ []) []
+pub h4_configures : Configures (h1 2) Reading.Strict 0 lent1 lent2 [] lent4 (Ok (form_counts 3 1 0 2)) (0 ∷ 0 ∷ 1 ∷ 0 ∷ 0 ∷ 0 ∷ replicate 6 9) (0 ∷ 2 ∷ []) []
     (1 ∷ 0 ∷ 0 ∷ 0 ∷ 3 ∷ 1 ∷ 0 ∷ 0 ∷ [])
 unfolding computed
 h4_configures = record { answers = refl; entries = refl; relations = refl; comparisons = refl; queries = refl }
@@ -83,7 +83,7 @@ h4_permitted = refl
 h4_rooms : Rooms (h1 2) lent1 lent2 [] lent4
 h4_rooms = record { entries = lit≤ tt; relations = lit≤ tt; comparisons = lit≤ tt; queries = lit≤ tt }
 
-pub h4_found : FoundWritten (h1 2) Reading.Strict 0 (column_rows (h1 2)) lent1 lent2 [] lent4 (Ok (counts 3 1 0 2)) (0 ∷ 0 ∷ 1 ∷ 0 ∷ 0 ∷ 0 ∷ replicate 6 9)
+pub h4_found : FoundWritten (h1 2) Reading.Strict 0 (column_rows (h1 2)) lent1 lent2 [] lent4 (Ok (form_counts 3 1 0 2)) (0 ∷ 0 ∷ 1 ∷ 0 ∷ 0 ∷ 0 ∷ replicate 6 9)
     (0 ∷ 2 ∷ []) [] (1 ∷ 0 ∷ 0 ∷ 0 ∷ 3 ∷ 1 ∷ 0 ∷ 0 ∷ [])
 h4_found =
     found_written (h1 2) Reading.Strict 0 lent1 lent2 [] lent4 _ _ _ _ _ h4_configures (replicate 1024 9) (column_rows (h1 2)) h1_checks h4_permitted h4_rooms
@@ -105,14 +105,14 @@ h1_once = record { relations = relation; projects = project }
     project (suc zero) h f = refl
     project (suc (suc q)) h f = absurd (omega arith)
 
-pub h4_before : Leaves (answer_before (h1 2) (configuring 0 12 2 0 8)) (configured_before (h1 2) 0) lent1 lent2 [] lent4 (Ok (counts 3 1 0 2))
+pub h4_before : Leaves (answer_before (h1 2) (configuring 0 12 2 0 8)) (configured_before (h1 2) 0) lent1 lent2 [] lent4 (Ok (form_counts 3 1 0 2))
     (0 ∷ 0 ∷ 1 ∷ 0 ∷ 0 ∷ 0 ∷ replicate 6 9) (0 ∷ 2 ∷ []) [] (1 ∷ 0 ∷ 0 ∷ 0 ∷ 3 ∷ 1 ∷ 0 ∷ 0 ∷ [])
 h4_before = configure_before (h1 2) 0 lent1 lent2 [] lent4 _ _ _ _ _ h4_configures h1_once
 
 pub ramp_repeats : relation_repeats ramp_twice 0 ≡ true
 ramp_repeats = refl
 
-ramp_configures : Configures ramp_twice Reading.Strict 2 (replicate 7 9) lent2 [] (replicate 4 9) (Ok (counts 2 1 0 1))
+ramp_configures : Configures ramp_twice Reading.Strict 2 (replicate 7 9) lent2 [] (replicate 4 9) (Ok (form_counts 2 1 0 1))
     (0 ∷ 0 ∷ 1 ∷ 0 ∷ replicate 3 9) (0 ∷ 2 ∷ []) [] (1 ∷ 0 ∷ 0 ∷ 0 ∷ [])
 unfolding computed
 ramp_configures = record { answers = refl; entries = refl; relations = refl; comparisons = refl; queries = refl }

@@ -37,7 +37,7 @@ use Rattle.report.proofs.RulesLaws.{rules_plain, rules_throughout, accepted_sets
 use Rattle.report.proofs.WrittenAccepted.{called_sound, called_typed, called_own, checked_passes, checked_columns, accepted_written, configure_accepted}
 use Rattle.report.proofs.Refusing.{check_gets, configure_gets, check_typing, checking_own, configuring_own, refused_broken, refused_named, never_refused}
 use Rattle.checking.specs.Promises.{Checks}
-use Rattle.configuring.specs.Promises.{Configured, counts, configured_answer, table_after, Rooms, Leaves, Configures, is_configured_fault}
+use Rattle.configuring.specs.Promises.{Configured, form_counts, configured_answer, table_after, Rooms, Leaves, Configures, is_configured_fault}
 use Rattle.configuring.proofs.ConfigureLaws.{room_accepted, read_back_lem, configured_fault, configured_refused}
 use Rattle.demands.specs.FoundWritten.{FoundWritten}
 
@@ -175,11 +175,11 @@ module _ (T : Tables) (R : Reading) (c : ℕ) (new_entries new_relations new_com
             )
 
     -- From `configure` alone, where it answers that it has written
-    module _ (a b d e : ℕ) (written : r ≡ Ok (counts a b d e)) where
+    module _ (a b d e : ℕ) (written : r ≡ Ok (form_counts a b d e)) where
       accepts : answer T R writing ≡ Ok tt
       accepts = go (answer T R writing) (sym written ∙ configures.answers)
         where
-          go : (v : Verdict) → Ok (counts a b d e) ≡ configured_answer v (configured T c R) → v ≡ Ok tt
+          go : (v : Verdict) → Ok (form_counts a b d e) ≡ configured_answer v (configured T c R) → v ≡ Ok tt
           go (Ok tt) u = refl
           go (Err x) u = absurd (let z : ◌≡◌ {A = ℕ} 0 1 = cc in omega arith)
 

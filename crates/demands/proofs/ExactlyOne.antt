@@ -31,7 +31,7 @@ use Rattle.report.proofs.FormFacts.{expression_lower}
 use Rattle.report.proofs.FitLaws.{expression_fits_lem}
 use Rattle.report.proofs.TypingLaws.{row_shows}
 use Rattle.checking.specs.Promises.{Checks}
-use Rattle.configuring.specs.Promises.{Configured, counts, Configures}
+use Rattle.configuring.specs.Promises.{Configured, form_counts, Configures}
 use Rattle.finding.specs.Finding.{FindAnswer, Finds}
 use Rattle.wall_page.specs.Page.{PageAnswer, PageWritten}
 use Rattle.demands.specs.FoundConfiguration.{columns_at}
@@ -193,7 +193,7 @@ module _ (T : Tables) (worked : T.truth ≡ holds T.expressions) (first count : 
     -- and at those alone is the report configured
     pub model_written : (c : ℕ) (entries relations comparisons queries : List ℕ) (r : Configured) (entries' relations' comparisons' queries' : List ℕ)
         → Configures T R c entries relations comparisons queries r entries' relations' comparisons' queries'
-        → (n1 n2 n3 n4 : ℕ) → r ≡ Ok (counts n1 n2 n3 n4) → OneOn first count c
+        → (n1 n2 n3 n4 : ℕ) → r ≡ Ok (form_counts n1 n2 n3 n4) → OneOn first count c
     model_written c entries relations comparisons queries r entries' relations' comparisons' queries' configures n1 n2 n3 n4 e =
         ((model_permits c).0
         (written-permitted T R c entries relations comparisons queries r entries' relations' comparisons' queries' configures n1 n2 n3 n4 e)).1

@@ -39,7 +39,7 @@ use Rattle.report.proofs.RepeatLaws.{answer_before_lem, written_before}
 use Rattle.report.proofs.Refusing.{check_typing}
 use Rattle.report.proofs.WrittenAccepted.{called_sound, called_typed, called_formed}
 use Rattle.checking.specs.Promises.{Checks}
-use Rattle.configuring.specs.Promises.{Configured, counts, Leaves, Configures}
+use Rattle.configuring.specs.Promises.{Configured, form_counts, Leaves, Configures}
 use Rattle.finding.specs.Finding.{FindAnswer, finding, lowest_wanted, found_answer, Finds}
 use Rattle.demands.proofs.Demands.{left_rows, written_alone}
 
@@ -119,7 +119,7 @@ module _ (T : Tables) where
 module _ (T : Tables) (R : Reading) (c : ℕ) (new_entries new_relations new_comparisons new_queries : List ℕ) (r : Configured)
     (new_entries' new_relations' new_comparisons' new_queries' : List ℕ)
     (configures : Configures T R c new_entries new_relations new_comparisons new_queries r new_entries' new_relations' new_comparisons' new_queries') where
-  pub configure_once : (a b d e : ℕ) → r ≡ Ok (counts a b d e)
+  pub configure_once : (a b d e : ℕ) → r ≡ Ok (form_counts a b d e)
       → NoRepeats
       (tables_of 0 T.attributes 0 (1 ∷ 0 ∷ 0 ∷ [])
       (take (a * 2) new_entries') (take (b * 2) new_relations') (take (d * 5) new_comparisons') (take (e * 4) new_queries') T.kinds)

@@ -8,7 +8,7 @@ use Rattle.report.specs.WrittenTables.{WrittenAccepted}
 use Rattle.report.specs.Verdicts.{Verdict}
 use Rattle.report.specs.declared.Reading.{Reading}
 use Rattle.checking.specs.Promises.{Checks}
-use Rattle.configuring.specs.Promises.{Configured, counts, Leaves}
+use Rattle.configuring.specs.Promises.{Configured, form_counts, Leaves}
 
 -- of those written in a reading at c, where a check leaves the rows rows'
 pub record FoundWritten (T : Tables) (R : Reading) (c : ℕ) (rows' new_entries new_relations new_comparisons new_queries : List ℕ) (r : Configured)
@@ -17,7 +17,7 @@ pub record FoundWritten (T : Tables) (R : Reading) (c : ℕ) (rows' new_entries 
   pub leaves : Leaves (Ok tt) (configured T c R) new_entries new_relations new_comparisons new_queries r
       new_entries' new_relations' new_comparisons' new_queries'
   -- so that many forms of each, read back, with the head, the one expression and the kind table that docs/FORMAT.md names, are the tables written
-  pub read_back : (a b d e : ℕ) → r ≡ Ok (counts a b d e)
+  pub read_back : (a b d e : ℕ) → r ≡ Ok (form_counts a b d e)
       → tables_of 0 T.attributes 0 (1 ∷ 0 ∷ 0 ∷ [])
       (take (a * 2) new_entries') (take (b * 2) new_relations') (take (d * 5) new_comparisons') (take (e * 4) new_queries') T.kinds
       ≡ configured T c R

@@ -35,7 +35,7 @@ use Rattle.forms.proofs.Chain.{stops, goes_on}
 use Rattle.expression_rows.specs.TypingReads.{Items, TypingReads, Checked}
 use Rattle.expression_rows.specs.declared.Scope.{Scope}
 use Rattle.judging.specs.Judging.{meaning_check, report_check, early_check, JudgeReads, JudgeReadable, Judged, ColumnsReadable}
-use Rattle.judging.specs.Judging.{TablesFilled, TablesReadable, TablesJudged, ColumnsChecked, RowsLent, RowsChecked}
+use Rattle.judging.specs.Judging.{TablesFillable, TablesFilled, TablesReadable, TablesJudged, ColumnsChecked, RowsLent, RowsChecked}
 
 -- ---- the answer of any call
 
@@ -85,9 +85,6 @@ enough {T} F e f g =
 
 module _ {T : Tables} {head : Head} {expression_rows relation_entries project_entries relations comparisons queries kinds : List ℕ}
     (R : JudgeReads T head expression_rows relation_entries project_entries relations comparisons queries kinds) where
-  pub few_features : head.features ≤ 10
-  few_features = let f = R.prepared.formed.few in let e = R.features in omega arith
-
   module _ {permits : List ℕ} (load : permits ≡ row_in 16 expression_rows head.model) where
     permitting : permits ≡ row_of 16 (permitted T)
     permitting = load ∙ model_row R.prepared.formed R.prepared.filled R.model
@@ -145,6 +142,20 @@ module _ {T : Tables} (R : Reading) {v : Verdict} (early : v ≡ model_and_schem
 
 -- ---- reach rows of its own
 
+-- `most` rows are enough for tables that have at most so many query forms
+pub own_reach : (most : ℕ) {head : Head} {expression_rows relation_entries project_entries relations comparisons queries kinds columns : List ℕ}
+    → ColumnsReadable most head expression_rows relation_entries project_entries relations comparisons queries kinds columns
+    → JudgeReadable head expression_rows relation_entries project_entries relations comparisons queries kinds (replicate (most * 16) 0) columns
+own_reach most A =
+    let l = length-replicate {A = ℕ} (most * 16) 0 in
+    record {
+      tables = A.tables;
+      reads = A.reads;
+      forms = let f = A.few in let e = ap length A.reads.prepared.queries_are in omega arith;
+      unreached = ap (λ (k : ℕ). replicate {A = ℕ} k 0) (sym l);
+      unshown = A.unshown;
+    }
+
 -- tables with any number of query forms
 pub any_forms : {head : Head} {expression_rows relation_entries project_entries relations comparisons queries kinds columns : List ℕ} {T : Tables}
     → JudgeReads T head expression_rows relation_entries project_entries relations comparisons queries kinds → columns ≡ replicate 1024 0
@@ -185,6 +196,14 @@ module _ {T : Tables} (F : Formed T) where
   pub any_tables : {columns : List ℕ} → columns ≡ replicate 1024 0 → TablesReadable 256 T columns
   any_tables unshown = record { formed = F; few = (counts F).most0; unshown = unshown }
 
+-- `most` rows are enough for tables that have at most so many expressions
+pub own_expressions : (most : ℕ) {T : Tables} {columns : List ℕ} → TablesReadable most T columns → TablesFillable T (replicate (most * 16) 0) columns
+own_expressions most A = record {
+  formed = A.formed;
+  room = let f = A.few in let l = length-replicate {A = ℕ} (most * 16) 0 in omega arith;
+  unshown = A.unshown;
+}
+
 -- so many words are enough, and the model has a row in them
 module _ (words : ℕ) {T : Tables} {R : Reading} {lent_columns : List ℕ} (A : TablesReadable (words / 16) T lent_columns) {v : Verdict}
     {expression_rows columns : List ℕ} (J : TablesFilled T R v (replicate words 0) lent_columns expression_rows columns) where
@@ -193,32 +212,6 @@ module _ (words : ℕ) {T : Tables} {R : Reading} {lent_columns : List ℕ} (A :
       let room : expression_count T * 16 ≤ length (replicate {A = ℕ} words 0) = (let f = A.few in omega (arith, length-replicate {A = ℕ} words 0)) in
       let truth = filled T.features T.truth (expression_count T) (replicate words 0) room J.fills in
       record { judged = J.judged; permitting = load ∙ model_row A.formed truth refl }
-
--- the form checks, and then these
-module _ {T : Tables} (R : Reading) {v : Verdict} (forms : v ≡ form_check T) {lent_columns : List ℕ} where
-  -- a form check refuses
-  pub columns_refuse : {r : Refusal} → v ≡ Err r → {permits : List ℕ} → permits ≡ row_of 16 (λ c. false)
-      → ColumnsChecked T R v permits lent_columns lent_columns
-  columns_refuse {r} f none = record {
-    answers = stops (meaning_check T R) forms f;
-    permitting = none ∙ ap (λ (x : Verdict). after x (row_of 16 (permitted T)) (row_of 16 (λ c. false))) refused;
-    shows = ap (λ (x : Verdict). after x (column_rows T) lent_columns) (sym (then_refused (model_and_schema_check T) (sym refused)));
-  }
-    where
-      refused : Err r ≡ form_check T
-      refused = sym f ∙ forms
-
-  -- the rest is judged
-  pub columns_answer : v ≡ Ok tt → {w : Verdict} {permits columns : List ℕ} → TablesJudged T R w permits lent_columns columns
-      → ColumnsChecked T R w permits lent_columns columns
-  columns_answer f J = record {
-    answers = goes_on forms f J.judged.answers;
-    permitting = J.permitting ∙ ap (λ (x : Verdict). after x (row_of 16 (permitted T)) (row_of 16 (λ c. false))) passed;
-    shows = J.judged.shows ∙ ap (λ (x : Verdict). after x (column_rows T) lent_columns) (sym (then_next (sym passed)));
-  }
-    where
-      passed : (Ok tt) ≡ form_check T
-      passed = sym f ∙ forms
 
 -- ---- whole tables, with all rows lent
 

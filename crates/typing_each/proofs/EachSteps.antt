@@ -26,7 +26,6 @@ use Rattle.report.specs.Readings.{spared}
 use Rattle.report.specs.Configuring.{written}
 use Rattle.report.specs.Verdicts.{Verdict}
 use Rattle.report.specs.declared.Reading.{Reading}
-use Rattle.report.proofs.FormedFacts.{counts}
 use Rattle.report.proofs.TypingLaws.{permitted_within, permitted_1024}
 use Rattle.verdicts.specs.Sooner.{sooner}
 use Rattle.expression_rows.specs.declared.Scope.{Scope}
@@ -108,13 +107,6 @@ module _ {scope : Scope} {expression_rows relation_entries project_entries relat
       sparing = λ T R. numbers_are (query_count T) (spared T scope.reading) _ (filled T (sparing_reads R));
       lent = sets_enough most (rw A.each.readable.reads.report.prepared.comparisons_are at A.comparisons_few) forms_few_lem;
     }
-
-  pub any_size : EachReadable scope expression_rows relation_entries project_entries relations comparisons queries kinds reach columns
-      → SizeReadable 256 scope expression_rows relation_entries project_entries relations comparisons queries kinds reach columns
-  any_size A =
-      let P = A.readable.reads.report.prepared in
-      let n = counts P.formed in
-      record { each = A; comparisons_few = rw P.comparisons_are n.most3; forms_few = rw P.queries_are n.most4 }
 
 -- ---- the loop
 

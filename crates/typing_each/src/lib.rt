@@ -167,6 +167,7 @@ pub fn check_each(
             columns,
         );
     }
+    // MOST_COMPARISONS is the same number.
     check_sized::<{ Limits::MOST_QUERIES }>(
         scope,
         expression_rows,
