@@ -10,7 +10,7 @@ use native.Mathlib.Omega.{arith}
 use borrow.Author.Tests.{not-false}
 use lib.ListN.{length, take, drop}
 use lib.Seq.{take_at}
-use Rattle.report.specs.Tables.{Tables}
+use Rattle.report.specs.Tables.{Tables, entry_count, relation_count, comparison_count, query_count}
 use Rattle.report.specs.Expressions.{holds, permitted, tables_of}
 use Rattle.report.specs.Configuring.{configured, written}
 use Rattle.report.specs.Verdicts.{Verdict, refusal, refuse_if, first_of}
