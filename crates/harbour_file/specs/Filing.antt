@@ -1,5 +1,5 @@
 -- What the reader's functions answer, and what they leave in the words that are lent.
-use Rattle.std.specs.Prelude.{ℕ, suc, ◌+◌, ◌*◌, ◌≤◌, ◌≡◌, cond, List, [], ◌∷◌, length, take, get_or, ltb}
+use Rattle.std.specs.Prelude.{ℕ, suc, ◌+◌, ◌*◌, ◌≤◌, ◌≡◌, cond, List, [], ◌∷◌, length, take, get_or, ltb, Result, Ok, Err}
 use lib.Seq.{sets}
 use Rattle.report.specs.Expressions.{holds}
 use Rattle.report.specs.Tables.{Tables}
@@ -10,7 +10,7 @@ use Rattle.reading.specs.Scanning.{line_at}
 use Rattle.harbour_file.specs.Reading.{Part, group_lines_from, group_numbered, part_from, file_parts, part_at}
 use Rattle.harbour_file.specs.declared.Place.{Place}
 use Rattle.harbour_file.specs.declared.Sizes.{Sizes}
-use Rattle.harbour_file.specs.declared.Outcome.{Outcome}
+use Rattle.harbour_file.specs.declared.BadLine.{BadLine}
 
 -- ---- a group
 
@@ -91,9 +91,9 @@ sizes_of T = record {
 }
 
 -- the answer for a file: the number of its first bad line, or how many words its tables have
-abbrev pub outcome_of : File → Outcome
-outcome_of (File.unread n) = Outcome.Bad n
-outcome_of (File.holds T) = Outcome.Read (sizes_of T)
+abbrev pub outcome_of : File → Result Sizes BadLine
+outcome_of (File.unread n) = Err (record { number = n })
+outcome_of (File.holds T) = Ok (sizes_of T)
 
 -- The lent words afterwards: every group is read, also after a bad line, and each starts where the one before it ends. How many kinds there are without
 -- kind lines is by word 1 of the head, whatever stands there
@@ -110,7 +110,7 @@ unfoldable pub file_left : List ℕ → FileWords → FileWords
 file_left s lent = cond (ltb 65536 (length s)) lent (groups_left s lent)
 
 -- what is answered, and what is left
-pub record Filed (file : File) (left : FileWords) (answer : Outcome) (after : FileWords) : Type 0 where
+pub record Filed (file : File) (left : FileWords) (answer : Result Sizes BadLine) (after : FileWords) : Type 0 where
   pub answers : answer ≡ outcome_of file
   pub stored : after ≡ left
 

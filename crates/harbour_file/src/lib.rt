@@ -8,7 +8,7 @@ ghost use Rattle.harbour_file.specs.Reading.{group_lines_from, part_from, kind_p
 ghost use Rattle.harbour_file.specs.Filing.{lines_left, group_left, kinds_left, GroupRoom, GroupTaken};
 ghost use Rattle.harbour_file.specs.Filing.{head_of, file_words, Lent, groups_left, file_left, Filed};
 
-use reading::{Step, read_line};
+use reading::read_line;
 use report::{Head, Limits};
 use sets::AttributeSet;
 
@@ -31,11 +31,10 @@ pub struct Sizes {
     pub kinds: usize,
 }
 
-// What was read, or the number of the first bad line.
-#[derive(Clone, Copy)]
-pub enum Outcome {
-    Read(Sizes),
-    Bad(usize),
+// The first bad line of a file, by its number from 1; the number 0 says that the file is too long.
+#[derive(Clone, Copy, Debug, PartialEq, Eq)]
+pub struct BadLine {
+    pub number: usize,
 }
 
 // At most `most` lines of the word and `width` numbers, from a place on.
@@ -52,31 +51,18 @@ fn read_lines(
         (lines_left s.now word.now width most from.at from.line out.old) (from.line + most) result
         out.new }
 {
-    let line = from.line;
     let mut at = from.at;
-    let mut k = 0;
-    let mut to = 0;
-    while k < most {
-        match read_line(s, word, width, at, out, to) {
-            Step::Stop(_) => {
-                return Place {
-                    at: at,
-                    line: line + k,
-                    end: to,
-                };
-            }
-            Step::Next(p) => {
-                at = p;
-                to += width;
-                k += 1;
-            }
-        }
+    let mut end = 0;
+    for k in 0..most {
+        let Ok(p) = read_line(s, word, width, at, out, end) else {
+            let line = from.line + k;
+            return Place { at, line, end };
+        };
+        at = p;
+        end += width;
     }
-    Place {
-        at: at,
-        line: line + k,
-        end: to,
-    }
+    let line = from.line + most;
+    Place { at, line, end }
 }
 
 // The head line, which is the first.
@@ -90,28 +76,6 @@ fn read_head(s: &[u8], head: &mut [u16]) -> Place
         end: 0,
     };
     read_lines(s, b"(head", 3, 1, start, head)
-}
-
-// The smaller of two numbers.
-fn smaller(x: usize, y: usize) -> usize
-    ensures { result ≡ min x y }
-{
-    if x < y {
-        return x;
-    }
-    y
-}
-
-// Makes the first `count` words 0.
-fn clear_first(words: &mut [u16], count: usize)
-    requires { count ≤ length words.old }
-    ensures { words.new ≡ written (replicate count 0) words.old }
-{
-    let mut i = 0;
-    while i < count {
-        words[i] = 0;
-        i += 1;
-    }
 }
 
 // The kind lines of a file of m attributes. With none all kinds are 0: the words are cleared, since a line that is not read may have left a number.
@@ -131,19 +95,13 @@ fn read_kinds(s: &[u8], m: usize, from: Place, kinds: &mut [u16]) -> Place
     if k.end != 0 {
         return k;
     }
-    let count = smaller(m, AttributeSet::MOST_ATTRIBUTES);
-    clear_first(kinds, count);
+    let count = m.min(AttributeSet::MOST_ATTRIBUTES);
+    kinds[..count].fill(0);
     Place {
         at: k.at,
         line: k.line,
         end: count,
     }
-}
-
-fn wide(x: u16) -> usize
-    ensures { result ≡ x }
-{
-    x as usize
 }
 
 // The head, from its three words.
@@ -152,9 +110,9 @@ pub fn decode_head(words: &[u16]) -> Head
     ensures { result ≡ head_of words.now }
 {
     Head {
-        features: wide(words[0]),
-        attributes: wide(words[1]),
-        model: wide(words[2]),
+        features: usize::from(words[0]),
+        attributes: usize::from(words[1]),
+        model: usize::from(words[2]),
     }
 }
 
@@ -168,7 +126,7 @@ fn read_groups(
     comparisons: &mut [u16],
     queries: &mut [u16],
     kinds: &mut [u16],
-) -> Outcome
+) -> Result<Sizes, BadLine>
     requires { Lent (file_words head.old expressions.old entries.old relations.old comparisons.old queries.old kinds.old) }
     ensures { Filed (file_from s.now (file_parts s.now))
         (groups_left s.now
@@ -197,12 +155,12 @@ fn read_groups(
         comparisons,
     );
     let q = read_lines(s, b"(query", 4, Limits::MOST_QUERIES, c, queries);
-    let k = read_kinds(s, wide(head[1]), q, kinds);
+    let k = read_kinds(s, usize::from(head[1]), q, kinds);
     if h.end == 0 {
-        return Outcome::Bad(1);
+        return Err(BadLine { number: 1 });
     }
     if k.at == s.len() {
-        return Outcome::Read(Sizes {
+        return Ok(Sizes {
             expressions: x.end,
             entries: e.end,
             relations: r.end,
@@ -211,7 +169,7 @@ fn read_groups(
             kinds: k.end,
         });
     }
-    Outcome::Bad(k.line)
+    Err(BadLine { number: k.line })
 }
 
 // The length of the longest file that is read.
@@ -227,7 +185,7 @@ pub fn read_file(
     comparisons: &mut [u16],
     queries: &mut [u16],
     kinds: &mut [u16],
-) -> Outcome
+) -> Result<Sizes, BadLine>
     requires { Lent (file_words head.old expressions.old entries.old relations.old comparisons.old queries.old kinds.old) }
     ensures { Filed (file_of s.now)
         (file_left s.now
@@ -237,7 +195,7 @@ pub fn read_file(
         queries.new kinds.new) }
 {
     if LONGEST_FILE < s.len() {
-        return Outcome::Bad(0);
+        return Err(BadLine { number: 0 });
     }
     read_groups(
         s,
