@@ -9,7 +9,7 @@ ghost use Rattle.harbour_file.specs.Filing.{file_words, Held};
 ghost use Rattle.harbour_print.specs.Layouts.{file_as, text_as};
 ghost use Rattle.harbour_print.specs.Printing.{HeldReadable, Prints};
 
-use harbour_file::{Outcome, Sizes, decode_head, read_file};
+use harbour_file::{Sizes, decode_head, read_file};
 use printed::print_tables;
 use report::Limits;
 use sets::AttributeSet;
@@ -91,8 +91,8 @@ pub fn print_file(text: &[u8], layout: Layout, out: &mut PrintRoom) -> usize
         &mut kinds,
     );
     match file {
-        Outcome::Bad(n) => put_unread(out, 0, n as u64),
-        Outcome::Read(sizes) => {
+        Err(bad) => put_unread(out, 0, bad.number as u64),
+        Ok(sizes) => {
             print_read(
                 sizes,
                 layout,
