@@ -1,4 +1,4 @@
-// Reading a harbour file into lent tables.
+// Reading a harbour file into the words of its tables.
 #![tactic(auto)]
 
 ghost use Rattle.std.specs.Prelude.{◌≡◌, ◌+◌, ◌≤◌, min, length, replicate};
@@ -6,7 +6,7 @@ ghost use Rattle.report.specs.Configuring.{written};
 ghost use Rattle.report.specs.HarbourFile.{file_of};
 ghost use Rattle.harbour_file.specs.Reading.{group_lines_from, part_from, kind_part, file_parts, file_from};
 ghost use Rattle.harbour_file.specs.Filing.{lines_left, group_left, kinds_left, GroupRoom, GroupTaken};
-ghost use Rattle.harbour_file.specs.Filing.{head_of, file_words, Lent, groups_left, file_left, Filed};
+ghost use Rattle.harbour_file.specs.Filing.{head_of, groups_left, file_left, Filed};
 
 use reading::read_line;
 use report::{Head, Limits};
@@ -18,6 +18,18 @@ struct Place {
     at: usize,
     line: usize,
     end: usize,
+}
+
+// Room for the head and the tables of any file.
+#[derive(Drop)]
+pub struct FileWords {
+    pub head: [u16; 3],
+    pub expressions: [u16; Limits::MOST_EXPRESSIONS * 3],
+    pub entries: [u16; Limits::MOST_ENTRIES * 2],
+    pub relations: [u16; Limits::MOST_RELATIONS * 2],
+    pub comparisons: [u16; Limits::MOST_COMPARISONS * 5],
+    pub queries: [u16; Limits::MOST_QUERIES * 4],
+    pub kinds: [u16; AttributeSet::MOST_ATTRIBUTES],
 }
 
 // How many words of each table were read.
@@ -66,8 +78,7 @@ fn read_lines(
 }
 
 // The head line, which is the first.
-fn read_head(s: &[u8], head: &mut [u16]) -> Place
-    requires { 3 ≤ length head.old }
+fn read_head(s: &[u8], head: &mut [u16; 3]) -> Place
     ensures { GroupTaken (part_from s.now 0 0 1) (group_left s.now 0 0 1 head.old) 2 result head.new }
 {
     let start = Place {
@@ -105,8 +116,7 @@ fn read_kinds(s: &[u8], m: usize, from: Place, kinds: &mut [u16]) -> Place
 }
 
 // The head, from its three words.
-pub fn decode_head(words: &[u16]) -> Head
-    requires { 3 ≤ length words.now }
+pub fn decode_head(words: &[u16; 3]) -> Head
     ensures { result ≡ head_of words.now }
 {
     Head {
@@ -117,94 +127,62 @@ pub fn decode_head(words: &[u16]) -> Head
 }
 
 // The groups in their order, each with its word, the words of its form and its range.
-fn read_groups(
-    s: &[u8],
-    head: &mut [u16],
-    expressions: &mut [u16],
-    entries: &mut [u16],
-    relations: &mut [u16],
-    comparisons: &mut [u16],
-    queries: &mut [u16],
-    kinds: &mut [u16],
-) -> Result<Sizes, BadLine>
-    requires { Lent (file_words head.old expressions.old entries.old relations.old comparisons.old queries.old kinds.old) }
-    ensures { Filed (file_from s.now (file_parts s.now))
-        (groups_left s.now
-        (file_words head.old expressions.old entries.old relations.old comparisons.old
-        queries.old kinds.old)) result
-        (file_words head.new expressions.new entries.new relations.new comparisons.new
-        queries.new kinds.new) }
+fn read_groups(s: &[u8], words: &mut FileWords) -> Result<Sizes, BadLine>
+    ensures { Filed (file_from s.now (file_parts s.now)) (groups_left s.now words.old) result words.new }
 {
-    let h = read_head(s, &mut *head);
+    let h = read_head(s, &mut words.head);
     let x = read_lines(
         s,
         b"(expression",
         3,
         Limits::MOST_EXPRESSIONS,
         h,
-        expressions,
+        &mut words.expressions,
     );
-    let e = read_lines(s, b"(entry", 2, Limits::MOST_ENTRIES, x, entries);
-    let r = read_lines(s, b"(relation", 2, Limits::MOST_RELATIONS, e, relations);
+    let e = read_lines(s, b"(entry", 2, Limits::MOST_ENTRIES, x, &mut words.entries);
+    let r = read_lines(
+        s,
+        b"(relation",
+        2,
+        Limits::MOST_RELATIONS,
+        e,
+        &mut words.relations,
+    );
     let c = read_lines(
         s,
         b"(comparison",
         5,
         Limits::MOST_COMPARISONS,
         r,
-        comparisons,
+        &mut words.comparisons,
     );
-    let q = read_lines(s, b"(query", 4, Limits::MOST_QUERIES, c, queries);
-    let k = read_kinds(s, usize::from(head[1]), q, kinds);
+    let q = read_lines(s, b"(query", 4, Limits::MOST_QUERIES, c, &mut words.queries);
+    let k = read_kinds(s, usize::from(words.head[1]), q, &mut words.kinds);
     if h.end == 0 {
         return Err(BadLine { number: 1 });
     }
-    if k.at == s.len() {
-        return Ok(Sizes {
-            expressions: x.end,
-            entries: e.end,
-            relations: r.end,
-            comparisons: c.end,
-            queries: q.end,
-            kinds: k.end,
-        });
+    if k.at != s.len() {
+        return Err(BadLine { number: k.line });
     }
-    Err(BadLine { number: k.line })
+    Ok(Sizes {
+        expressions: x.end,
+        entries: e.end,
+        relations: r.end,
+        comparisons: c.end,
+        queries: q.end,
+        kinds: k.end,
+    })
 }
 
 // The length of the longest file that is read.
 pub const LONGEST_FILE: usize = 65536;
 
-// The whole file: its head and its tables into the lent ones. A longer one is not read.
-pub fn read_file(
-    s: &[u8],
-    head: &mut [u16],
-    expressions: &mut [u16],
-    entries: &mut [u16],
-    relations: &mut [u16],
-    comparisons: &mut [u16],
-    queries: &mut [u16],
-    kinds: &mut [u16],
-) -> Result<Sizes, BadLine>
-    requires { Lent (file_words head.old expressions.old entries.old relations.old comparisons.old queries.old kinds.old) }
-    ensures { Filed (file_of s.now)
-        (file_left s.now
-        (file_words head.old expressions.old entries.old relations.old comparisons.old
-        queries.old kinds.old)) result
-        (file_words head.new expressions.new entries.new relations.new comparisons.new
-        queries.new kinds.new) }
+// The whole file: its head and its tables into the words. A longer one is not read.
+pub fn read_file(s: &[u8], words: &mut FileWords) -> Result<Sizes, BadLine>
+    ensures { Filed (file_of s.now) (file_left s.now words.old) result words.new }
 {
     if LONGEST_FILE < s.len() {
         return Err(BadLine { number: 0 });
     }
-    read_groups(
-        s,
-        head,
-        expressions,
-        entries,
-        relations,
-        comparisons,
-        queries,
-        kinds,
-    )
+    read_groups(s, words)
 }

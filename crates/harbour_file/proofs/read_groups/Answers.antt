@@ -9,10 +9,10 @@ returns-then-h-eq0 c =
 
 pub returns-then-k-s : goal.returns-then-k-s
 returns-then-k-s c =
-    filed_whole c.args.s.now _ _ c.read_head-h.ensures c.read_lines-x.ensures c.read_lines-e.ensures c.read_lines-r.ensures
+    filed_stopped c.args.s.now _ _ c.read_head-h.ensures c.read_lines-x.ensures c.read_lines-e.ensures c.read_lines-r.ensures
     c.read_lines-c.ensures c.read_lines-q.ensures c.read_kinds-k.ensures c.from.ensures c.if-h-eq0.false c.if-k-s.true
 
 pub returns : goal.returns
 returns c =
-    filed_stopped c.args.s.now _ _ c.read_head-h.ensures c.read_lines-x.ensures c.read_lines-e.ensures c.read_lines-r.ensures
+    filed_whole c.args.s.now _ _ c.read_head-h.ensures c.read_lines-x.ensures c.read_lines-e.ensures c.read_lines-r.ensures
     c.read_lines-c.ensures c.read_lines-q.ensures c.read_kinds-k.ensures c.from.ensures c.if-h-eq0.false c.if-k-s.false
