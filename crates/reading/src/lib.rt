@@ -1,8 +1,8 @@
 // Numbers, fixed byte strings and lines at a position of a text. Each function answers the position where it stopped.
 #![tactic(auto)]
 
-ghost use Rattle.std.specs.Prelude.{◌≡◌, ◌+◌, ◌≤◌, length, drop};
-ghost use Rattle.reading.specs.Scanning.{next_digit, more_digits, number_at, word_at, spaced_at, numbers_at, line_at, Stored};
+ghost use Rattle.std.specs.Prelude.{◌≡◌, ◌+◌, ◌≤◌, length};
+ghost use Rattle.reading.specs.Scanning.{next_digit, number_at, word_at, spaced_at, numbers_at, line_at, Stored};
 
 // A byte after some digits: no digit; a digit that the number cannot have; or a digit that makes it this value. (Three ways to go on, so an Option of a
 // Result would be no plainer.)
@@ -35,31 +35,31 @@ fn next_digit(v: usize, b: u8) -> Digit
     Digit::End
 }
 
-// The rest of a number whose digits so far have value v: the number, and the position after it.
-#[tactic(auto, using(crate::proofs::ScanLaws::value_fits), unfolding(crate::specs::Scanning::more_digits))]
-fn more_digits(s: &[u8], v: usize, at: usize) -> Result<(u16, usize), Broken>
-    requires { v ≤ 65535 }
-    ensures { result ≡ more_digits v at (drop at s.now) }
-{
-    let Some(b) = s.get(at) else {
-        return Ok((v as u16, at));
-    };
-    match next_digit(v, *b) {
-        Digit::End => Ok((v as u16, at)),
-        Digit::Over => Err(Broken { at }),
-        Digit::More(w) => more_digits(s, w, at + 1),
-    }
-}
-
 // The number at a position, and the position after it.
-#[tactic(auto, unfolding(crate::specs::Scanning::number_at, crate::specs::Scanning::first_digit))]
+#[tactic(
+    auto,
+    unfolding(
+        crate::specs::Scanning::number_at,
+        crate::specs::Scanning::first_digit,
+        crate::specs::Scanning::more_digits
+    )
+)]
 pub fn scan_number(s: &[u8], at: usize) -> Result<(u16, usize), Broken>
     ensures { result ≡ number_at s.now at }
 {
-    match s.get(at) {
-        Some(b) if b.is_ascii_digit() => more_digits(s, usize::from(*b - b'0'), at + 1),
-        _ => Err(Broken { at }),
+    let first = match s.get(at) {
+        Some(b) if b.is_ascii_digit() => *b,
+        _ => return Err(Broken { at }),
+    };
+    let mut value = usize::from(first - b'0');
+    for p in at + 1..s.len() {
+        match next_digit(value, s[p]) {
+            Digit::End => return Ok((value as u16, p)),
+            Digit::Over => return Err(Broken { at: p }),
+            Digit::More(w) => value = w,
+        }
     }
+    Ok((value as u16, s.len()))
 }
 
 // The word at a position. Answers the position after it.
