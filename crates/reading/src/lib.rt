@@ -36,14 +36,7 @@ fn next_digit(v: usize, b: u8) -> Digit
 }
 
 // The number at a position, and the position after it.
-#[tactic(
-    auto,
-    unfolding(
-        crate::specs::Scanning::number_at,
-        crate::specs::Scanning::first_digit,
-        crate::specs::Scanning::more_digits
-    )
-)]
+#[tactic(auto, unfolding(crate::specs::Scanning::number_at, crate::specs::Scanning::first_digit, crate::specs::Scanning::more_digits))]
 pub fn scan_number(s: &[u8], at: usize) -> Result<(u16, usize), Broken>
     ensures { result ≡ number_at s.now at }
 {
@@ -97,12 +90,13 @@ fn read_numbers(
     requires { to + count ≤ length out.old }
     ensures { Stored (numbers_at s.now count at) result out.old to out.new }
 {
-    if count == 0 {
-        return Ok(at);
+    let mut p = at;
+    for i in 0..count {
+        let (v, next) = scan_spaced(s, p)?;
+        out[to + i] = v;
+        p = next;
     }
-    let (v, p) = scan_spaced(s, at)?;
-    out[to] = v;
-    read_numbers(s, p, count - 1, out, to + 1)
+    Ok(p)
 }
 
 // The line of a word and `width` numbers at a position: its numbers into `out` from `to` on.

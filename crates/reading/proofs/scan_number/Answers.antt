@@ -1,4 +1,4 @@
-use Rattle.std.proofs.Common.{ℕ, List, ◌≡◌, ◌+◌, ◌<◌, length, drop, get_or, arith, sym, ◌∙◌, add-one, drop-cons}
+use Rattle.std.proofs.Common.{ℕ, List, ◌≡◌, ◌+◌, ◌<◌, length, drop, get_or, arith, ◌∙◌, add-one, drop-cons}
 use Rattle.reading.specs.declared.Digit.{Digit}
 use Rattle.reading.specs.Scanning.{next_digit, more_digits}
 use Rattle.reading.proofs.ScanLaws.{value_fits}
