@@ -6,7 +6,8 @@ use program::run;
 
 fn main(rt: HostRuntime) {
     let mut out: PrintRoom = [0; LONGEST_PRINT];
-    run(
+    // What failed is told on standard error already.
+    let _ = run(
         Layout::Columns,
         b"columns",
         &mut rt.stdin(),

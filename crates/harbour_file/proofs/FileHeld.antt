@@ -14,19 +14,21 @@ use Rattle.report.specs.Expressions.{tables_under}
 use Rattle.report.specs.HarbourFile.{File, tables_from, file_of}
 use Rattle.report.proofs.FileLaws.{file_long}
 use Rattle.harbour_file.specs.declared.Sizes.{Sizes}
-use Rattle.harbour_file.specs.declared.Outcome.{Outcome}
+use Rattle.std.specs.Prelude.{Result, Ok, Err}
+use Rattle.harbour_file.specs.declared.BadLine.{BadLine}
+use Rattle.harbour_file.specs.declared.FileWords.{FileWords}
 use Rattle.harbour_file.specs.Reading.{parts_from, file_parts, part_at, last_part, file_from}
-use Rattle.harbour_file.specs.Filing.{head_of, FileWords, sizes_of, outcome_of, groups_left, file_left, Filed, Starts, Held}
+use Rattle.harbour_file.specs.Filing.{head_of, sizes_of, outcome_of, groups_left, file_left, Filed, Starts, Held}
 use Rattle.harbour_file.proofs.GroupSteps.{lines_start, head_word, short_file, long_left, short_left}
 use Rattle.harbour_file.proofs.FirstBadLine.{file_read}
 
 -- ---- by the length of the text
 
 module _ (s : List ℕ) (lent : FileWords) where
-  pub filed_long : 65536 < length s → Filed (file_of s) (file_left s lent) (Outcome.Bad 0) lent
+  pub filed_long : 65536 < length s → Filed (file_of s) (file_left s lent) (Err (record { number = 0 })) lent
   filed_long l = record { answers = sym (ap outcome_of (file_long s l)); stored = sym (long_left s lent l) }
 
-  pub filed_short : length s ≤ 65536 → {answer : Outcome} {after : FileWords} → Filed (file_from s (file_parts s)) (groups_left s lent) answer after
+  pub filed_short : length s ≤ 65536 → {answer : Result Sizes BadLine} {after : FileWords} → Filed (file_from s (file_parts s)) (groups_left s lent) answer after
       → Filed (file_of s) (file_left s lent) answer after
   filed_short l f = record {
     answers = f.answers ∙ ap outcome_of (sym (short_file s l) ∙ file_read s);
@@ -62,9 +64,9 @@ module _ (s : List ℕ) (lent : FileWords) where
       go : (b : Bool) → eqb (length (part_at (file_parts s) 0).words) 0 ≡ b → (b' : Bool)
           → cond b (File.unread 1) (cond b' (File.holds read) (File.unread (last_part (file_parts s)).line)) ≡ File.holds T
           → Held T (sizes_of T) (groups_left s lent)
-      go true e b' f = absurd (let z : ◌≡◌ {A = ℕ} 0 1 = cc in omega arith)
+      go true e b' f = cc
       go false e true f = let t : read ≡ T = cc in rw (← t) (parts_held (eqb-false (length (part_at (file_parts s) 0).words) 0 e))
-      go false e false f = absurd (let z : ◌≡◌ {A = ℕ} 0 1 = cc in omega arith)
+      go false e false f = cc
 
   file_held : {T : Tables} → file_of s ≡ File.holds T → Held T (sizes_of T) (file_left s lent)
   file_held {T} e = go (dec_lt 65536 (length s))
@@ -77,19 +79,19 @@ module _ (s : List ℕ) (lent : FileWords) where
 
 -- ---- what a caller is told
 
-module _ (s : List ℕ) (lent : FileWords) {answer : Outcome} {after : FileWords} (f : Filed (file_of s) (file_left s lent) answer after) where
-  pub bad_told : {n : ℕ} → answer ≡ Outcome.Bad n → file_of s ≡ File.unread n
-  bad_told {n} q = go (file_of s) (sym f.answers ∙ q)
+module _ (s : List ℕ) (lent : FileWords) {answer : Result Sizes BadLine} {after : FileWords} (f : Filed (file_of s) (file_left s lent) answer after) where
+  pub bad_told : {b : BadLine} → answer ≡ Err b → file_of s ≡ File.unread b.number
+  bad_told {b} q = go (file_of s) (sym f.answers ∙ q)
     where
-      go : (file : File) → outcome_of file ≡ Outcome.Bad n → file ≡ File.unread n
+      go : (file : File) → outcome_of file ≡ Err b → file ≡ File.unread b.number
       go (File.unread m) e = cc
-      go (File.holds T) e = absurd (let z : ◌≡◌ {A = ℕ} 0 1 = cc in omega arith)
+      go (File.holds T) e = cc
 
-  pub read_told : {sizes : Sizes} → answer ≡ Outcome.Read sizes → (T : Tables) × (file_of s ≡ File.holds T) × Held T sizes after
+  pub read_told : {sizes : Sizes} → answer ≡ Ok sizes → (T : Tables) × (file_of s ≡ File.holds T) × Held T sizes after
   read_told {sizes} q = go (file_of s) refl (sym f.answers ∙ q)
     where
-      go : (file : File) → file_of s ≡ file → outcome_of file ≡ Outcome.Read sizes → (T : Tables) × (file_of s ≡ File.holds T) × Held T sizes after
-      go (File.unread m) h e = absurd (let z : ◌≡◌ {A = ℕ} 0 1 = cc in omega arith)
+      go : (file : File) → file_of s ≡ file → outcome_of file ≡ Ok sizes → (T : Tables) × (file_of s ≡ File.holds T) × Held T sizes after
+      go (File.unread m) h e = cc
       go (File.holds T) h e = let own : sizes_of T ≡ sizes = cc in (T, h, rw (← own, f.stored) (file_held s lent h))
 
 -- ---- the tables, from the words that were read

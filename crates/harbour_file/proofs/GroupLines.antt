@@ -18,7 +18,9 @@ use Rattle.report.proofs.TextLaws.{line_numbers}
 use Rattle.report.proofs.LineLaws.{at_most_iff, line_of_iff, lines_join, lines_line}
 use Rattle.report.proofs.FileLaws.{group_at, group_word, group_wide, group_iff, line_group, group_in, group_of_lem}
 use Rattle.reading.specs.Scanning.{Line, line_at}
-use Rattle.reading.specs.declared.Step.{Step}
+use Rattle.std.specs.Prelude.{Result, Ok, Err}
+use Rattle.reading.specs.declared.Broken.{Broken}
+use Rattle.reading.specs.Scanning.{broken}
 use Rattle.reading.proofs.SpelledLines.{spelled_at, line_read, line_found}
 use Rattle.harbour_file.specs.Reading.{Part, part_of, with_line, group_lines_from}
 
@@ -61,7 +63,7 @@ module _ (s : List ℕ) where
 
   module _ (g : ℕ) (known : g < length groups) where
     -- a line that is read is line k of the text, and of the group
-    line_taken : (at k p : ℕ) → From at k → (line_in g at).step ≡ Step.Next p → LineTaken g k p (line_in g at).numbers
+    line_taken : (at k p : ℕ) → From at k → (line_in g at).step ≡ Ok p → LineTaken g k p (line_in g at).numbers
     line_taken at k p f e =
         let word = (group_at g).word in
         let ns = (line_in g at).numbers in
@@ -94,7 +96,7 @@ module _ (s : List ℕ) where
         }
 
     -- where none is read, line k is not of the group
-    line_refused : (at k p : ℕ) → From at k → (line_in g at).step ≡ Step.Stop p → group_in (lines_of s) k ≡ g → ⊥
+    line_refused : (at k p : ℕ) → From at k → (line_in g at).step ≡ broken p → group_in (lines_of s) k ≡ g → ⊥
     unfolding flatten
     line_refused at k p f e q =
         let word = (group_at g).word in
@@ -106,10 +108,10 @@ module _ (s : List ℕ) where
         sym (lines_join (drop at s)) ∙ ap flatten (f.lines ∙ drop-cons (lines_of s) k [] there)
         ∙ ap (λ (l : List ℕ). l ++ flatten (drop (suc k) (lines_of s))) r.spelled in
         let a = spelled_at s at (at + length (line word ns)) (line word ns) (flatten (drop (suc k) (lines_of s))) d refl in
-        let c : (line_at s (40 ∷ word) (length ns) at).step ≡ Step.Next (at + length (line word ns)) =
+        let c : (line_at s (40 ∷ word) (length ns) at).step ≡ Ok (at + length (line word ns)) =
         ap (λ (l : Line). l.step)
         (line_found s word ns at (at + length (line word ns)) (record { long = refl; small = (at_most_iff 65535 ns).1 r.small; holds = a })) in
-        let w : (line_at s (40 ∷ word) (length ns) at).step ≡ Step.Stop p =
+        let w : (line_at s (40 ∷ word) (length ns) at).step ≡ broken p =
         ap (λ (n : ℕ). (line_at s (40 ∷ word) n at).step) r.count ∙ e in
         let z : ◌≡◌ {A = ℕ} 0 1 = cc in
         omega arith
@@ -172,12 +174,12 @@ module _ (s : List ℕ) where
     took zero at k f = took_none zero at k f (λ l. absurd (omega arith))
     took (suc most) at k f = go (line_in g at).step refl (λ p. took most p (suc k))
       where
-        go : (x : Step) → (line_in g at).step ≡ x → ((p : ℕ) → From p (suc k) → Took g most (suc k) (lines_in g most p (suc (suc k))))
+        go : (x : Result ℕ Broken) → (line_in g at).step ≡ x → ((p : ℕ) → From p (suc k) → Took g most (suc k) (lines_in g most p (suc (suc k))))
             → Took g (suc most) k (lines_in g (suc most) at (suc k))
-        go (Step.Stop p) e later =
+        go (Err b) e later =
             let c : lines_in g (suc most) at (suc k) ≡ part_of [] at (suc k) = rw e in
-            rw c (took_none (suc most) at k f (λ l. line_refused g known at k p f e))
-        go (Step.Next p) e later =
+            rw c (took_none (suc most) at k f (λ l. line_refused g known at k b.at f e))
+        go (Ok p) e later =
             let c : lines_in g (suc most) at (suc k) ≡ with_line (line_in g at).numbers (lines_in g most p (suc (suc k))) = rw e in
             let l = line_taken g known at k p f e in
             rw c (took_more most k p (line_in g at).numbers (lines_in g most p (suc (suc k))) l (later p l.next))

@@ -1,27 +1,28 @@
 -- The steps of reading the lines of a group, the groups and a file.
 use Prim.Native.Nat.{ℕ, suc, ◌+◌, ◌-◌, ◌*◌, ◌≤◌, ◌<◌, min}
-use mathlib.Core.Path.{◌≡◌, refl, sym, ap, ◌∙◌}
+use mathlib.Core.Path.{◌≡◌, refl, sym, ap, subst, ◌∙◌}
 use mathlib.Core.Bool.{Bool, cond}
 use mathlib.Core.List.{List, [], ◌∷◌, ◌++◌, append_assoc, append-nil}
 use native.Mathlib.Nat.{le_refl, suc-mul, mul-le-mul_right}
 use native.Mathlib.Numerals.{add-one}
 use native.Mathlib.Omega.{arith}
-use lib.ListN.{length, get_or, take, drop, set, replicate, length-append, length-set, length-replicate, replicate-append-replicate, take-append-drop}
+use lib.ListN.{length, get_or, take, drop, set, replicate, length-append, length-replicate, take-append-drop}
 use lib.Seq.{sets, sets-eq, take-set-le, take_at, drop_at, drop-drop, take-append_seam, length-take-le, get_or-take}
 use lib.Dec.{ltb}
 use borrow.Author.Tests.{eq-eqb, ne_eqb, lt-ltb, le-ltb}
 use Rattle.report.specs.Configuring.{written}
 use Rattle.report.specs.HarbourFile.{kinds_or}
 use Rattle.report.proofs.FileLaws.{kinds_none, kinds_stand}
-use Rattle.reading.specs.declared.Step.{Step}
+use Rattle.std.specs.Prelude.{Result, Ok, Err}
+use Rattle.reading.specs.declared.Broken.{Broken}
 use Rattle.reading.specs.Scanning.{on_step, line_at, Stored}
 use Rattle.reading.proofs.LineSteps.{line_width, stored_same}
 use Rattle.harbour_file.specs.declared.Place.{Place}
-use Rattle.harbour_file.specs.declared.Outcome.{Outcome}
+use Rattle.harbour_file.specs.declared.FileWords.{FileWords}
 use Rattle.harbour_file.specs.Reading.{Part, part_of, with_line, group_lines_from, part_from, kind_part, parts_from}
 use Rattle.harbour_file.specs.Reading.{file_parts, part_at, last_part, file_from, read_file}
 use Rattle.harbour_file.specs.Filing.{lines_left, group_left, kinds_left, GroupRoom, GroupTaken}
-use Rattle.harbour_file.specs.Filing.{FileWords, file_words, groups_left, file_left, Filed, Starts}
+use Rattle.harbour_file.specs.Filing.{file_words, groups_left, file_left, Filed, Starts}
 
 -- ---- the words of a line, stored after those before them
 
@@ -103,11 +104,11 @@ module _ {s word : List ℕ} {width most start line : ℕ} {first out : List ℕ
       let l : length (take to out) ≡ to = length-take-le to out (omega (arith, g.words, g.room.words, m)) in
       rw z (record { place = refl; number = refl; few = omega (arith, g.within); long = sym l; stored = w ∙ sym (lines_left_lem z l b) })
 
-  module _ {p : ℕ} {answer : Step} {after : List ℕ} (h : k < most) (stored : Stored (line_at s word width at) answer out to after) where
-    pub lines_more : answer ≡ Step.Next p → LinesRead s word width most start line first after (k + 1) p (to + width)
+  module _ {answer : Result ℕ Broken} {after : List ℕ} (h : k < most) (stored : Stored (line_at s word width at) answer out to after) where
+    pub lines_more : {p : ℕ} → answer ≡ Ok p → LinesRead s word width most start line first after (k + 1) p (to + width)
     unfolding group_lines_from
-    lines_more e =
-        let f : (line_at s word width at).step ≡ Step.Next p = sym stored.step ∙ e in
+    lines_more {p} e =
+        let f : (line_at s word width at).step ≡ Ok p = sym stored.step ∙ e in
         let w : take (to + width) after ≡ take to out ++ (line_at s word width at).numbers =
         ap (take (to + width)) stored.words
         ∙ take_stored (line_at s word width at).numbers out to width (line_width s word width at p f) (lines_room h) in
@@ -123,21 +124,26 @@ module _ {s word : List ℕ} {width most start line : ℕ} {first out : List ℕ
           same = g.same ∙ rw (one_less h, f, w, n, append_assoc);
         }
 
-    pub lines_stop : answer ≡ Step.Stop p
+    pub lines_stop : {b : Broken} → answer ≡ Err b
         → GroupTaken (group_lines_from s word width most start line) (lines_left s word width most start line first) (line + most)
         (record { at = at; line = line + k; end = to }) after
     unfolding group_lines_from
-    lines_stop e =
-        let f : (line_at s word width at).step ≡ Step.Stop p = sym stored.step ∙ e in
+    lines_stop {b} e =
+        let f : (line_at s word width at).step ≡ Err b = sym stored.step ∙ e in
         lines_end (rw (one_less h, f))
         (ap (λ (t : Bool). cond t (line_at s word width at).numbers []) (lt-ltb (line + k) (line + most) (omega arith))) stored.words
 
   pub lines_all : most ≤ k → GroupTaken (group_lines_from s word width most start line) (lines_left s word width most start line first) (line + most)
-      (record { at = at; line = line + k; end = to }) out
+      (record { at = at; line = line + most; end = to }) out
   unfolding group_lines_from
   lines_all h =
       let e : most - k ≡ 0 = omega arith in
-      lines_end (rw e) (ap (λ (t : Bool). cond t (line_at s word width at).numbers []) (le-ltb (line + k) (line + most) (omega arith))) refl
+      let n : most ≡ k = omega (arith, g.within) in
+      let taken : GroupTaken (group_lines_from s word width most start line) (lines_left s word width most start line first) (line + most)
+      (record { at = at; line = line + k; end = to }) out =
+      lines_end (rw e) (ap (λ (t : Bool). cond t (line_at s word width at).numbers []) (le-ltb (line + k) (line + most) (omega arith))) refl in
+      subst (λ (j : ℕ). GroupTaken (group_lines_from s word width most start line) (lines_left s word width most start line first) (line + most)
+      (record { at = at; line = line + j; end = to }) out) (sym n) taken
 
 -- the words of a group's lines stand at the start of what is left
 pub lines_start : (s word : List ℕ) (width most at n : ℕ) (lent : List ℕ)
@@ -151,45 +157,18 @@ lines_start s word width most at n lent =
 
 -- of a group of one line at most: it was read, or there is none
 module _ (s word : List ℕ) (width at n : ℕ) where
-  abbrev one_or_none : Step → Part
+  abbrev one_or_none : Result ℕ Broken → Part
   one_or_none step = on_step step (λ p. with_line (line_at s word width at).numbers (part_of [] p (suc n))) (λ p. part_of [] at n)
 
   one_line : (length (group_lines_from s word width 1 at n).words ≡ 0 → ⊥) → length (group_lines_from s word width 1 at n).words ≡ width
   unfolding group_lines_from
   one_line some = go (line_at s word width at).step refl some
     where
-      go : (step : Step) → (line_at s word width at).step ≡ step → (length (one_or_none step).words ≡ 0 → ⊥) → length (one_or_none step).words ≡ width
-      go (Step.Next p) e some = ap length (append-nil (line_at s word width at).numbers) ∙ line_width s word width at p e
-      go (Step.Stop p) e some = absurd (some refl)
+      go : (step : Result ℕ Broken) → (line_at s word width at).step ≡ step → (length (one_or_none step).words ≡ 0 → ⊥) → length (one_or_none step).words ≡ width
+      go (Ok p) e some = ap length (append-nil (line_at s word width at).numbers) ∙ line_width s word width at p e
+      go (Err b) e some = absurd (some refl)
 
 -- ---- the kind lines
-
--- of `count` words to clear the first i are 0
-pub record Cleared (count : ℕ) (lent words : List ℕ) (i : ℕ) : Type 0 where
-  pub within : i ≤ count
-  pub room : count ≤ length words
-  pub long : length words ≡ length lent
-  pub zeros : take i words ≡ replicate i 0
-  pub rest : drop i words ≡ drop i lent
-
-pub cleared_none : (count : ℕ) (lent : List ℕ) → count ≤ length lent → Cleared count lent lent 0
-cleared_none count lent h = record { within = omega arith; room = h; long = refl; zeros = refl; rest = refl }
-
-module _ {count : ℕ} {lent words : List ℕ} {i : ℕ} (c : Cleared count lent words i) where
-  pub cleared_more : i < count → Cleared count lent (set words i 0) (i + 1)
-  cleared_more h = record {
-    within = omega arith;
-    room = omega (arith, length-set words i 0, c.room);
-    long = length-set words i 0 ∙ c.long;
-    zeros =
-        take_stored (0 ∷ []) words i 1 refl (omega (arith, c.room))
-        ∙ ap (λ (l : List ℕ). l ++ (0 ∷ [])) c.zeros
-        ∙ replicate-append-replicate i 1 0;
-    rest = drop_stored (0 ∷ []) words i 1 refl (omega (arith, c.room)) lent c.rest;
-  }
-
-  pub cleared_all : count ≤ i → words ≡ written (replicate count 0) lent
-  cleared_all h = let e : i ≡ count = omega (arith, c.within) in rw (← e) (stands lent (length-replicate i 0) c.zeros c.rest)
 
 module _ (m : ℕ) {part : Part} {left : List ℕ} {most : ℕ} {answer : Place} {kinds : List ℕ} (t : GroupTaken part left most answer kinds) where
   -- lines were read, and stand at the start
@@ -296,7 +275,7 @@ module _ (s : List ℕ) (lent : FileWords) (m : ℕ) {m0 m1 m2 m3 m4 m5 m6 : ℕ
       λ i. file_words (g0.stored i) (g1.stored i) (g2.stored i) (g3.stored i) (g4.stored i) (g5.stored i) (kinds_left_lem i)
 
   pub filed_headless : h.end ≡ 0
-      → Filed (file_from s (file_parts s)) (groups_left s lent) (Outcome.Bad 1) (file_words head expressions entries relations comparisons queries kinds)
+      → Filed (file_from s (file_parts s)) (groups_left s lent) (Err (record { number = 1 })) (file_words head expressions entries relations comparisons queries kinds)
   filed_headless n = record {
     answers = rw (eq-eqb (length (part 0).words) 0 (sym g0.long ∙ n)) refl;
     stored = all_left;
@@ -315,7 +294,7 @@ module _ (s : List ℕ) (lent : FileWords) (m : ℕ) {m0 m1 m2 m3 m4 m5 m6 : ℕ
 
     pub filed_whole : k.at ≡ length s
         → Filed (file_from s (file_parts s)) (groups_left s lent)
-        (Outcome.Read (record {
+        (Ok (record {
           expressions = x.end;
           entries = e.end;
           relations = r.end;
@@ -340,7 +319,7 @@ module _ (s : List ℕ) (lent : FileWords) (m : ℕ) {m0 m1 m2 m3 m4 m5 m6 : ℕ
     }
 
     pub filed_stopped : (k.at ≡ length s → ⊥)
-        → Filed (file_from s (file_parts s)) (groups_left s lent) (Outcome.Bad k.line)
+        → Filed (file_from s (file_parts s)) (groups_left s lent) (Err (record { number = k.line }))
         (file_words head expressions entries relations comparisons queries kinds)
     filed_stopped l = record {
       answers =
@@ -348,7 +327,7 @@ module _ (s : List ℕ) (lent : FileWords) (m : ℕ) {m0 m1 m2 m3 m4 m5 m6 : ℕ
             ne_eqb (length (part 0).words) 0 some,
             ne_eqb (last_part (file_parts s)).at (length s) (λ z. l (g6.place ∙ z)),
           )
-          (ap Outcome.Bad g6.number);
+          (ap (λ (n : ℕ). Err (record { number = n })) g6.number);
       stored = all_left;
     }
 

@@ -1,5 +1,5 @@
 -- What the reader's functions answer, and what they leave in the words that are lent.
-use Rattle.std.specs.Prelude.{ℕ, suc, ◌+◌, ◌*◌, ◌≤◌, ◌≡◌, cond, List, [], ◌∷◌, length, take, get_or, ltb}
+use Rattle.std.specs.Prelude.{ℕ, suc, ◌+◌, ◌*◌, ◌≤◌, ◌≡◌, cond, List, [], ◌∷◌, length, take, get_or, ltb, Result, Ok, Err}
 use lib.Seq.{sets}
 use Rattle.report.specs.Expressions.{holds}
 use Rattle.report.specs.Tables.{Tables}
@@ -10,7 +10,8 @@ use Rattle.reading.specs.Scanning.{line_at}
 use Rattle.harbour_file.specs.Reading.{Part, group_lines_from, group_numbered, part_from, file_parts, part_at}
 use Rattle.harbour_file.specs.declared.Place.{Place}
 use Rattle.harbour_file.specs.declared.Sizes.{Sizes}
-use Rattle.harbour_file.specs.declared.Outcome.{Outcome}
+use Rattle.harbour_file.specs.declared.BadLine.{BadLine}
+use Rattle.harbour_file.specs.declared.FileWords.{FileWords}
 
 -- ---- a group
 
@@ -48,16 +49,6 @@ pub record GroupTaken (part : Part) (left : List ℕ) (most : ℕ) (answer : Pla
 abbrev pub head_of : List ℕ → Head
 head_of words = record { features = get_or words 0 0; attributes = get_or words 1 0; model = get_or words 2 0 }
 
--- the words that are lent for the head and the tables
-pub record FileWords : Type 0 where
-  pub head : List ℕ
-  pub expressions : List ℕ
-  pub entries : List ℕ
-  pub relations : List ℕ
-  pub comparisons : List ℕ
-  pub queries : List ℕ
-  pub kinds : List ℕ
-
 abbrev pub file_words : List ℕ → List ℕ → List ℕ → List ℕ → List ℕ → List ℕ → List ℕ → FileWords
 file_words head expressions entries relations comparisons queries kinds = record {
   head = head;
@@ -68,16 +59,6 @@ file_words head expressions entries relations comparisons queries kinds = record
   queries = queries;
   kinds = kinds;
 }
-
--- there is room for the head and for every table
-pub record Lent (lent : FileWords) : Type 0 where
-  pub head_room : 3 ≤ length lent.head
-  pub expressions_room : 768 ≤ length lent.expressions
-  pub entries_room : 1024 ≤ length lent.entries
-  pub relations_room : 64 ≤ length lent.relations
-  pub comparisons_room : 1280 ≤ length lent.comparisons
-  pub queries_room : 1024 ≤ length lent.queries
-  pub kinds_room : 64 ≤ length lent.kinds
 
 -- how many words each table has
 abbrev pub sizes_of : Tables → Sizes
@@ -91,9 +72,9 @@ sizes_of T = record {
 }
 
 -- the answer for a file: the number of its first bad line, or how many words its tables have
-abbrev pub outcome_of : File → Outcome
-outcome_of (File.unread n) = Outcome.Bad n
-outcome_of (File.holds T) = Outcome.Read (sizes_of T)
+abbrev pub outcome_of : File → Result Sizes BadLine
+outcome_of (File.unread n) = Err (record { number = n })
+outcome_of (File.holds T) = Ok (sizes_of T)
 
 -- The lent words afterwards: every group is read, also after a bad line, and each starts where the one before it ends. How many kinds there are without
 -- kind lines is by word 1 of the head, whatever stands there
@@ -110,7 +91,7 @@ unfoldable pub file_left : List ℕ → FileWords → FileWords
 file_left s lent = cond (ltb 65536 (length s)) lent (groups_left s lent)
 
 -- what is answered, and what is left
-pub record Filed (file : File) (left : FileWords) (answer : Outcome) (after : FileWords) : Type 0 where
+pub record Filed (file : File) (left : FileWords) (answer : Result Sizes BadLine) (after : FileWords) : Type 0 where
   pub answers : answer ≡ outcome_of file
   pub stored : after ≡ left
 

@@ -1,4 +1,4 @@
-// Reading a harbour file into lent tables.
+// Reading a harbour file into the words of its tables.
 #![tactic(auto)]
 
 ghost use Rattle.std.specs.Prelude.{◌≡◌, ◌+◌, ◌≤◌, min, length, replicate};
@@ -6,9 +6,9 @@ ghost use Rattle.report.specs.Configuring.{written};
 ghost use Rattle.report.specs.HarbourFile.{file_of};
 ghost use Rattle.harbour_file.specs.Reading.{group_lines_from, part_from, kind_part, file_parts, file_from};
 ghost use Rattle.harbour_file.specs.Filing.{lines_left, group_left, kinds_left, GroupRoom, GroupTaken};
-ghost use Rattle.harbour_file.specs.Filing.{head_of, file_words, Lent, groups_left, file_left, Filed};
+ghost use Rattle.harbour_file.specs.Filing.{head_of, groups_left, file_left, Filed};
 
-use reading::{Step, read_line};
+use reading::read_line;
 use report::{Head, Limits};
 use sets::AttributeSet;
 
@@ -18,6 +18,18 @@ struct Place {
     at: usize,
     line: usize,
     end: usize,
+}
+
+// Room for the head and the tables of any file.
+#[derive(Drop)]
+pub struct FileWords {
+    pub head: [u16; 3],
+    pub expressions: [u16; Limits::MOST_EXPRESSIONS * 3],
+    pub entries: [u16; Limits::MOST_ENTRIES * 2],
+    pub relations: [u16; Limits::MOST_RELATIONS * 2],
+    pub comparisons: [u16; Limits::MOST_COMPARISONS * 5],
+    pub queries: [u16; Limits::MOST_QUERIES * 4],
+    pub kinds: [u16; AttributeSet::MOST_ATTRIBUTES],
 }
 
 // How many words of each table were read.
@@ -31,11 +43,10 @@ pub struct Sizes {
     pub kinds: usize,
 }
 
-// What was read, or the number of the first bad line.
-#[derive(Clone, Copy)]
-pub enum Outcome {
-    Read(Sizes),
-    Bad(usize),
+// The first bad line of a file, by its number from 1; the number 0 says that the file is too long.
+#[derive(Clone, Copy, Debug, PartialEq, Eq)]
+pub struct BadLine {
+    pub number: usize,
 }
 
 // At most `most` lines of the word and `width` numbers, from a place on.
@@ -52,36 +63,22 @@ fn read_lines(
         (lines_left s.now word.now width most from.at from.line out.old) (from.line + most) result
         out.new }
 {
-    let line = from.line;
     let mut at = from.at;
-    let mut k = 0;
-    let mut to = 0;
-    while k < most {
-        match read_line(s, word, width, at, out, to) {
-            Step::Stop(_) => {
-                return Place {
-                    at: at,
-                    line: line + k,
-                    end: to,
-                };
-            }
-            Step::Next(p) => {
-                at = p;
-                to += width;
-                k += 1;
-            }
-        }
+    let mut end = 0;
+    for k in 0..most {
+        let Ok(p) = read_line(s, word, width, at, out, end) else {
+            let line = from.line + k;
+            return Place { at, line, end };
+        };
+        at = p;
+        end += width;
     }
-    Place {
-        at: at,
-        line: line + k,
-        end: to,
-    }
+    let line = from.line + most;
+    Place { at, line, end }
 }
 
 // The head line, which is the first.
-fn read_head(s: &[u8], head: &mut [u16]) -> Place
-    requires { 3 ≤ length head.old }
+fn read_head(s: &[u8], head: &mut [u16; 3]) -> Place
     ensures { GroupTaken (part_from s.now 0 0 1) (group_left s.now 0 0 1 head.old) 2 result head.new }
 {
     let start = Place {
@@ -90,28 +87,6 @@ fn read_head(s: &[u8], head: &mut [u16]) -> Place
         end: 0,
     };
     read_lines(s, b"(head", 3, 1, start, head)
-}
-
-// The smaller of two numbers.
-fn smaller(x: usize, y: usize) -> usize
-    ensures { result ≡ min x y }
-{
-    if x < y {
-        return x;
-    }
-    y
-}
-
-// Makes the first `count` words 0.
-fn clear_first(words: &mut [u16], count: usize)
-    requires { count ≤ length words.old }
-    ensures { words.new ≡ written (replicate count 0) words.old }
-{
-    let mut i = 0;
-    while i < count {
-        words[i] = 0;
-        i += 1;
-    }
 }
 
 // The kind lines of a file of m attributes. With none all kinds are 0: the words are cleared, since a line that is not read may have left a number.
@@ -131,8 +106,8 @@ fn read_kinds(s: &[u8], m: usize, from: Place, kinds: &mut [u16]) -> Place
     if k.end != 0 {
         return k;
     }
-    let count = smaller(m, AttributeSet::MOST_ATTRIBUTES);
-    clear_first(kinds, count);
+    let count = m.min(AttributeSet::MOST_ATTRIBUTES);
+    kinds[..count].fill(0);
     Place {
         at: k.at,
         line: k.line,
@@ -140,113 +115,74 @@ fn read_kinds(s: &[u8], m: usize, from: Place, kinds: &mut [u16]) -> Place
     }
 }
 
-fn wide(x: u16) -> usize
-    ensures { result ≡ x }
-{
-    x as usize
-}
-
 // The head, from its three words.
-pub fn decode_head(words: &[u16]) -> Head
-    requires { 3 ≤ length words.now }
+pub fn decode_head(words: &[u16; 3]) -> Head
     ensures { result ≡ head_of words.now }
 {
     Head {
-        features: wide(words[0]),
-        attributes: wide(words[1]),
-        model: wide(words[2]),
+        features: usize::from(words[0]),
+        attributes: usize::from(words[1]),
+        model: usize::from(words[2]),
     }
 }
 
 // The groups in their order, each with its word, the words of its form and its range.
-fn read_groups(
-    s: &[u8],
-    head: &mut [u16],
-    expressions: &mut [u16],
-    entries: &mut [u16],
-    relations: &mut [u16],
-    comparisons: &mut [u16],
-    queries: &mut [u16],
-    kinds: &mut [u16],
-) -> Outcome
-    requires { Lent (file_words head.old expressions.old entries.old relations.old comparisons.old queries.old kinds.old) }
-    ensures { Filed (file_from s.now (file_parts s.now))
-        (groups_left s.now
-        (file_words head.old expressions.old entries.old relations.old comparisons.old
-        queries.old kinds.old)) result
-        (file_words head.new expressions.new entries.new relations.new comparisons.new
-        queries.new kinds.new) }
+fn read_groups(s: &[u8], words: &mut FileWords) -> Result<Sizes, BadLine>
+    ensures { Filed (file_from s.now (file_parts s.now)) (groups_left s.now words.old) result words.new }
 {
-    let h = read_head(s, &mut *head);
+    let h = read_head(s, &mut words.head);
     let x = read_lines(
         s,
         b"(expression",
         3,
         Limits::MOST_EXPRESSIONS,
         h,
-        expressions,
+        &mut words.expressions,
     );
-    let e = read_lines(s, b"(entry", 2, Limits::MOST_ENTRIES, x, entries);
-    let r = read_lines(s, b"(relation", 2, Limits::MOST_RELATIONS, e, relations);
+    let e = read_lines(s, b"(entry", 2, Limits::MOST_ENTRIES, x, &mut words.entries);
+    let r = read_lines(
+        s,
+        b"(relation",
+        2,
+        Limits::MOST_RELATIONS,
+        e,
+        &mut words.relations,
+    );
     let c = read_lines(
         s,
         b"(comparison",
         5,
         Limits::MOST_COMPARISONS,
         r,
-        comparisons,
+        &mut words.comparisons,
     );
-    let q = read_lines(s, b"(query", 4, Limits::MOST_QUERIES, c, queries);
-    let k = read_kinds(s, wide(head[1]), q, kinds);
+    let q = read_lines(s, b"(query", 4, Limits::MOST_QUERIES, c, &mut words.queries);
+    let k = read_kinds(s, usize::from(words.head[1]), q, &mut words.kinds);
     if h.end == 0 {
-        return Outcome::Bad(1);
+        return Err(BadLine { number: 1 });
     }
-    if k.at == s.len() {
-        return Outcome::Read(Sizes {
-            expressions: x.end,
-            entries: e.end,
-            relations: r.end,
-            comparisons: c.end,
-            queries: q.end,
-            kinds: k.end,
-        });
+    if k.at != s.len() {
+        return Err(BadLine { number: k.line });
     }
-    Outcome::Bad(k.line)
+    Ok(Sizes {
+        expressions: x.end,
+        entries: e.end,
+        relations: r.end,
+        comparisons: c.end,
+        queries: q.end,
+        kinds: k.end,
+    })
 }
 
 // The length of the longest file that is read.
 pub const LONGEST_FILE: usize = 65536;
 
-// The whole file: its head and its tables into the lent ones. A longer one is not read.
-pub fn read_file(
-    s: &[u8],
-    head: &mut [u16],
-    expressions: &mut [u16],
-    entries: &mut [u16],
-    relations: &mut [u16],
-    comparisons: &mut [u16],
-    queries: &mut [u16],
-    kinds: &mut [u16],
-) -> Outcome
-    requires { Lent (file_words head.old expressions.old entries.old relations.old comparisons.old queries.old kinds.old) }
-    ensures { Filed (file_of s.now)
-        (file_left s.now
-        (file_words head.old expressions.old entries.old relations.old comparisons.old
-        queries.old kinds.old)) result
-        (file_words head.new expressions.new entries.new relations.new comparisons.new
-        queries.new kinds.new) }
+// The whole file: its head and its tables into the words. A longer one is not read.
+pub fn read_file(s: &[u8], words: &mut FileWords) -> Result<Sizes, BadLine>
+    ensures { Filed (file_of s.now) (file_left s.now words.old) result words.new }
 {
     if LONGEST_FILE < s.len() {
-        return Outcome::Bad(0);
+        return Err(BadLine { number: 0 });
     }
-    read_groups(
-        s,
-        head,
-        expressions,
-        entries,
-        relations,
-        comparisons,
-        queries,
-        kinds,
-    )
+    read_groups(s, words)
 }

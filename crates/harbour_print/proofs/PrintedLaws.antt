@@ -27,7 +27,8 @@ use Rattle.printing.proofs.PrintLaws.{accepted_print, accepted_room}
 use Rattle.printing.specs.PageRows.{page_text, PageRead}
 use Rattle.printing.proofs.PageLaws.{rows_page, page_room}
 use Rattle.harbour_file.specs.declared.Sizes.{Sizes}
-use Rattle.harbour_file.specs.Filing.{head_of, FileWords, Held}
+use Rattle.harbour_file.specs.declared.FileWords.{FileWords}
+use Rattle.harbour_file.specs.Filing.{head_of, Held}
 use Rattle.harbour_file.proofs.FileHeld.{held_tables}
 use Rattle.harbour_print.specs.declared.Layout.{Layout}
 use Rattle.harbour_print.specs.Layouts.{accepted_as, answer_as, file_as, text_as}

@@ -7,7 +7,8 @@ use Rattle.report.specs.ColumnRows.{column_rows}
 use Rattle.report.specs.Configuring.{written}
 use Rattle.report.specs.Formed.{Formed}
 use Rattle.harbour_file.specs.declared.Sizes.{Sizes}
-use Rattle.harbour_file.specs.Filing.{FileWords, Held}
+use Rattle.harbour_file.specs.declared.FileWords.{FileWords}
+use Rattle.harbour_file.specs.Filing.{Held}
 
 -- the number of features, the permitted configurations and the column rows of tables that have passed the form checks
 pub record ColumnReads (T : Tables) (n : ℕ) (permits columns : List ℕ) : Type 0 where
@@ -22,12 +23,10 @@ pub record ColumnReadable (n : ℕ) (permits columns out : List ℕ) : Type 0 wh
   pub reads : ColumnReads tables n permits columns
   pub room : 201653 ≤ length out
 
--- there are tables that stand in these words, and room for every print
-pub record HeldReadable (sizes : Sizes) (words : FileWords) (out : List ℕ) : Type 0 where
+-- there are tables that stand in these words
+pub record HeldReadable (sizes : Sizes) (words : FileWords) : Type 0 where
   pub tables : Tables
   pub held : Held tables sizes words
-  pub whole : 3 ≤ length words.head
-  pub room : 201653 ≤ length out
 
 -- afterwards the text stands at the start, what stood after it is as before, and the answer is its length
 pub record Prints (text before after : List ℕ) (answer : ℕ) : Type 0 where

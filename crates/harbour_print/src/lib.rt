@@ -5,11 +5,11 @@ mod printed;
 
 ghost use Rattle.report.specs.Tables.{Tables};
 ghost use Rattle.report.specs.HarbourFile.{File};
-ghost use Rattle.harbour_file.specs.Filing.{file_words, Held};
+ghost use Rattle.harbour_file.specs.Filing.{Held};
 ghost use Rattle.harbour_print.specs.Layouts.{file_as, text_as};
 ghost use Rattle.harbour_print.specs.Printing.{HeldReadable, Prints};
 
-use harbour_file::{Outcome, Sizes, decode_head, read_file};
+use harbour_file::{FileWords, Sizes, decode_head, read_file};
 use printed::print_tables;
 use report::Limits;
 use sets::AttributeSet;
@@ -28,43 +28,20 @@ pub const LONGEST_PRINT: usize = 201653;
 // Room for every print.
 pub type PrintRoom = [u8; LONGEST_PRINT];
 
-// The print of tables that were read, which are so many of the first words of the lent ones.
-fn print_read(
-    sizes: Sizes,
-    layout: Layout,
-    head: &[u16],
-    expressions: &[u16],
-    entries: &[u16],
-    relations: &[u16],
-    comparisons: &[u16],
-    queries: &[u16],
-    kinds: &[u16],
-    out: &mut [u8],
-) -> usize
-    requires { HeldReadable sizes
-        (file_words head.now expressions.now entries.now relations.now comparisons.now queries.now kinds.now) out.old }
-    ensures { (T : Tables)
-        → Held T sizes
-        (file_words head.now expressions.now entries.now relations.now comparisons.now
-        queries.now kinds.now)
-        → Prints (file_as layout (File.holds T)) out.old out.new result }
+// The print of tables that were read, which are so many of the first words of each array.
+fn print_read(sizes: Sizes, layout: Layout, words: &FileWords, out: &mut PrintRoom) -> usize
+    requires { HeldReadable sizes words.now }
+    ensures { (T : Tables) → Held T sizes words.now → Prints (file_as layout (File.holds T)) out.old out.new result }
 {
-    // the end of a part is a local
-    let expression_words = sizes.expressions;
-    let entry_words = sizes.entries;
-    let relation_words = sizes.relations;
-    let comparison_words = sizes.comparisons;
-    let query_words = sizes.queries;
-    let kind_words = sizes.kinds;
     print_tables(
-        decode_head(head),
+        decode_head(&words.head),
         layout,
-        &expressions[..expression_words],
-        &entries[..entry_words],
-        &relations[..relation_words],
-        &comparisons[..comparison_words],
-        &queries[..query_words],
-        &kinds[..kind_words],
+        &words.expressions[..sizes.expressions],
+        &words.entries[..sizes.entries],
+        &words.relations[..sizes.relations],
+        &words.comparisons[..sizes.comparisons],
+        &words.queries[..sizes.queries],
+        &words.kinds[..sizes.kinds],
         out,
     )
 }
@@ -73,38 +50,17 @@ fn print_read(
 pub fn print_file(text: &[u8], layout: Layout, out: &mut PrintRoom) -> usize
     ensures { Prints (text_as layout text.now) out.old out.new result }
 {
-    let mut head = [0; 3];
-    let mut expressions = [0; Limits::MOST_EXPRESSIONS * 3];
-    let mut entries = [0; Limits::MOST_ENTRIES * 2];
-    let mut relations = [0; Limits::MOST_RELATIONS * 2];
-    let mut comparisons = [0; Limits::MOST_COMPARISONS * 5];
-    let mut queries = [0; Limits::MOST_QUERIES * 4];
-    let mut kinds = [0; AttributeSet::MOST_ATTRIBUTES];
-    let file = read_file(
-        text,
-        &mut head,
-        &mut expressions,
-        &mut entries,
-        &mut relations,
-        &mut comparisons,
-        &mut queries,
-        &mut kinds,
-    );
-    match file {
-        Outcome::Bad(n) => put_unread(out, 0, n as u64),
-        Outcome::Read(sizes) => {
-            print_read(
-                sizes,
-                layout,
-                &head,
-                &expressions,
-                &entries,
-                &relations,
-                &comparisons,
-                &queries,
-                &kinds,
-                out,
-            )
-        }
+    let mut words = FileWords {
+        head: [0; 3],
+        expressions: [0; Limits::MOST_EXPRESSIONS * 3],
+        entries: [0; Limits::MOST_ENTRIES * 2],
+        relations: [0; Limits::MOST_RELATIONS * 2],
+        comparisons: [0; Limits::MOST_COMPARISONS * 5],
+        queries: [0; Limits::MOST_QUERIES * 4],
+        kinds: [0; AttributeSet::MOST_ATTRIBUTES],
+    };
+    match read_file(text, &mut words) {
+        Err(bad) => put_unread(out, 0, bad.number as u64),
+        Ok(sizes) => print_read(sizes, layout, &words, out),
     }
 }

@@ -6,7 +6,8 @@ use program::run;
 
 fn main(rt: HostRuntime) {
     let mut out: PrintRoom = [0; LONGEST_PRINT];
-    run(
+    // What failed is told on standard error already.
+    let _ = run(
         Layout::Page,
         b"page",
         &mut rt.stdin(),

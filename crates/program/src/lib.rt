@@ -10,61 +10,42 @@ ghost use Rattle.program.specs.Streams.{ReadsFirst, PrintsFirst, HandsFirst, Add
 
 use harbour_file::LONGEST_FILE;
 use harbour_print::{Layout, PrintRoom, print_file};
-use std::io::{Read, Write};
+use std::io::{self, Read, Write};
 
 // One byte more than a harbour file may have: a file that fills it is too long, however much of it is left unread.
 const READ_ROOM: usize = LONGEST_FILE + 1;
 
-// How many bytes were read, or that a read failed.
-#[derive(Clone, Copy)]
-enum Input {
-    Read(usize),
-    Failed,
-}
-
-// How many bytes the print has, or that there was no input to print.
-#[derive(Clone, Copy)]
-enum Printed {
-    Bytes(usize),
-    NoInput,
-}
-
-// What was handed to standard output: so many bytes, which were written, or of which some could not be; or nothing, since there was no input.
-#[derive(Clone, Copy)]
-pub enum Handed {
-    Written(usize),
+// Why the bytes are not on standard output: there was no input to print, or of so many bytes that were handed to it some could not be written.
+#[derive(Clone, Copy, Debug, PartialEq, Eq)]
+pub enum Failure {
+    Unread,
     Unwritten(usize),
-    Nothing,
 }
 
-// Reads the input until `text` is full, the input ends or a read fails. After the end it reads no more: a terminal would wait.
-fn read_input<R: Read>(input: &mut R, text: &mut [u8]) -> Input
+// Reads the input until `text` is full, the input ends or a read fails. Answers how many bytes were read. After the end it reads no more: a terminal would wait.
+fn read_input<R: Read>(input: &mut R, text: &mut [u8]) -> io::Result<usize>
     ensures within { Within result text.new }
     ensures first { ReadsFirst result (R.remaining input.old) text.new }
 {
     let mut at = 0;
     while at < text.len() {
-        let Ok(more) = input.read(&mut text[at..]) else {
-            return Input::Failed;
-        };
+        let more = input.read(&mut text[at..])?;
         if more == 0 {
-            return Input::Read(at);
+            return Ok(at);
         }
         at += more;
     }
-    Input::Read(at)
+    Ok(at)
 }
 
-// Prints what the text on the input gives to the start of `out`.
-fn print_input<R: Read>(input: &mut R, layout: Layout, out: &mut PrintRoom) -> Printed
+// Prints what the text on the input gives to the start of `out`. Answers how many bytes that are.
+fn print_input<R: Read>(input: &mut R, layout: Layout, out: &mut PrintRoom) -> io::Result<usize>
     ensures printed { InputPrinted layout result out.old out.new }
     ensures first { PrintsFirst layout result (R.remaining input.old) out.old out.new }
 {
     let mut text = [0u8; READ_ROOM];
-    match read_input(input, &mut text) {
-        Input::Read(length) => Printed::Bytes(print_file(&text[..length], layout, out)),
-        Input::Failed => Printed::NoInput,
-    }
+    let length = read_input(input, &mut text)?;
+    Ok(print_file(&text[..length], layout, out))
 }
 
 // Writes the bytes until all are written, a write takes none of them or one fails. Answers how many were written.
@@ -110,7 +91,7 @@ pub fn run<R: Read, W: Write, E: Write>(
     output: &mut W,
     errors: &mut E,
     out: &mut PrintRoom,
-) -> Handed
+) -> Result<usize, Failure>
     ensures handed { HandedOn layout result out.old out.new }
 
     // Where the bytes of the input, or those that an output holds, are known.
@@ -120,17 +101,13 @@ pub fn run<R: Read, W: Write, E: Write>(
         (W.contents output.new) }
     ensures told { TellsOf E.contents result name.now errors.old errors.new }
 {
-    match print_input(input, layout, out) {
-        Printed::Bytes(length) => {
-            if write_first(output, out, length) {
-                return Handed::Written(length);
-            }
-            tell_failure(errors, name, b": standard output cannot be written\n");
-            Handed::Unwritten(length)
-        }
-        Printed::NoInput => {
-            tell_failure(errors, name, b": standard input cannot be read\n");
-            Handed::Nothing
-        }
+    let Ok(length) = print_input(input, layout, out) else {
+        tell_failure(errors, name, b": standard input cannot be read\n");
+        return Err(Failure::Unread);
+    };
+    if !write_first(output, out, length) {
+        tell_failure(errors, name, b": standard output cannot be written\n");
+        return Err(Failure::Unwritten(length));
     }
+    Ok(length)
 }

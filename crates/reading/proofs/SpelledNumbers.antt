@@ -1,5 +1,7 @@
 -- What the scanner of specs/Scanning finds of a number: exactly its decimal.
 use Prim.Native.Nat.{ℕ, suc, ◌+◌, ◌-◌, ◌*◌, ◌/◌, ◌%◌, ◌≤◌, ◌<◌}
+use Rattle.std.specs.Prelude.{Result, Ok}
+use Rattle.reading.specs.declared.Broken.{Broken}
 use mathlib.Core.Path.{◌≡◌, refl, sym, ap, ap₂, ◌∙◌}
 use mathlib.Core.Bool.{Bool, true, false}
 use mathlib.Core.List.{List, [], ◌∷◌, ◌++◌, append_assoc, append-nil}
@@ -10,8 +12,7 @@ use lib.Dec.{leb, ltb}
 use borrow.Author.Tests.{lt-ltb, ltb-true, leb-true, le-leb}
 use Rattle.report.specs.Text.{decimal, is_digit}
 use Rattle.report.proofs.TextLaws.{both, both_true, decimal_small, decimal_step, decimal_ind, digit_of}
-use Rattle.reading.specs.Scanning.{next_digit, more_digits, first_digit}
-use Rattle.reading.specs.declared.Number.{Number}
+use Rattle.reading.specs.Scanning.{broken, on_number, next_digit, more_digits, first_digit}
 use Rattle.reading.proofs.ScanLaws.{goes_on}
 
 -- ---- one digit more
@@ -34,12 +35,12 @@ digit_value b e =
 
 module _ (v at b : ℕ) (rest : List ℕ) where
   -- a byte that is no digit ends the number
-  number_ends : is_digit b ≡ false → more_digits v at (b ∷ rest) ≡ Number.Read v at
+  number_ends : is_digit b ≡ false → more_digits v at (b ∷ rest) ≡ Ok (v, at)
   unfolding more_digits next_digit
   number_ends e = rw e
 
   -- a digit that it cannot have breaks it
-  number_over : is_digit b ≡ true → goes_on v b ≡ false → more_digits v at (b ∷ rest) ≡ Number.Broken at
+  number_over : is_digit b ≡ true → goes_on v b ≡ false → more_digits v at (b ∷ rest) ≡ broken at
   unfolding more_digits next_digit
   number_over e f = rw (e, f)
 
@@ -61,10 +62,10 @@ record Continued (v w at p : ℕ) (text : List ℕ) : Type 0 where
 
 module _ (w p : ℕ) where
   -- the number ends here
-  continued_none : (text : List ℕ) (v at : ℕ) → v ≤ 65535 → Number.Read v at ≡ Number.Read w p → Continued v w at p text
+  continued_none : (text : List ℕ) (v at : ℕ) → v ≤ 65535 → ◌≡◌ {A = Result (ℕ × ℕ) Broken} (Ok (v, at)) (Ok (w, p)) → Continued v w at p text
   continued_none text v at h e =
-      let a : v ≡ w = cc in
-      let b : at ≡ p = cc in
+      let a : v ≡ w = ap (λ (n : Result (ℕ × ℕ) Broken). on_number n (λ x q. x) (λ q. q)) e in
+      let b : at ≡ p = ap (λ (n : Result (ℕ × ℕ) Broken). on_number n (λ x q. q) (λ q. q)) e in
       record {
         more = [];
         rest = text;
@@ -75,16 +76,16 @@ module _ (w p : ℕ) where
       }
 
   -- what was read on from a value is spelled on from its decimal
-  continued : (text : List ℕ) (v at : ℕ) → v ≤ 65535 → more_digits v at text ≡ Number.Read w p → Continued v w at p text
+  continued : (text : List ℕ) (v at : ℕ) → v ≤ 65535 → more_digits v at text ≡ Ok (w, p) → Continued v w at p text
   unfolding more_digits
   continued [] v at h e = continued_none [] v at h e
   continued (b ∷ rest) v at h e = step (λ x l f. continued rest x (suc at) l f) (is_digit b) (goes_on v b) refl refl
     where
-      step : ((x : ℕ) → x ≤ 65535 → more_digits x (suc at) rest ≡ Number.Read w p → Continued x w (suc at) p rest)
+      step : ((x : ℕ) → x ≤ 65535 → more_digits x (suc at) rest ≡ Ok (w, p) → Continued x w (suc at) p rest)
           → (d f : Bool) → is_digit b ≡ d → goes_on v b ≡ f → Continued v w at p (b ∷ rest)
       step later false f i j = continued_none (b ∷ rest) v at h (sym (number_ends v at b rest i) ∙ e)
       step later true false i j =
-          absurd (let s = number_over v at b rest i j in let z : ◌≡◌ {A = ℕ} 0 1 = cc in omega arith)
+          let s = number_over v at b rest i j in cc
       step later true true i j =
           let x = v * 10 + (b - 48) in
           let k = both_true (ltb 0 v) (leb x 65535) j in
@@ -111,14 +112,14 @@ pub record NumberRead (w at p : ℕ) (text : List ℕ) : Type 0 where
   pub small : w ≤ 65535
 
 -- a number that was read is one of at most 65535, and its decimal stands there
-pub number_read : (text : List ℕ) (w at p : ℕ) → first_digit at text ≡ Number.Read w p → NumberRead w at p text
+pub number_read : (text : List ℕ) (w at p : ℕ) → first_digit at text ≡ Ok (w, p) → NumberRead w at p text
 unfolding first_digit
-number_read [] w at p e = absurd (let z : ◌≡◌ {A = ℕ} 0 1 = cc in omega arith)
+number_read [] w at p e = cc
 number_read (b ∷ rest) w at p e = go (is_digit b) refl
   where
     go : (d : Bool) → is_digit b ≡ d → NumberRead w at p (b ∷ rest)
     go false i =
-        absurd (let s : first_digit at (b ∷ rest) ≡ Number.Broken at = rw i in let z : ◌≡◌ {A = ℕ} 0 1 = cc in omega arith)
+        let s : first_digit at (b ∷ rest) ≡ broken at = rw i in cc
     go true i =
         let s : first_digit at (b ∷ rest) ≡ more_digits (b - 48) (suc at) rest = rw i in
         let d = digit_value b i in
@@ -166,5 +167,5 @@ digits_found =
 
 -- the decimal of a number of at most 65535 is read, where no digit follows
 pub number_found : (n at b : ℕ) (rest : List ℕ) → n ≤ 65535 → is_digit b ≡ false
-    → first_digit at (decimal n ++ (b ∷ rest)) ≡ Number.Read n (at + length (decimal n))
+    → first_digit at (decimal n ++ (b ∷ rest)) ≡ Ok (n, at + length (decimal n))
 number_found n at b rest h e = digits_found n h at (b ∷ rest) ∙ number_ends n (at + length (decimal n)) b rest e

@@ -1,11 +1,11 @@
 // Numbers, fixed byte strings and lines at a position of a text. Each function answers the position where it stopped.
 #![tactic(auto)]
 
-ghost use Rattle.std.specs.Prelude.{◌≡◌, ◌+◌, ◌≤◌, length, drop};
-ghost use Rattle.report.specs.Text.{is_digit};
-ghost use Rattle.reading.specs.Scanning.{next_digit, more_digits, number_at, word_at, spaced_at, numbers_at, line_at, Stored};
+ghost use Rattle.std.specs.Prelude.{◌≡◌, ◌+◌, ◌≤◌, length};
+ghost use Rattle.reading.specs.Scanning.{next_digit, number_at, word_at, spaced_at, numbers_at, line_at, Stored};
 
-// A byte after some digits: no digit; a digit that the number cannot have; or a digit that makes it this value.
+// A byte after some digits: no digit; a digit that the number cannot have; or a digit that makes it this value. (Three ways to go on, so an Option of a
+// Result would be no plainer.)
 #[derive(Clone, Copy)]
 pub enum Digit {
     End,
@@ -13,33 +13,20 @@ pub enum Digit {
     More(usize),
 }
 
-// A number and the position after it, or the position where it breaks.
-#[derive(Clone, Copy)]
-pub enum Number {
-    Read(u16, usize),
-    Broken(usize),
-}
-
-// The position after what was read, or that where it breaks.
-#[derive(Clone, Copy)]
-pub enum Step {
-    Next(usize),
-    Stop(usize),
-}
-
-fn is_digit(b: u8) -> bool
-    ensures { result ≡ is_digit b }
-{
-    (48 <= b) & (b <= 57)
+// The position of the byte that what is read there cannot have.
+#[derive(Clone, Copy, Debug, PartialEq, Eq)]
+pub struct Broken {
+    pub at: usize,
 }
 
 // What byte b is after digits of value v.
+#[tactic(auto, unfolding(crate::specs::Scanning::next_digit))]
 fn next_digit(v: usize, b: u8) -> Digit
     requires { v ≤ 65535 }
     ensures { result ≡ next_digit v b }
 {
-    if is_digit(b) {
-        let w = v * 10 + (b - 48) as usize;
+    if b.is_ascii_digit() {
+        let w = v * 10 + usize::from(b - b'0');
         if (0 < v) & (w <= 65535) {
             return Digit::More(w);
         }
@@ -48,90 +35,84 @@ fn next_digit(v: usize, b: u8) -> Digit
     Digit::End
 }
 
-// The rest of a number whose digits so far have value v.
-fn more_digits(s: &[u8], v: usize, at: usize) -> Number
-    requires { v ≤ 65535 }
-    ensures { result ≡ more_digits v at (drop at s.now) }
-{
-    if s.len() <= at {
-        return Number::Read(v as u16, at);
-    }
-    match next_digit(v, s[at]) {
-        Digit::End => Number::Read(v as u16, at),
-        Digit::Over => Number::Broken(at),
-        Digit::More(w) => more_digits(s, w, at + 1),
-    }
-}
-
-// The number at a position.
-pub fn scan_number(s: &[u8], at: usize) -> Number
+// The number at a position, and the position after it.
+#[tactic(auto, unfolding(crate::specs::Scanning::number_at, crate::specs::Scanning::first_digit, crate::specs::Scanning::more_digits))]
+pub fn scan_number(s: &[u8], at: usize) -> Result<(u16, usize), Broken>
     ensures { result ≡ number_at s.now at }
 {
-    if at < s.len() {
-        let b = s[at];
-        if is_digit(b) {
-            return more_digits(s, (b - 48) as usize, at + 1);
+    let first = match s.get(at) {
+        Some(b) if b.is_ascii_digit() => *b,
+        _ => return Err(Broken { at }),
+    };
+    let mut value = usize::from(first - b'0');
+    for p in at + 1..s.len() {
+        match next_digit(value, s[p]) {
+            Digit::End => return Ok((value as u16, p)),
+            Digit::Over => return Err(Broken { at: p }),
+            Digit::More(w) => value = w,
         }
     }
-    Number::Broken(at)
+    Ok((value as u16, s.len()))
 }
 
-// The word at a position.
-pub fn scan_word(word: &[u8], s: &[u8], at: usize) -> Step
+// The word at a position. Answers the position after it.
+#[tactic(auto, unfolding(crate::specs::Scanning::word_at, crate::specs::Scanning::word_from))]
+pub fn scan_word(word: &[u8], s: &[u8], at: usize) -> Result<usize, Broken>
     ensures { result ≡ word_at word.now s.now at }
 {
-    let mut i = 0;
     let mut p = at;
-    while i < word.len() {
-        if s.len() <= p {
-            return Step::Stop(p);
+    for w in word {
+        if s.get(p) != Some(w) {
+            return Err(Broken { at: p });
         }
-        if s[p] != word[i] {
-            return Step::Stop(p);
-        }
-        i += 1;
         p += 1;
     }
-    Step::Next(p)
+    Ok(p)
 }
 
 // A space, then a number.
-pub fn scan_spaced(s: &[u8], at: usize) -> Number
+#[tactic(auto, unfolding(crate::specs::Scanning::spaced_at))]
+pub fn scan_spaced(s: &[u8], at: usize) -> Result<(u16, usize), Broken>
     ensures { result ≡ spaced_at s.now at }
 {
-    match scan_word(b" ", s, at) {
-        Step::Next(p) => scan_number(s, p),
-        Step::Stop(p) => Number::Broken(p),
-    }
+    scan_number(s, scan_word(b" ", s, at)?)
 }
 
 // `count` numbers, each after one space, into `out` from `to` on.
-fn read_numbers(s: &[u8], at: usize, count: usize, out: &mut [u16], to: usize) -> Step
+#[tactic(auto, unfolding(crate::specs::Scanning::numbers_at))]
+fn read_numbers(
+    s: &[u8],
+    at: usize,
+    count: usize,
+    out: &mut [u16],
+    to: usize,
+) -> Result<usize, Broken>
     requires { to + count ≤ length out.old }
     ensures { Stored (numbers_at s.now count at) result out.old to out.new }
 {
-    if count == 0 {
-        return Step::Next(at);
+    let mut p = at;
+    for i in 0..count {
+        let (v, next) = scan_spaced(s, p)?;
+        out[to + i] = v;
+        p = next;
     }
-    match scan_spaced(s, at) {
-        Number::Broken(p) => Step::Stop(p),
-        Number::Read(v, p) => {
-            out[to] = v;
-            read_numbers(s, p, count - 1, out, to + 1)
-        }
-    }
+    Ok(p)
 }
 
 // The line of a word and `width` numbers at a position: its numbers into `out` from `to` on.
-pub fn read_line(s: &[u8], word: &[u8], width: usize, at: usize, out: &mut [u16], to: usize) -> Step
+#[tactic(auto, unfolding(crate::specs::Scanning::line_at))]
+pub fn read_line(
+    s: &[u8],
+    word: &[u8],
+    width: usize,
+    at: usize,
+    out: &mut [u16],
+    to: usize,
+) -> Result<usize, Broken>
     requires { to + width ≤ length out.old }
     ensures { Stored (line_at s.now word.now width at) result out.old to out.new }
 {
-    match scan_word(word, s, at) {
-        Step::Stop(p) => Step::Stop(p),
-        Step::Next(p) => match read_numbers(s, p, width, out, to) {
-            Step::Stop(q) => Step::Stop(q),
-            Step::Next(q) => scan_word(b")\n", s, q),
-        },
-    }
+    let p = scan_word(word, s, at)?;
+    let q = read_numbers(s, p, width, out, to)?;
+    scan_word(b")\n", s, q)
 }

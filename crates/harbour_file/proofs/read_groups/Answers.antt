@@ -5,14 +5,14 @@ use Rattle.harbour_file.proofs.read_groups.Goals as goal
 pub returns-then-h-eq0 : goal.returns-then-h-eq0
 returns-then-h-eq0 c =
     filed_headless c.args.s.now _ _ c.read_head-h.ensures c.read_lines-x.ensures c.read_lines-e.ensures c.read_lines-r.ensures
-    c.read_lines-c.ensures c.read_lines-q.ensures c.read_kinds-k.ensures c.wide.ensures c.if-h-eq0.true
+    c.read_lines-c.ensures c.read_lines-q.ensures c.read_kinds-k.ensures c.from.ensures c.if-h-eq0.true
 
 pub returns-then-k-s : goal.returns-then-k-s
 returns-then-k-s c =
-    filed_whole c.args.s.now _ _ c.read_head-h.ensures c.read_lines-x.ensures c.read_lines-e.ensures c.read_lines-r.ensures
-    c.read_lines-c.ensures c.read_lines-q.ensures c.read_kinds-k.ensures c.wide.ensures c.if-h-eq0.false c.if-k-s.true
+    filed_stopped c.args.s.now _ _ c.read_head-h.ensures c.read_lines-x.ensures c.read_lines-e.ensures c.read_lines-r.ensures
+    c.read_lines-c.ensures c.read_lines-q.ensures c.read_kinds-k.ensures c.from.ensures c.if-h-eq0.false c.if-k-s.true
 
 pub returns : goal.returns
 returns c =
-    filed_stopped c.args.s.now _ _ c.read_head-h.ensures c.read_lines-x.ensures c.read_lines-e.ensures c.read_lines-r.ensures
-    c.read_lines-c.ensures c.read_lines-q.ensures c.read_kinds-k.ensures c.wide.ensures c.if-h-eq0.false c.if-k-s.false
+    filed_whole c.args.s.now _ _ c.read_head-h.ensures c.read_lines-x.ensures c.read_lines-e.ensures c.read_lines-r.ensures
+    c.read_lines-c.ensures c.read_lines-q.ensures c.read_kinds-k.ensures c.from.ensures c.if-h-eq0.false c.if-k-s.false

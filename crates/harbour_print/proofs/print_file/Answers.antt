@@ -7,19 +7,19 @@ use Rattle.harbour_print.proofs.PrintedLaws.{prints, text_printed, unread_printe
 use Rattle.harbour_print.proofs.print_file.Goals as goal
 
 pub put_unread-requires : goal.put_unread-requires
-put_unread-requires c = record { fits = omega (arith, (unread_room c.in-Bad.n (omega arith))) }
+put_unread-requires c = record { fits = omega (arith, (unread_room c.in-Err.bad.number (omega arith))) }
 
 pub print_read-requires : goal.print_read-requires
 print_read-requires c =
-    let t = (read_told _ _ c.read_file-file.ensures c.in-Read.is) in
-    record { tables = t.0; held = t.2; whole = omega arith; room = omega arith }
+    let t = (read_told _ _ c.read_file.ensures c.in-Ok.is) in
+    record { tables = t.0; held = t.2 }
 
-pub returns-in-Bad : goal.returns-in-Bad
-returns-in-Bad c =
-    unread_printed c.args.layout c.args.text.now refl (bad_told _ _ c.read_file-file.ensures c.in-Bad.is)
-    (prints ((unread_room c.in-Bad.n (omega arith))) (omega arith) c.put_unread.ensures)
+pub returns-in-Err : goal.returns-in-Err
+returns-in-Err c =
+    unread_printed c.args.layout c.args.text.now refl (bad_told _ _ c.read_file.ensures c.in-Err.is)
+    (prints ((unread_room c.in-Err.bad.number (omega arith))) (omega arith) c.put_unread.ensures)
 
-pub returns-in-Read : goal.returns-in-Read
-returns-in-Read c =
-    let t = (read_told _ _ c.read_file-file.ensures c.in-Read.is) in
+pub returns-in-Ok : goal.returns-in-Ok
+returns-in-Ok c =
+    let t = (read_told _ _ c.read_file.ensures c.in-Ok.is) in
     text_printed c.args.layout c.args.text.now t.1 (c.print_read.ensures t.0 t.2)

@@ -3,6 +3,6 @@ use Rattle.std.proofs.Common.{rules}
 use Rattle.program.proofs.StreamLaws.{printed_first}
 use Rattle.program.proofs.print_input.Goals as goal
 
-pub returns-in-Read-clause-first : goal.returns-in-Read-clause-first
-returns-in-Read-clause-first g c =
-    printed_first _ _ c.read_input.new.text c.in-Read.length _ _ _ (search rules) c.in-Read.ensures.first c.print_file.ensures
+pub returns-clause-first : goal.returns-clause-first
+returns-clause-first g c =
+    printed_first _ _ c.read_input.new.text c.in_ok-length.length _ _ _ (search rules) c.in_ok-length.ensures.first c.print_file.ensures

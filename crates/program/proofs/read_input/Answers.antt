@@ -13,18 +13,18 @@ returns-then-more-eq0-clause-first g c =
     let at = c.loop-at.at in
     let within = c.loop-at.invariant.within in
     let text = put_mid at (length c.loop-at.text - at) c.loop-at.text c.read.new.buf in
-    let same : at + c.in-Ok.more ≡ at = omega arith in
-    let start : take at c.loop-at.text ++ take c.in-Ok.more c.read.new.buf ≡ take at text =
-    sym (take_put _ _ _ _ _ within c.in-Ok.ensures.bound.0) ∙ ap (λ m. take m text) same in
+    let same : at + c.in_ok-more.more ≡ at = omega arith in
+    let start : take at c.loop-at.text ++ take c.in_ok-more.more c.read.new.buf ≡ take at text =
+    sym (take_put _ _ _ _ _ within c.in_ok-more.ensures.bound.0) ∙ ap (λ m. take m text) same in
     consumed_first _ _ text at (search rules)
-    (subst (Consumes _ _) start (consumed_both _ _ _ _ _ c.loop-at.invariant.read c.in-Ok.ensures.bytes.0))
-    (λ h. c.in-Ok.ensures.bytes.1 c.if-more-eq0.true (search rules))
+    (subst (Consumes _ _) start (consumed_both _ _ _ _ _ c.loop-at.invariant.read c.in_ok-more.ensures.bytes.0))
+    (λ h. c.in_ok-more.ensures.bytes.1 c.if-more-eq0.true (search rules))
 
 pub loop-at-preserved : goal.loop-at-preserved
 loop-at-preserved g c = record {
   within = search rules;
-  read = subst (Consumes _ _) (sym (take_put _ _ _ _ _ c.loop-at.invariant.within c.in-Ok.ensures.bound.0))
-      (consumed_both _ _ _ _ _ c.loop-at.invariant.read c.in-Ok.ensures.bytes.0);
+  read = subst (Consumes _ _) (sym (take_put _ _ _ _ _ c.loop-at.invariant.within c.in_ok-more.ensures.bound.0))
+      (consumed_both _ _ _ _ _ c.loop-at.invariant.read c.in_ok-more.ensures.bytes.0);
 }
 
 pub returns-clause-first : goal.returns-clause-first
