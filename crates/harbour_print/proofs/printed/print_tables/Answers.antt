@@ -6,22 +6,22 @@ use Rattle.harbour_print.proofs.PrintedLaws.{prints, refusal_printed, acceptance
 use Rattle.harbour_print.proofs.printed.print_tables.Goals as goal
 
 pub put_refused-requires : goal.put_refused-requires
-put_refused-requires c = record { fits = omega (arith, refusal_room c.in-Refused.r (omega arith) (omega arith) (omega arith) (omega arith)) }
+put_refused-requires c = record { fits = omega (arith, refusal_room c.in-Err.r (omega arith) (omega arith) (omega arith) (omega arith)) }
 
-pub returns-in-Refused : goal.returns-in-Refused
-returns-in-Refused c =
-    refusal_printed c.args.layout _ c.check_into_columns-judged.ensures.answers c.in-Refused.is
-    (prints (refusal_room c.in-Refused.r (omega arith) (omega arith) (omega arith) (omega arith)) c.requires c.put_refused.ensures)
+pub returns-in-Err : goal.returns-in-Err
+returns-in-Err c =
+    refusal_printed c.args.layout _ c.check_into_columns-judged.ensures.answers c.in-Err.is
+    (prints (refusal_room c.in-Err.r (omega arith) (omega arith) (omega arith) (omega arith)) c.requires c.put_refused.ensures)
 
 pub print_columns-requires : goal.print_columns-requires
 print_columns-requires c =
     record {
       tables = _;
-      reads = accepted_reads (own_columns c.check_into_columns-judged.ensures c.in_default.is);
+      reads = accepted_reads (own_columns c.check_into_columns-judged.ensures c.in-Ok.is);
       room = c.requires;
     }
 
-pub returns : goal.returns
-returns c =
-    acceptance_printed c.args.layout _ c.check_into_columns-judged.ensures.answers c.in_default.is
-    (c.print_columns.ensures _ (accepted_reads (own_columns c.check_into_columns-judged.ensures c.in_default.is)))
+pub returns-in-Ok : goal.returns-in-Ok
+returns-in-Ok c =
+    acceptance_printed c.args.layout _ c.check_into_columns-judged.ensures.answers c.in-Ok.is
+    (c.print_columns.ensures _ (accepted_reads (own_columns c.check_into_columns-judged.ensures c.in-Ok.is)))
