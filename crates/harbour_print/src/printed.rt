@@ -54,7 +54,8 @@ pub fn print_tables(
         kinds,
         &mut columns,
     );
-    match judged.verdict {
+    let verdict = judged.verdict;
+    match verdict {
         Ok(()) => print_columns(head.features, judged.permitted, layout, &columns, out),
         Err(r) => put_refused(out, 0, r),
     }
