@@ -13,30 +13,16 @@ use verdicts::refuse;
 
 // Checks 12 to 19 and 25 of tables that have passed 1 to 10 and 24. Accepted: `rows`, of 1,024 words, holds the column rows. Refused: `rows` is as it was.
 fn check_meaning(
-    head: Head,
+    tables: &TableWords,
     reading: Reading,
-    expressions: &[u16],
-    entries: &[u16],
-    relations: &[u16],
-    comparisons: &[u16],
-    queries: &[u16],
-    kinds: &[u16],
     rows: &mut [u64],
 ) -> Verdict
-    requires { MeaningReads (tables_under head expressions.now entries.now relations.now comparisons.now queries.now kinds.now) rows.old }
-    ensures { Meant (tables_under head expressions.now entries.now relations.now comparisons.now
-        queries.now kinds.now) reading result rows.old rows.new }
+    requires { MeaningReads (tables_in tables.now) rows.old }
+    ensures { Meant (tables_in tables.now) reading result rows.old rows.new }
 {
     let mut columns = [0; COLUMN_WORDS];
     let judged = judge_tables_into_columns(
-        head,
-        reading,
-        expressions,
-        entries,
-        relations,
-        comparisons,
-        queries,
-        kinds,
+        tables, reading,
         &mut columns,
     );
     judged.verdict?;
@@ -46,41 +32,21 @@ fn check_meaning(
 
 // Checks the report of these tables in the reading. Accepted: `rows` holds its column rows. Refused: `rows` is as it was.
 pub fn check(
-    head: Head,
+    tables: &TableWords,
     reading: Reading,
-    expressions: &[u16],
-    entries: &[u16],
-    relations: &[u16],
-    comparisons: &[u16],
-    queries: &[u16],
-    kinds: &[u16],
     rows: &mut [u64],
 ) -> Verdict
-    ensures { Checks (tables_under head expressions.now entries.now relations.now
-        comparisons.now queries.now kinds.now)
+    ensures { Checks (tables_in tables.now)
         reading rows.old result rows.new }
 {
     check_forms(
-        head,
-        expressions,
-        entries,
-        relations,
-        comparisons,
-        queries,
-        kinds,
+        tables,
     )?;
     if rows.len() != COLUMN_WORDS {
         return refuse(11, 0);
     }
     check_meaning(
-        head,
-        reading,
-        expressions,
-        entries,
-        relations,
-        comparisons,
-        queries,
-        kinds,
+        tables, reading,
         rows,
     )
 }

@@ -235,23 +235,16 @@ fn configure_judged(
 
 // Writes the tables that the report of these tables, in the reading, becomes at configuration c into the tables lent for it. Refused: they are as they were.
 pub fn configure(
-    head: Head,
+    tables: &TableWords,
     reading: Reading,
     c: u64,
-    expressions: &[u16],
-    entries: &[u16],
-    relations: &[u16],
-    comparisons: &[u16],
-    queries: &[u16],
-    kinds: &[u16],
     new_entries: &mut [u16],
     new_relations: &mut [u16],
     new_comparisons: &mut [u16],
     new_queries: &mut [u16],
 ) -> Configured
     ensures { Configures
-        (tables_under head expressions.now entries.now relations.now comparisons.now
-        queries.now kinds.now) reading c
+        (tables_in tables.now) reading c
         new_entries.old new_relations.old new_comparisons.old new_queries.old result
         new_entries.new new_relations.new new_comparisons.new new_queries.new }
 {
@@ -259,26 +252,19 @@ pub fn configure(
     let mut reach = [0; REACH_WORDS];
     let mut columns = [0; COLUMN_WORDS];
     check_into_rows(
-        head,
-        reading,
-        expressions,
-        entries,
-        relations,
-        comparisons,
-        queries,
-        kinds,
+        tables, reading,
         &mut expression_rows,
         &mut reach,
         &mut columns,
     )?;
     configure_judged(
-        head.model,
+        tables.head.model,
         c,
         &expression_rows,
-        entries,
-        relations,
-        comparisons,
-        queries,
+        tables.entries,
+        tables.relations,
+        tables.comparisons,
+        tables.queries,
         &reach,
         new_entries,
         new_relations,

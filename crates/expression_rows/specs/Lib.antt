@@ -1,3 +1,4 @@
 pub mod ExpressionRows
 pub mod TypingReads
 pub mod RowRules
+pub mod SplitTables

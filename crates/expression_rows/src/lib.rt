@@ -52,6 +52,19 @@ pub fn fill_expression_rows(n: usize, expressions: &[u16], expression_rows: &mut
     }
 }
 
+// Tables that have passed the form checks, as they are read from then on: the expression rows in place of table 0, table 1 split where the lists of the
+// relations end, tables 2 to 4 and the kind table.
+#[derive(Clone, Copy)]
+pub struct SplitTables<'r, 't> {
+    pub expression_rows: &'r [u64],
+    pub relation_entries: &'t [u16],
+    pub project_entries: &'t [u16],
+    pub relations: &'t [u16],
+    pub comparisons: &'t [u16],
+    pub queries: &'t [u16],
+    pub kinds: &'t [u16],
+}
+
 // What typing is asked of: all configurations, the permitted ones, a bound of the items that can be at fault, which are attributes and relations, and the
 // reading.
 #[derive(Clone, Copy)]

@@ -9,6 +9,7 @@ ghost use Rattle.sets.specs.Rows.{row_in, row_join, row_intersect, with_row};
 ghost use Rattle.report.specs.Tables.{Tables, query_count};
 ghost use Rattle.report.specs.Configuring.{written};
 ghost use Rattle.report.specs.declared.Reading.{Reading};
+ghost use Rattle.expression_rows.specs.SplitTables.{of_split};
 ghost use Rattle.expression_rows.specs.TypingReads.{TypingReads};
 ghost use Rattle.fault_rows.specs.FaultRows.{failing_row, FailReadable, FailsFilled, ClashReads, ClashReadable};
 ghost use Rattle.fault_rows.specs.FaultRules.{unequal_row, absent_row, present_in, AbsentRead, fault_step, FaultRead};
@@ -19,7 +20,7 @@ ghost use Rattle.fault_rows.specs.FaultRules.{clash_step, ClashRead, first_found
 use attribute_rows::{fill_gathered_rows, fill_relation_rows, list_row, set_row};
 use comparisons::Gathered;
 use decoders::{decode_query, project_length, relation_expression};
-use expression_rows::Scope;
+use expression_rows::{Scope, SplitTables};
 use report::{Limits, Query, Reading};
 use sets::{AttributeSet, Row};
 
@@ -269,23 +270,15 @@ fn store_column(permitted: Row, a: usize, queries: &[u16], form_rows: &[u64], co
 // what each form is spared, and `columns` with the column rows: attribute by attribute, of the items of the scope.
 pub fn fill_faults(
     scope: Scope,
-    expression_rows: &[u64],
-    relation_entries: &[u16],
-    project_entries: &[u16],
-    relations: &[u16],
-    comparisons: &[u16],
-    queries: &[u16],
-    kinds: &[u16],
+    tables: &SplitTables,
     reach: &[u64],
     fault_rows: &mut [u64],
     spared_sets: &mut [u64],
     columns: &mut [u64],
 )
-    requires { FailReadable scope expression_rows.now relation_entries.now project_entries.now relations.now comparisons.now
-        queries.now kinds.now reach.now fault_rows.old spared_sets.old columns.old }
+    requires { of_split tables.now (FailReadable scope) reach.now fault_rows.old spared_sets.old columns.old }
     ensures { (T : Tables)
-        → TypingReads T scope expression_rows.now relation_entries.now project_entries.now
-        relations.now comparisons.now queries.now kinds.now reach.now
+        → of_split tables.now (TypingReads T scope) reach.now
         → FailsFilled T scope.reading scope.items fault_rows.old fault_rows.new spared_sets.old
         spared_sets.new columns.old columns.new }
 {
@@ -297,25 +290,25 @@ pub fn fill_faults(
             Gathered::Names,
             a,
             scope.full,
-            expression_rows,
-            comparisons,
-            kinds,
+            tables.expression_rows,
+            tables.comparisons,
+            tables.kinds,
             &mut named_rows,
         );
         fill_relation_rows(
             a,
-            expression_rows,
-            relation_entries,
-            relations,
+            tables.expression_rows,
+            tables.relation_entries,
+            tables.relations,
             &mut relation_rows,
         );
         type_forms(
             scope.reading,
             a,
-            expression_rows,
-            project_entries,
-            relations,
-            queries,
+            tables.expression_rows,
+            tables.project_entries,
+            tables.relations,
+            tables.queries,
             reach,
             &named_rows,
             &relation_rows,
@@ -323,7 +316,7 @@ pub fn fill_faults(
             fault_rows,
             spared_sets,
         );
-        store_column(scope.permitted, a, queries, &form_rows, columns);
+        store_column(scope.permitted, a, tables.queries, &form_rows, columns);
     }
 }
 

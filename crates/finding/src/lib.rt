@@ -30,35 +30,21 @@ fn lowest_with(row: Row, columns: &[u64], wanted: AttributeSet) -> Option<usize>
 
 // The lowest permitted configuration at which the report of these tables, in the reading, has all wanted attributes: attribute a is wanted where bit a is 1.
 pub fn find(
-    head: Head,
+    tables: &TableWords,
     reading: Reading,
     wanted: u64,
-    expressions: &[u16],
-    entries: &[u16],
-    relations: &[u16],
-    comparisons: &[u16],
-    queries: &[u16],
-    kinds: &[u16],
 ) -> FindAnswer
     ensures { Finds
-        (tables_under head expressions.now entries.now relations.now comparisons.now
-        queries.now kinds.now) reading wanted result }
+        (tables_in tables.now) reading wanted result }
 {
     let wanted = AttributeSet::of_bits(wanted);
     let mut columns = [0; COLUMN_WORDS];
     let judged = check_into_columns(
-        head,
-        reading,
-        expressions,
-        entries,
-        relations,
-        comparisons,
-        queries,
-        kinds,
+        tables, reading,
         &mut columns,
     );
     judged.verdict?;
     // 22 comes after the checks of the report.
-    refuse_if(wanted.has_from(head.attributes), 22, 0)?;
+    refuse_if(wanted.has_from(tables.head.attributes), 22, 0)?;
     Ok(lowest_with(judged.permitted, &columns, wanted))
 }

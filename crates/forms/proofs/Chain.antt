@@ -47,14 +47,11 @@ module _ (e : ℕ) (entries relations : List ℕ) (accepted : relations_check e 
     pub split_words : split * 2 ≤ length entries
     split_words = let l = split_in f in omega arith
 
-    pub ready : (queries : List ℕ) → ListsReady entries relations queries → QueriesReady (drop (split * 2) entries) split queries
-    ready queries l =
+    pub ready : (queries : List ℕ) → length entries / 2 ≤ 512 → 1 ≤ length queries / 4 → length queries / 4 ≤ 256
+        → QueriesReady (drop (split * 2) entries) split queries
+    ready queries few some fits =
         let c = rest_count entries split (split_in f) in
-        record {
-          few = let m = l.few in omega arith;
-          some = l.some;
-          fits = l.fits;
-        }
+        record { few = omega arith; some = some; fits = fits }
 
     -- checks 8 to 10 with the project forms' entries are those with table 1
     pub rest_is : (n : Counts) (queries : List ℕ) → queries_rest n (drop (split * 2) entries) split queries
@@ -68,7 +65,7 @@ module _ (e : ℕ) (entries relations : List ℕ) (accepted : relations_check e 
         (ap₂ (λ (s c : ℕ). left_entry_check (s + projected_before queries (length queries / 4)) c) f (rest_count entries split (split_in f)))
 
 -- check 2 leaves the limits
-pub lists_ready : (T : Tables) → lengths_check T ≡ Ok tt → ListsReady T.entries T.relations T.queries
+pub lists_ready : (T : Tables) → lengths_check T ≡ Ok tt → ListsReady T
 lists_ready T lengths = record {
   few = (size 1 (lit< tt)).fits;
   most = (size 2 (lit< tt)).fits;

@@ -1,7 +1,7 @@
 -- What the functions of checks 6 and 8 to 10 work with: each check over what it reads.
 use Rattle.std.specs.Prelude.{ℕ, ◌+◌, ◌/◌, ◌≤◌, Bool, true, false, not, List, length, get_or, set}
 use Rattle.sets.specs.Search.{lowest}
-use Rattle.report.specs.Tables.{relation_start, projected_before}
+use Rattle.report.specs.Tables.{Tables, relation_start, projected_before}
 use Rattle.report.specs.FormChecks.{expressions_check, model_form_check, entries_check, relations_check, comparisons_check}
 use Rattle.report.specs.FormChecks.{queries_check, untaken_check, left_entry_check}
 use Rattle.report.specs.Verdicts.{Verdict, refusal, refuse_at, or_else}
@@ -43,22 +43,23 @@ pub record QueriesReady (project_entries : List ℕ) (split : ℕ) (queries : Li
   pub some : 1 ≤ length queries / 4
   pub fits : length queries / 4 ≤ 256
 
-abbrev pub lists_rest : ℕ → ℕ → List ℕ → List ℕ → List ℕ → List ℕ → Verdict
-lists_rest m e entries relations comparisons queries =
-    or_else (relations_check e entries relations)
-    (or_else (comparisons_check m e comparisons)
-    (or_else (queries_check e (length relations / 2) (length comparisons / 5) entries (relation_start relations (length relations / 2)) queries)
-    (or_else (untaken_check queries)
-    (left_entry_check (relation_start relations (length relations / 2) + projected_before queries (length queries / 4)) (length entries / 2)))))
+abbrev pub lists_rest : Tables → Verdict
+lists_rest T =
+    or_else (relations_check (length T.expressions / 3) T.entries T.relations)
+    (or_else (comparisons_check T.attributes (length T.expressions / 3) T.comparisons)
+    (or_else (queries_check (length T.expressions / 3) (length T.relations / 2) (length T.comparisons / 5) T.entries
+    (relation_start T.relations (length T.relations / 2)) T.queries)
+    (or_else (untaken_check T.queries)
+    (left_entry_check (relation_start T.relations (length T.relations / 2) + projected_before T.queries (length T.queries / 4)) (length T.entries / 2)))))
 
-pub record ListsReady (entries relations queries : List ℕ) : Type 0 where
-  pub few : length entries / 2 ≤ 512
-  pub most : length relations / 2 ≤ 32
-  pub some : 1 ≤ length queries / 4
-  pub fits : length queries / 4 ≤ 256
+pub record ListsReady (T : Tables) : Type 0 where
+  pub few : length T.entries / 2 ≤ 512
+  pub most : length T.relations / 2 ≤ 32
+  pub some : 1 ≤ length T.queries / 4
+  pub fits : length T.queries / 4 ≤ 256
 
-abbrev pub contents_rest : ℕ → ℕ → ℕ → List ℕ → List ℕ → List ℕ → List ℕ → List ℕ → Verdict
-contents_rest n m model expressions entries relations comparisons queries =
-    or_else (expressions_check n expressions)
-    (or_else (model_form_check (length expressions / 3) model)
-    (or_else (entries_check m (length expressions / 3) entries) (lists_rest m (length expressions / 3) entries relations comparisons queries)))
+abbrev pub contents_rest : Tables → Verdict
+contents_rest T =
+    or_else (expressions_check T.features T.expressions)
+    (or_else (model_form_check (length T.expressions / 3) T.model)
+    (or_else (entries_check T.attributes (length T.expressions / 3) T.entries) (lists_rest T)))

@@ -3,7 +3,7 @@
 
 ghost use Rattle.std.specs.Prelude.{◌≡◌, [], ◌/◌, ◌<◌, ◌≤◌, length};
 ghost use Rattle.report.specs.Tables.{relation_start};
-ghost use Rattle.report.specs.Expressions.{tables_under};
+ghost use Rattle.report.specs.Expressions.{tables_in};
 ghost use Rattle.report.specs.Verdicts.{or_else};
 ghost use Rattle.report.specs.FormChecks.{free, free_pair, list_fits, query_fits, relations_check, left_entry_check, tables_check, form_check};
 ghost use Rattle.report.specs.Formed.{OperandsBelow};
@@ -14,7 +14,7 @@ use comparisons::check_kinds;
 use decoders::{
     decode_query, project_length, query_operands, relation_expression, relation_length,
 };
-use report::{Head, Limits, Operands, Query, Verdict};
+use report::{Limits, Operands, Query, TableWords, Verdict};
 use table_checks::{
     check_comparisons, check_entries, check_expressions, check_head, check_lengths,
     check_model_form,
@@ -170,85 +170,63 @@ pub fn check_queries(
     )
 }
 
-// Checks 6 to 10, where there are m attributes and e expressions.
+// Checks 6 to 10.
 #[tactic(auto, using(crate::proofs::Chain::split_words))]
-fn check_lists(
-    m: usize,
-    e: usize,
-    entries: &[u16],
-    relations: &[u16],
-    comparisons: &[u16],
-    queries: &[u16],
-) -> Verdict
-    requires { ListsReady entries.now relations.now queries.now }
-    ensures { result ≡ lists_rest m e entries.now relations.now comparisons.now queries.now }
+fn check_lists(tables: &TableWords) -> Verdict
+    requires { ListsReady (tables_in tables.now) }
+    ensures { result ≡ lists_rest (tables_in tables.now) }
 {
-    check_relations(e, entries, relations)?;
-    check_comparisons(m, e, comparisons)?;
-    let split = relations_end(relations);
     let counts = Counts {
-        expressions: e,
-        relations: relations.len() / 2,
-        comparisons: comparisons.len() / 5,
+        expressions: tables.expressions.len() / 3,
+        relations: tables.relations.len() / 2,
+        comparisons: tables.comparisons.len() / 5,
     };
-    check_queries(counts, split, &entries[split * 2..], queries)
+    check_relations(counts.expressions, tables.entries, tables.relations)?;
+    check_comparisons(
+        tables.head.attributes,
+        counts.expressions,
+        tables.comparisons,
+    )?;
+    let split = relations_end(tables.relations);
+    let entries = tables.entries;
+    check_queries(counts, split, &entries[split * 2..], tables.queries)
 }
 
 // Checks 3 to 10.
-fn check_contents(
-    head: Head,
-    expressions: &[u16],
-    entries: &[u16],
-    relations: &[u16],
-    comparisons: &[u16],
-    queries: &[u16],
-) -> Verdict
-    requires { ListsReady entries.now relations.now queries.now }
-    ensures { result ≡ contents_rest head.features head.attributes head.model expressions.now entries.now relations.now comparisons.now
-        queries.now }
+fn check_contents(tables: &TableWords) -> Verdict
+    requires { ListsReady (tables_in tables.now) }
+    ensures { result ≡ contents_rest (tables_in tables.now) }
 {
-    check_expressions(head.features, expressions)?;
-    let e = expressions.len() / 3;
-    check_model_form(e, head.model)?;
-    check_entries(head.attributes, e, entries)?;
-    check_lists(head.attributes, e, entries, relations, comparisons, queries)
+    let count = tables.expressions.len() / 3;
+    check_expressions(tables.head.features, tables.expressions)?;
+    check_model_form(count, tables.head.model)?;
+    check_entries(tables.head.attributes, count, tables.entries)?;
+    check_lists(tables)
 }
 
 // Checks 1 to 10.
 #[tactic(auto, unfolding(report::specs::FormChecks::tables_check))]
-fn check_tables(
-    head: Head,
-    expressions: &[u16],
-    entries: &[u16],
-    relations: &[u16],
-    comparisons: &[u16],
-    queries: &[u16],
-) -> Verdict
-    ensures { result ≡ tables_check
-        (tables_under head expressions.now entries.now relations.now comparisons.now queries.now
-        []) }
+fn check_tables(tables: &TableWords) -> Verdict
+    ensures { result ≡ tables_check (tables_in tables.now) }
 {
-    check_head(head.features, head.attributes)?;
-    check_lengths(expressions, entries, relations, comparisons, queries)?;
-    check_contents(head, expressions, entries, relations, comparisons, queries)
+    check_head(tables.head.features, tables.head.attributes)?;
+    check_lengths(
+        tables.expressions,
+        tables.entries,
+        tables.relations,
+        tables.comparisons,
+        tables.queries,
+    )?;
+    check_contents(tables)
 }
 
 // Checks 1 to 10, then 24. Where they accept, report's law `formed` gives a caller `Formed` of the tables in one line:
 // `formed _ (sym ensures ∙ accepted)`.
 #[tactic(auto, unfolding(report::specs::FormChecks::form_check, report::specs::FormChecks::tables_check))]
-pub fn check_forms(
-    head: Head,
-    expressions: &[u16],
-    entries: &[u16],
-    relations: &[u16],
-    comparisons: &[u16],
-    queries: &[u16],
-    kinds: &[u16],
-) -> Verdict
+pub fn check_forms(tables: &TableWords) -> Verdict
     ensures { result ≡ form_check
-        (tables_under head expressions.now entries.now relations.now comparisons.now queries.now
-        kinds.now) }
+        (tables_in tables.now) }
 {
-    check_tables(head, expressions, entries, relations, comparisons, queries)?;
-    check_kinds(head.attributes, comparisons, kinds)
+    check_tables(tables)?;
+    check_kinds(tables.head.attributes, tables.comparisons, tables.kinds)
 }

@@ -26,37 +26,25 @@ fn print_columns(n: usize, permitted: Row, layout: Layout, columns: &[u64], out:
 
 // The print of the answer for these tables: a refusal, or the columns of each permitted configuration, in the layout.
 pub fn print_tables(
-    head: Head,
+    tables: &TableWords,
     layout: Layout,
-    expressions: &[u16],
-    entries: &[u16],
-    relations: &[u16],
-    comparisons: &[u16],
-    queries: &[u16],
-    kinds: &[u16],
     out: &mut [u8],
 ) -> usize
     requires { 201653 ≤ length out.old }
     ensures { Prints
-        (file_as layout (File.holds (tables_under head expressions.now entries.now relations.now
-        comparisons.now queries.now kinds.now)))
+        (file_as layout (File.holds (tables_in tables.now)))
         out.old out.new result }
 {
     let mut columns = [0; COLUMN_WORDS];
     let judged = check_into_columns(
-        head,
+        tables.head,
         Reading::Strict,
-        expressions,
-        entries,
-        relations,
-        comparisons,
-        queries,
-        kinds,
+        @tables@,
         &mut columns,
     );
     let verdict = judged.verdict;
     match verdict {
-        Ok(()) => print_columns(head.features, judged.permitted, layout, &columns, out),
+        Ok(()) => print_columns(tables.head.features, judged.permitted, layout, &columns, out),
         Err(r) => put_refused(out, 0, r),
     }
 }

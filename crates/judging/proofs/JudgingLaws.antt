@@ -1,7 +1,7 @@
 -- How the parts of judging make its answer, what each part leaves for the next, and what a caller has of tables that pass.
 use Rattle.std.specs.Prelude.{Ok, Err}
 use Prim.Native.Nat.{ℕ, ◌*◌, ◌/◌, ◌%◌, ◌^◌, ◌≤◌, max}
-use mathlib.Core.Path.{◌≡◌, refl, sym, ap, ◌∙◌}
+use mathlib.Core.Path.{◌≡◌, refl, sym, ap, subst, ◌∙◌}
 use mathlib.Core.Bool.{true, false}
 use mathlib.Core.List.{List}
 use native.Mathlib.Nat.{le_refl, le-max_left, le-max_right, max-le}
@@ -34,7 +34,7 @@ use Rattle.reach.proofs.ReachRows.{reach_rows_lem}
 use Rattle.forms.proofs.Chain.{stops, goes_on}
 use Rattle.expression_rows.specs.TypingReads.{Items, TypingReads, Checked}
 use Rattle.expression_rows.specs.declared.Scope.{Scope}
-use Rattle.judging.specs.Judging.{meaning_check, report_check, early_check, JudgeReads, JudgeReadable, Judged, ColumnsReadable}
+use Rattle.judging.specs.Judging.{IsSplit, meaning_check, report_check, early_check, JudgeReads, JudgeReadable, Judged, ColumnsReadable}
 use Rattle.judging.specs.Judging.{TablesFillable, TablesFilled, TablesReadable, TablesJudged, ColumnsChecked, RowsLent, RowsChecked}
 
 -- ---- the answer of any call
@@ -170,26 +170,25 @@ any_forms {T} R unshown = record {
 -- ---- whole tables, with expression rows of its own
 
 module _ {T : Tables} (F : Formed T) where
-  -- the tables, with the expression rows and table 1 in its parts
-  pub tables_read : {split : ℕ} → split ≡ relations_end T → {relation_entries project_entries : List ℕ}
-      → relation_entries ≡ take (split * 2) T.entries → project_entries ≡ drop (split * 2) T.entries
-      → {expression_rows : List ℕ} → TruthFilled T expression_rows → {head : Head}
+  -- the tables, split
+  pub tables_read : {rows expression_rows relation_entries project_entries relations comparisons queries kinds : List ℕ}
+      → IsSplit T rows expression_rows relation_entries project_entries relations comparisons queries kinds → TruthFilled T rows → {head : Head}
       → head.features ≡ T.features → head.attributes ≡ T.attributes → head.model ≡ T.model
-      → JudgeReads T head expression_rows relation_entries project_entries T.relations T.comparisons T.queries T.kinds
-  tables_read is r p C n m k = record {
+      → JudgeReads T head expression_rows relation_entries project_entries relations comparisons queries kinds
+  tables_read S C n m k = record {
     prepared = record {
       formed = F;
-      filled = C;
-      relation_entries_are = r ∙ ap (λ (k : ℕ). take (k * 2) T.entries) is;
-      project_entries_are = p ∙ ap (λ (k : ℕ). drop (k * 2) T.entries) is;
-      relations_are = refl;
-      comparisons_are = refl;
-      queries_are = refl;
+      filled = subst (TruthFilled T) (sym S.rows_are) C;
+      relation_entries_are = S.relation_entries_are;
+      project_entries_are = S.project_entries_are;
+      relations_are = S.relations_are;
+      comparisons_are = S.comparisons_are;
+      queries_are = S.queries_are;
     };
     features = n;
     attributes = m;
     model = k;
-    kinds_are = refl;
+    kinds_are = S.kinds_are;
   }
 
   -- tables with any number of expressions

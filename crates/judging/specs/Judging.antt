@@ -1,7 +1,7 @@
 -- What every call runs before its own checks: the answers, and what the rows lent to it hold afterwards.
 use Rattle.std.specs.Prelude.{ℕ, ◌*◌, ◌/◌, ◌≤◌, ◌≡◌, false, List, length, replicate}
 use Rattle.sets.specs.Rows.{row_of}
-use Rattle.report.specs.Tables.{Tables, expression_count, query_count}
+use Rattle.report.specs.Tables.{Tables, expression_count, query_count, entries_of_relations, entries_of_projects}
 use Rattle.report.specs.Expressions.{permitted}
 use Rattle.report.specs.ColumnRows.{column_rows}
 use Rattle.report.specs.Configuring.{written}
@@ -67,6 +67,16 @@ pub record ColumnsJudged (T : Tables) (R : Reading) (answer : Verdict) (lent_col
   pub shows : columns ≡ after (model_and_schema_check T) (column_rows T) lent_columns
 
 -- ---- whole tables
+
+-- the parts of split tables: these expression rows, table 1 in its two parts, and the others as they are
+pub record IsSplit (T : Tables) (rows expression_rows relation_entries project_entries relations comparisons queries kinds : List ℕ) : Type 0 where
+  pub rows_are : expression_rows ≡ rows
+  pub relation_entries_are : relation_entries ≡ entries_of_relations T
+  pub project_entries_are : project_entries ≡ entries_of_projects T
+  pub relations_are : relations ≡ T.relations
+  pub comparisons_are : comparisons ≡ T.comparisons
+  pub queries_are : queries ≡ T.queries
+  pub kinds_are : kinds ≡ T.kinds
 
 -- tables that have passed the form checks, room for their expression rows, and for the column rows, all 0
 pub record TablesFillable (T : Tables) (expression_rows columns : List ℕ) : Type 0 where

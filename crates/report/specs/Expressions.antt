@@ -7,6 +7,7 @@ use Rattle.report.specs.Values.{value}
 use Rattle.report.specs.Tables.{Tables, expression}
 use Rattle.report.specs.declared.Expression.{Expression}
 use Rattle.report.specs.declared.Head.{Head}
+use Rattle.report.specs.declared.TableWords.{TableWords}
 
 -- Feature i is on at configuration c where bit i of c is 1
 
@@ -51,6 +52,11 @@ tables_of features attributes model expressions entries relations comparisons qu
 -- the same, with the head as one value
 abbrev pub tables_under : Head → List ℕ → List ℕ → List ℕ → List ℕ → List ℕ → List ℕ → Tables
 tables_under head = tables_of head.features head.attributes head.model
+
+-- the tables that these words spell
+abbrev pub tables_in : TableWords → Tables
+tables_in words =
+    tables_under words.head words.expressions.now words.entries.now words.relations.now words.comparisons.now words.queries.now words.kinds.now
 
 module _ (T : Tables) where
   -- with n features the configurations run from 0 to 2 ^ n - 1

@@ -8,6 +8,18 @@ pub struct Head {
     pub model: usize,
 }
 
+// The words of whole tables: their head, tables 0 to 4 and the kind table.
+#[derive(Clone, Copy)]
+pub struct TableWords<'a> {
+    pub head: Head,
+    pub expressions: &'a [u16],
+    pub entries: &'a [u16],
+    pub relations: &'a [u16],
+    pub comparisons: &'a [u16],
+    pub queries: &'a [u16],
+    pub kinds: &'a [u16],
+}
+
 // A refusal: its number, and the place, item and configuration that the table of refusals (docs/FORMAT.md) names for that number. A field that
 // the table does not name is 0.
 #[derive(Clone, Copy)]

@@ -10,13 +10,14 @@ ghost use Rattle.report.specs.Tables.{Tables, query_count};
 ghost use Rattle.report.specs.Configuring.{written};
 ghost use Rattle.report.specs.Checks.{typing_check};
 ghost use Rattle.report.specs.declared.Reading.{Reading};
+ghost use Rattle.expression_rows.specs.SplitTables.{of_split};
 ghost use Rattle.expression_rows.specs.TypingReads.{TypingReads, TypingReadable, Checked};
 ghost use Rattle.fault_rows.specs.FaultRows.{failing_row};
 ghost use Rattle.typing.specs.Typed.{rowed, RowsReads, RowsReadable, SecondReads, SecondReadable};
 
 use attribute_rows::fill_gathered_rows;
 use comparisons::Gathered;
-use expression_rows::Scope;
+use expression_rows::{Scope, SplitTables};
 use fault_rows::{add_clashes, fill_faults};
 use report::{Limits, Verdict};
 use sets::Row;
@@ -40,26 +41,18 @@ fn lowest_row(count: usize, rows: &[u64]) -> Option<usize>
 // The answer from the rows of the configurations at which each form fails. A row that is not empty has a lowest configuration, so the second
 // return is never taken.
 fn check_rows(
-    expression_rows: &[u64],
-    relation_entries: &[u16],
-    project_entries: &[u16],
-    relations: &[u16],
-    comparisons: &[u16],
-    queries: &[u16],
-    kinds: &[u16],
+    tables: &SplitTables,
     reach: &[u64],
     spared_sets: &[u64],
     fault_rows: &[u64],
 ) -> Verdict
-    requires { RowsReadable expression_rows.now relation_entries.now project_entries.now relations.now comparisons.now queries.now
-        kinds.now reach.now spared_sets.now fault_rows.now }
+    requires { of_split tables.now RowsReadable reach.now spared_sets.now fault_rows.now }
     ensures { (T : Tables) (R : Reading)
-        → RowsReads T R expression_rows.now relation_entries.now project_entries.now relations.now
-        comparisons.now queries.now kinds.now reach.now spared_sets.now
+        → of_split tables.now (RowsReads T R) reach.now spared_sets.now
         fault_rows.now
         → result ≡ typing_check T R }
 {
-    let form = lowest_row(queries.len() / 4, fault_rows);
+    let form = lowest_row(tables.queries.len() / 4, fault_rows);
     let Some(q) = form else {
         return Ok(());
     };
@@ -69,13 +62,7 @@ fn check_rows(
     };
     let here = check_here(
         c,
-        expression_rows,
-        relation_entries,
-        project_entries,
-        relations,
-        comparisons,
-        queries,
-        kinds,
+        tables,
         reach,
         spared_sets,
     );
@@ -116,34 +103,20 @@ fn add_second_phase(
 // Checks 15 to 19 and 25 by rows of all configurations, and the column rows, whatever the answer.
 fn check_by_rows(
     scope: Scope,
-    expression_rows: &[u64],
-    relation_entries: &[u16],
-    project_entries: &[u16],
-    relations: &[u16],
-    comparisons: &[u16],
-    queries: &[u16],
-    kinds: &[u16],
+    tables: &SplitTables,
     reach: &[u64],
     columns: &mut [u64],
 ) -> Verdict
-    requires { TypingReadable scope expression_rows.now relation_entries.now project_entries.now relations.now comparisons.now
-        queries.now kinds.now reach.now columns.old }
+    requires { of_split tables.now (TypingReadable scope) reach.now columns.old }
     ensures { (T : Tables)
-        → TypingReads T scope expression_rows.now relation_entries.now project_entries.now
-        relations.now comparisons.now queries.now kinds.now reach.now
+        → of_split tables.now (TypingReads T scope) reach.now
         → Checked T scope.reading result columns.new }
 {
     let mut fault_rows = [0; Limits::MOST_QUERIES * Row::WORDS];
     let mut spared_sets = [0; Limits::MOST_QUERIES];
     fill_faults(
         scope,
-        expression_rows,
-        relation_entries,
-        project_entries,
-        relations,
-        comparisons,
-        queries,
-        kinds,
+        tables,
         reach,
         &mut fault_rows,
         &mut spared_sets,
@@ -151,21 +124,15 @@ fn check_by_rows(
     );
     add_second_phase(
         scope.full,
-        expression_rows,
-        comparisons,
-        queries,
-        kinds,
+        tables.expression_rows,
+        tables.comparisons,
+        tables.queries,
+        tables.kinds,
         reach,
         &mut fault_rows,
     );
     check_rows(
-        expression_rows,
-        relation_entries,
-        project_entries,
-        relations,
-        comparisons,
-        queries,
-        kinds,
+        tables,
         reach,
         &spared_sets,
         &fault_rows,
@@ -176,46 +143,26 @@ fn check_by_rows(
 // whatever the answer.
 pub fn check_typing(
     scope: Scope,
-    expression_rows: &[u64],
-    relation_entries: &[u16],
-    project_entries: &[u16],
-    relations: &[u16],
-    comparisons: &[u16],
-    queries: &[u16],
-    kinds: &[u16],
+    tables: &SplitTables,
     reach: &[u64],
     columns: &mut [u64],
 ) -> Verdict
-    requires { TypingReadable scope expression_rows.now relation_entries.now project_entries.now relations.now comparisons.now
-        queries.now kinds.now reach.now columns.old }
+    requires { of_split tables.now (TypingReadable scope) reach.now columns.old }
     ensures { (T : Tables)
-        → TypingReads T scope expression_rows.now relation_entries.now project_entries.now
-        relations.now comparisons.now queries.now kinds.now reach.now
+        → of_split tables.now (TypingReads T scope) reach.now
         → Checked T scope.reading result columns.new }
 {
     if scope.permitted.count() <= FEW {
         return check_each(
             scope,
-            expression_rows,
-            relation_entries,
-            project_entries,
-            relations,
-            comparisons,
-            queries,
-            kinds,
+            tables,
             reach,
             columns,
         );
     }
     check_by_rows(
         scope,
-        expression_rows,
-        relation_entries,
-        project_entries,
-        relations,
-        comparisons,
-        queries,
-        kinds,
+        tables,
         reach,
         columns,
     )

@@ -7,6 +7,7 @@ ghost use Rattle.sets.specs.Lists.{table};
 ghost use Rattle.report.specs.Tables.{Tables, query_count};
 ghost use Rattle.report.specs.Typing.{set_of};
 ghost use Rattle.report.specs.Configuring.{written};
+ghost use Rattle.expression_rows.specs.SplitTables.{of_split};
 ghost use Rattle.report.specs.Checks.{rule_number};
 ghost use Rattle.report.specs.declared.Reading.{Reading};
 ghost use Rattle.typing_at.specs.TypingAt.{form_here, typing_here, HereReads, HereReadable, HereChecked, HereFillable, HereFilled};
@@ -15,6 +16,7 @@ ghost use Rattle.typing_at.specs.Here.{FormHereReads, FormHereReadable, FormsHer
 use at_configuration::holds_at;
 use comparisons::Gathered;
 use decoders::{decode_query, project_length};
+use expression_rows::SplitTables;
 use faults_at::{clashes_in, faults_of, fill_form_sets, fill_gathered};
 use report::{Limits, Query, Verdict};
 use sets::AttributeSet;
@@ -129,86 +131,65 @@ pub struct Here {
 // Fills the words lent with the sets at configuration c, and answers from them.
 pub fn fill_here(
     c: usize,
-    expression_rows: &[u64],
-    relation_entries: &[u16],
-    project_entries: &[u16],
-    relations: &[u16],
-    comparisons: &[u16],
-    queries: &[u16],
-    kinds: &[u16],
+    tables: &SplitTables,
     reach: &[u64],
     spared_sets: &[u64],
     named_sets: &mut [u64],
     clash_sets: &mut [u64],
     form_sets: &mut [u64],
 ) -> Here
-    requires { HereFillable c expression_rows.now relation_entries.now project_entries.now relations.now comparisons.now queries.now
-        kinds.now reach.now spared_sets.now named_sets.old clash_sets.old form_sets.old }
+    requires { of_split tables.now (HereFillable c) reach.now spared_sets.now named_sets.old clash_sets.old form_sets.old }
     ensures { (T : Tables) (R : Reading)
-        → HereReads T R c expression_rows.now relation_entries.now project_entries.now relations.now
-        comparisons.now queries.now kinds.now reach.now spared_sets.now
+        → of_split tables.now (HereReads T R c) reach.now spared_sets.now
         → HereFilled T R c result named_sets.old clash_sets.old form_sets.old named_sets.new
         clash_sets.new form_sets.new }
 {
     fill_gathered(
         c,
         Gathered::Names,
-        expression_rows,
-        comparisons,
-        kinds,
+        tables.expression_rows,
+        tables.comparisons,
+        tables.kinds,
         &mut *named_sets,
     );
     fill_gathered(
         c,
         Gathered::Clashes,
-        expression_rows,
-        comparisons,
-        kinds,
+        tables.expression_rows,
+        tables.comparisons,
+        tables.kinds,
         &mut *clash_sets,
     );
     fill_form_sets(
         c,
-        expression_rows,
-        relation_entries,
-        project_entries,
-        relations,
-        queries,
+        tables.expression_rows,
+        tables.relation_entries,
+        tables.project_entries,
+        tables.relations,
+        tables.queries,
         &mut *form_sets,
     );
     let verdict = forms_here(
         c,
-        expression_rows,
-        project_entries,
-        relations,
-        queries,
+        tables.expression_rows,
+        tables.project_entries,
+        tables.relations,
+        tables.queries,
         reach,
         spared_sets,
         &*named_sets,
         &*clash_sets,
         &*form_sets,
     );
-    let set = AttributeSet::of_bits(form_sets[queries.len() / 4 - 1]);
+    let set = AttributeSet::of_bits(form_sets[tables.queries.len() / 4 - 1]);
     Here { verdict, set }
 }
 
 // The same with words of its own.
-pub fn check_here(
-    c: usize,
-    expression_rows: &[u64],
-    relation_entries: &[u16],
-    project_entries: &[u16],
-    relations: &[u16],
-    comparisons: &[u16],
-    queries: &[u16],
-    kinds: &[u16],
-    reach: &[u64],
-    spared_sets: &[u64],
-) -> Here
-    requires { HereReadable c expression_rows.now relation_entries.now project_entries.now relations.now comparisons.now
-        queries.now kinds.now reach.now spared_sets.now }
+pub fn check_here(c: usize, tables: &SplitTables, reach: &[u64], spared_sets: &[u64]) -> Here
+    requires { of_split tables.now (HereReadable c) reach.now spared_sets.now }
     ensures { (T : Tables) (R : Reading)
-        → HereReads T R c expression_rows.now relation_entries.now project_entries.now
-        relations.now comparisons.now queries.now kinds.now reach.now spared_sets.now
+        → of_split tables.now (HereReads T R c) reach.now spared_sets.now
         → HereChecked T R c result }
 {
     let mut named_sets = [0; Limits::MOST_COMPARISONS];
@@ -216,13 +197,7 @@ pub fn check_here(
     let mut form_sets = [0; Limits::MOST_QUERIES];
     fill_here(
         c,
-        expression_rows,
-        relation_entries,
-        project_entries,
-        relations,
-        comparisons,
-        queries,
-        kinds,
+        tables,
         reach,
         spared_sets,
         &mut named_sets,

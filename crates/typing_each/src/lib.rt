@@ -4,11 +4,12 @@
 
 ghost use Rattle.std.specs.Prelude.{◌≤◌};
 ghost use Rattle.report.specs.Tables.{Tables};
+ghost use Rattle.expression_rows.specs.SplitTables.{of_split};
 ghost use Rattle.expression_rows.specs.TypingReads.{TypingReads, Checked};
 ghost use Rattle.typing_each.specs.TypingEach.{EachReadable, EachFillable, SizeReadable};
 
 use column_rows::{SetAt, store_columns};
-use expression_rows::Scope;
+use expression_rows::{Scope, SplitTables};
 use report::{Limits, Verdict};
 use sets::AttributeSet;
 use sparing::fill_spared;
@@ -23,13 +24,7 @@ pub const FEW: usize = 64;
 // `spared_sets` what the reading does not hold against each form. The report's sets are kept, and the column rows made of them at the end.
 fn check_with(
     scope: Scope,
-    expression_rows: &[u64],
-    relation_entries: &[u16],
-    project_entries: &[u16],
-    relations: &[u16],
-    comparisons: &[u16],
-    queries: &[u16],
-    kinds: &[u16],
+    tables: &SplitTables,
     reach: &[u64],
     spared_sets: &[u64],
     columns: &mut [u64],
@@ -37,12 +32,10 @@ fn check_with(
     clash_sets: &mut [u64],
     form_sets: &mut [u64],
 ) -> Verdict
-    requires { EachFillable scope expression_rows.now relation_entries.now project_entries.now relations.now comparisons.now
-        queries.now kinds.now reach.now spared_sets.now columns.old
+    requires { of_split tables.now (EachFillable scope) reach.now spared_sets.now columns.old
         named_sets.old clash_sets.old form_sets.old }
     ensures { (T : Tables)
-        → TypingReads T scope expression_rows.now relation_entries.now project_entries.now
-        relations.now comparisons.now queries.now kinds.now reach.now
+        → of_split tables.now (TypingReads T scope) reach.now
         → Checked T scope.reading result columns.new }
 {
     let permitted = scope.permitted;
@@ -56,13 +49,7 @@ fn check_with(
     while let Some(c) = permitted.lowest_from(from) {
         let here = fill_here(
             c,
-            expression_rows,
-            relation_entries,
-            project_entries,
-            relations,
-            comparisons,
-            queries,
-            kinds,
+            tables,
             reach,
             spared_sets,
             &mut *named_sets,
@@ -84,31 +71,23 @@ fn check_with(
 // The same with words of its own, and with what is spared worked out first, of tables with at most FORMS comparisons and query forms.
 fn check_sized<const FORMS: usize>(
     scope: Scope,
-    expression_rows: &[u64],
-    relation_entries: &[u16],
-    project_entries: &[u16],
-    relations: &[u16],
-    comparisons: &[u16],
-    queries: &[u16],
-    kinds: &[u16],
+    tables: &SplitTables,
     reach: &[u64],
     columns: &mut [u64],
 ) -> Verdict
-    requires { (FORMS ≤ 256) × SizeReadable FORMS scope expression_rows.now relation_entries.now project_entries.now relations.now
-        comparisons.now queries.now kinds.now reach.now columns.old }
+    requires { (FORMS ≤ 256) × of_split tables.now (SizeReadable FORMS scope) reach.now columns.old }
     ensures { (T : Tables)
-        → TypingReads T scope expression_rows.now relation_entries.now project_entries.now
-        relations.now comparisons.now queries.now kinds.now reach.now
+        → of_split tables.now (TypingReads T scope) reach.now
         → Checked T scope.reading result columns.new }
 {
     let mut spared_sets = [0; FORMS];
     fill_spared(
         scope,
-        expression_rows,
-        relation_entries,
-        project_entries,
-        relations,
-        queries,
+        tables.expression_rows,
+        tables.relation_entries,
+        tables.project_entries,
+        tables.relations,
+        tables.queries,
         reach,
         &mut spared_sets,
     );
@@ -117,13 +96,7 @@ fn check_sized<const FORMS: usize>(
     let mut form_sets = [0; FORMS];
     check_with(
         scope,
-        expression_rows,
-        relation_entries,
-        project_entries,
-        relations,
-        comparisons,
-        queries,
-        kinds,
+        tables,
         reach,
         &spared_sets,
         columns,
@@ -136,33 +109,19 @@ fn check_sized<const FORMS: usize>(
 // Checks 15 to 19 and 25 at each permitted configuration, ascending, and the column rows, whatever the answer.
 pub fn check_each(
     scope: Scope,
-    expression_rows: &[u64],
-    relation_entries: &[u16],
-    project_entries: &[u16],
-    relations: &[u16],
-    comparisons: &[u16],
-    queries: &[u16],
-    kinds: &[u16],
+    tables: &SplitTables,
     reach: &[u64],
     columns: &mut [u64],
 ) -> Verdict
-    requires { EachReadable scope expression_rows.now relation_entries.now project_entries.now relations.now comparisons.now
-        queries.now kinds.now reach.now columns.old }
+    requires { of_split tables.now (EachReadable scope) reach.now columns.old }
     ensures { (T : Tables)
-        → TypingReads T scope expression_rows.now relation_entries.now project_entries.now
-        relations.now comparisons.now queries.now kinds.now reach.now
+        → of_split tables.now (TypingReads T scope) reach.now
         → Checked T scope.reading result columns.new }
 {
-    if comparisons.len() / 5 <= Limits::SMALL && queries.len() / 4 <= Limits::SMALL {
+    if tables.comparisons.len() / 5 <= Limits::SMALL && tables.queries.len() / 4 <= Limits::SMALL {
         return check_sized::<{ Limits::SMALL }>(
             scope,
-            expression_rows,
-            relation_entries,
-            project_entries,
-            relations,
-            comparisons,
-            queries,
-            kinds,
+            tables,
             reach,
             columns,
         );
@@ -170,13 +129,7 @@ pub fn check_each(
     // MOST_COMPARISONS is the same number.
     check_sized::<{ Limits::MOST_QUERIES }>(
         scope,
-        expression_rows,
-        relation_entries,
-        project_entries,
-        relations,
-        comparisons,
-        queries,
-        kinds,
+        tables,
         reach,
         columns,
     )

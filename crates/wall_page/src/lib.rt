@@ -34,34 +34,20 @@ fn permitted_count(row: Row, count: usize) -> usize
 
 // Writes the page of the report of these tables, in the reading, to the start of `page`.
 pub fn write_page(
-    head: Head,
+    tables: &TableWords,
     reading: Reading,
-    expressions: &[u16],
-    entries: &[u16],
-    relations: &[u16],
-    comparisons: &[u16],
-    queries: &[u16],
-    kinds: &[u16],
     page: &mut [u8],
 ) -> PageAnswer
     ensures { PageWritten
-        (tables_under head expressions.now entries.now relations.now comparisons.now
-        queries.now kinds.now) reading page.old result page.new }
+        (tables_in tables.now) reading page.old result page.new }
 {
     let mut columns = [0; COLUMN_WORDS];
     let judged = check_into_columns(
-        head,
-        reading,
-        expressions,
-        entries,
-        relations,
-        comparisons,
-        queries,
-        kinds,
+        tables, reading,
         &mut columns,
     );
     judged.verdict?;
-    let count = 1 << head.features;
+    let count = 1 << tables.head.features;
     // The lines are counted before any is written: a refused call changes no byte.
     let lines = permitted_count(judged.permitted, count);
     refuse_if(page.len() < LINE_BYTES * lines, 23, 0)?;

@@ -7,7 +7,7 @@ use Rattle.typing_each.proofs.check_with.Given as goal
 abbrev pub invariant-loop-c : goal.invariant-loop-c
 invariant-loop-c l =
     SetsKept l.initial.named_sets l.initial.clash_sets l.initial.form_sets l.named_sets l.clash_sets l.form_sets
-    × EachPassed l.scope l.expression_rows l.relation_entries l.project_entries l.relations l.comparisons l.queries l.kinds l.reach l.gathered l.count l.answer l.from
+    × EachPassed l.scope l.tables.expression_rows.now l.tables.relation_entries.now l.tables.project_entries.now l.tables.relations.now l.tables.comparisons.now l.tables.queries.now l.tables.kinds.now l.reach l.gathered l.count l.answer l.from
 
 abbrev pub decreases-loop-c : goal.decreases-loop-c
 decreases-loop-c l = 1024 - l.from
