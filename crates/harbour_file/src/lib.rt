@@ -1,8 +1,7 @@
 // Reading a harbour file into the words of its tables.
 #![tactic(auto)]
 
-ghost use Rattle.std.specs.Prelude.{◌≡◌, ◌+◌, ◌≤◌, min, length, replicate};
-ghost use Rattle.report.specs.Configuring.{written};
+ghost use Rattle.std.specs.Prelude.{◌≡◌, ◌+◌};
 ghost use Rattle.report.specs.HarbourFile.{file_of};
 ghost use Rattle.harbour_file.specs.Reading.{group_lines_from, part_from, kind_part, file_parts, file_from};
 ghost use Rattle.harbour_file.specs.Filing.{lines_left, group_left, kinds_left, GroupRoom, GroupTaken};
@@ -95,24 +94,13 @@ fn read_kinds(s: &[u8], m: usize, from: Place, kinds: &mut [u16]) -> Place
     ensures { GroupTaken (kind_part m (part_from s.now 6 from.at from.line))
         (kinds_left m s.now from.at from.line kinds.old) (from.line + 64) result kinds.new }
 {
-    let k = read_lines(
-        s,
-        b"(kind",
-        1,
-        AttributeSet::MOST_ATTRIBUTES,
-        from,
-        &mut *kinds,
-    );
+    let k = read_lines(s, b"(kind", 1, AttributeSet::MOST_ATTRIBUTES, from, kinds);
     if k.end != 0 {
         return k;
     }
     let count = m.min(AttributeSet::MOST_ATTRIBUTES);
     kinds[..count].fill(0);
-    Place {
-        at: k.at,
-        line: k.line,
-        end: count,
-    }
+    Place { end: count, ..k }
 }
 
 // The head, from its three words.

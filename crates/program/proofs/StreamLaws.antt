@@ -1,11 +1,10 @@
 -- What reads into the rest of a text take of an input, and writes of bytes add to an output, where the bytes of these are known.
-use Rattle.std.proofs.Common.{ℕ, ◌≡◌, ◌<◌, ◌≤◌, ◌+◌, ◌-◌, List, [], ◌++◌, length, take, drop, arith, refl, sym, ap, subst, ◌∙◌, Option, Some, None, append_assoc, append-nil, length-take-le, drop_at, le_refl}
-use Rattle.std.proofs.lemmas.Grind.{common_steps}
+use Rattle.std.proofs.Common.{ℕ, ◌≡◌, ◌≤◌, ◌+◌, ◌-◌, List, ◌++◌, length, take, drop, sym, ap, subst, ◌∙◌, Option, Some, None, append_assoc, length-take-le, drop_at, le_refl}
 use Rattle.std.proofs.lemmas.List.{take_rest}
 use Rattle.std.proofs.lemmas.Slice.{take-put_mid_below}
 use Rattle.std.proofs.Math.Seq.{take-add, take-append-le}
 use Rattle.std.specs.Option.{IfSome}
-use Rattle.std.specs.Io.KnownBytes.{Appends, Consumes, IsAtEnd, Keeps}
+use Rattle.std.specs.Io.KnownBytes.{Appends, Consumes}
 use Rattle.harbour_print.specs.Layouts.{text_as}
 use Rattle.harbour_print.specs.Printing.{Prints}
 use Rattle.harbour_print.specs.declared.Layout.{Layout}
@@ -23,11 +22,6 @@ take_put a k n xs ys h f =
     let taken : take n (ys ++ after) ≡ take n ys = take-append-le n ys after f in
     cc
 
--- no byte was taken yet
-pub consumed_none : (known : Option (List ℕ)) → Consumes known known []
-consumed_none None = tt
-consumed_none (Some all) = refl
-
 -- what two reads took, one after the other
 pub consumed_both : (before between after : Option (List ℕ)) (xs ys : List ℕ) → Consumes before between xs → Consumes between after ys
     → Consumes before after (xs ++ ys)
@@ -35,13 +29,6 @@ consumed_both None between after xs ys f g = tt
 consumed_both (Some all) None after xs ys f g = absurd f
 consumed_both (Some all) (Some rest) None xs ys f g = absurd g
 consumed_both (Some all) (Some rest) (Some last) xs ys f g = rw (f, g) (sym (append_assoc xs ys last))
-
--- the bytes that were taken are the first, where the text is full or nothing is left
-pub consumed_first : (before after : Option (List ℕ)) (text : List ℕ) (n : ℕ) → n ≤ length text → Consumes before after (take n text)
-    → (n < length text → IsAtEnd after) → IfSome before (λ xs. take n text ≡ take (length text) xs)
-consumed_first None after text n h f e = tt
-consumed_first (Some all) None text n h f e = absurd f
-consumed_first (Some all) (Some rest) text n h f e = grind (arith, common_steps)
 
 -- the print of the bytes that were read of an input is that of its first, at the room that a program has for them
 pub printed_first : (known : Option (List ℕ)) (layout : Layout) (text : List ℕ) (n count : ℕ) (before after : List ℕ) → length text ≡ 65537
@@ -52,11 +39,6 @@ printed_first (Some xs) layout text n count before after h e p =
     let same : take n text ≡ take 65537 xs = e ∙ ap (λ m. take m xs) h in
     subst (λ ys. Prints (text_as layout ys) before after count) same p
 
--- no byte was added yet
-pub appended_none : (known : Option (List ℕ)) → Appends known known []
-appended_none None = tt
-appended_none (Some all) = sym (append-nil all)
-
 -- what two writes added, one after the other
 pub appended_both : (before between after : Option (List ℕ)) (xs ys : List ℕ) → Appends before between xs → Appends between after ys
     → Appends before after (xs ++ ys)
@@ -64,13 +46,6 @@ appended_both None between after xs ys f g = tt
 appended_both (Some all) None after xs ys f g = absurd f
 appended_both (Some all) (Some more) None xs ys f g = absurd g
 appended_both (Some all) (Some more) (Some most) xs ys f g = rw (g, f) (append_assoc all xs ys)
-
--- what a write added, and a failed one after it
-pub appended_kept : (before between after : Option (List ℕ)) (xs : List ℕ) → Appends before between xs → Keeps between after → Appends before after xs
-appended_kept None between after xs f g = tt
-appended_kept (Some all) None after xs f g = absurd f
-appended_kept (Some all) (Some more) None xs f g = absurd g
-appended_kept (Some all) (Some more) (Some most) xs f g = g ∙ f
 
 -- the first bytes, and then the first of the rest
 pub appended_more : (before between after : Option (List ℕ)) (bytes : List ℕ) (a n : ℕ) → Appends before between (take a bytes)
