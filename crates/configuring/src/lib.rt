@@ -4,7 +4,7 @@
 ghost use Rattle.std.specs.Prelude.{◌++◌};
 ghost use Rattle.sets.specs.Writing.{WrittenAt};
 ghost use Rattle.report.specs.Tables.{Tables};
-ghost use Rattle.report.specs.Expressions.{tables_under};
+ghost use Rattle.report.specs.Expressions.{tables_in};
 ghost use Rattle.report.specs.Configuring.{configured};
 ghost use Rattle.report.specs.declared.Reading.{Reading};
 ghost use Rattle.kept_lists.specs.Keeping.{relation_lists, project_lists};
@@ -18,7 +18,7 @@ use judging::{COLUMN_WORDS, EXPRESSION_WORDS, REACH_WORDS, check_into_rows};
 use kept_forms::{number_comparisons, number_queries, write_comparisons, write_queries};
 use kept_lists::{write_project_lists, write_relation_forms, write_relation_lists};
 use late_checks::{LentWords, check_late};
-use report::{Head, Limits, Reading, Refusal};
+use report::{Limits, Reading, Refusal, TableWords};
 use sets::Row;
 
 // How many forms each of the tables 1 to 4 has.
@@ -252,7 +252,8 @@ pub fn configure(
     let mut reach = [0; REACH_WORDS];
     let mut columns = [0; COLUMN_WORDS];
     check_into_rows(
-        tables, reading,
+        tables,
+        reading,
         &mut expression_rows,
         &mut reach,
         &mut columns,

@@ -2,12 +2,12 @@
 #![tactic(auto)]
 
 ghost use Rattle.std.specs.Prelude.{◌≡◌, length};
-ghost use Rattle.report.specs.Expressions.{tables_under};
+ghost use Rattle.report.specs.Expressions.{tables_in};
 ghost use Rattle.finding.specs.Finding.{Finds};
 ghost use Rattle.finding.specs.ColumnSearch.{lowest_shown};
 
 use judging::{COLUMN_WORDS, check_into_columns};
-use report::{Head, Reading, Refusal};
+use report::{Reading, Refusal, TableWords};
 use sets::{AttributeSet, Row};
 use verdicts::refuse_if;
 
@@ -29,20 +29,13 @@ fn lowest_with(row: Row, columns: &[u64], wanted: AttributeSet) -> Option<usize>
 }
 
 // The lowest permitted configuration at which the report of these tables, in the reading, has all wanted attributes: attribute a is wanted where bit a is 1.
-pub fn find(
-    tables: &TableWords,
-    reading: Reading,
-    wanted: u64,
-) -> FindAnswer
+pub fn find(tables: &TableWords, reading: Reading, wanted: u64) -> FindAnswer
     ensures { Finds
         (tables_in tables.now) reading wanted result }
 {
     let wanted = AttributeSet::of_bits(wanted);
     let mut columns = [0; COLUMN_WORDS];
-    let judged = check_into_columns(
-        tables, reading,
-        &mut columns,
-    );
+    let judged = check_into_columns(tables, reading, &mut columns);
     judged.verdict?;
     // 22 comes after the checks of the report.
     refuse_if(wanted.has_from(tables.head.attributes), 22, 0)?;

@@ -9,7 +9,7 @@ use c_answers::{AnswerWords, reading_told, tell_refusal};
 use checking::check;
 use configuring::configure;
 use finding::find;
-use report::Head;
+use report::{Head, TableWords};
 use wall_page::write_page;
 
 // Answers 0 where the report is accepted: `rows` holds its column rows, and `refusal` is as it was.
@@ -33,22 +33,20 @@ pub extern "C" fn gelvomas_check(
         comparisons.now queries.now kinds.now)
         (reading_told filled) rows.old refusal.old result refusal.new rows.new }
 {
-    let head = Head {
-        features: features as usize,
-        attributes: attributes as usize,
-        model: model as usize,
-    };
-    let checked = check(
-        head,
-        reading_told(filled),
+    let tables = TableWords {
+        head: Head {
+            features: features as usize,
+            attributes: attributes as usize,
+            model: model as usize,
+        },
         expressions,
         entries,
         relations,
         comparisons,
         queries,
         kinds,
-        rows,
-    );
+    };
+    let checked = check(&tables, reading_told(filled), rows);
     match checked {
         Ok(()) => 0,
         Err(r) => tell_refusal(r, refusal),
@@ -82,21 +80,23 @@ pub extern "C" fn gelvomas_configure(
         (reading_told filled) c new_entries.old new_relations.old new_comparisons.old new_queries.old
         result answer.new new_entries.new new_relations.new new_comparisons.new new_queries.new }
 {
-    let head = Head {
-        features: features as usize,
-        attributes: attributes as usize,
-        model: model as usize,
-    };
-    let made = configure(
-        head,
-        reading_told(filled),
-        c,
+    let tables = TableWords {
+        head: Head {
+            features: features as usize,
+            attributes: attributes as usize,
+            model: model as usize,
+        },
         expressions,
         entries,
         relations,
         comparisons,
         queries,
         kinds,
+    };
+    let made = configure(
+        &tables,
+        reading_told(filled),
+        c,
         new_entries,
         new_relations,
         new_comparisons,
@@ -137,22 +137,20 @@ pub extern "C" fn gelvomas_find(
         comparisons.now queries.now kinds.now)
         (reading_told filled) wanted result answer.new }
 {
-    let head = Head {
-        features: features as usize,
-        attributes: attributes as usize,
-        model: model as usize,
-    };
-    let found = find(
-        head,
-        reading_told(filled),
-        wanted,
+    let tables = TableWords {
+        head: Head {
+            features: features as usize,
+            attributes: attributes as usize,
+            model: model as usize,
+        },
         expressions,
         entries,
         relations,
         comparisons,
         queries,
         kinds,
-    );
+    };
+    let found = find(&tables, reading_told(filled), wanted);
     match found {
         Ok(Some(c)) => {
             *answer = [c as u64, 0, 0, 0];
@@ -187,22 +185,20 @@ pub extern "C" fn gelvomas_page(
         comparisons.now queries.now kinds.now)
         (reading_told filled) page.old result answer.new page.new }
 {
-    let head = Head {
-        features: features as usize,
-        attributes: attributes as usize,
-        model: model as usize,
-    };
-    let written = write_page(
-        head,
-        reading_told(filled),
+    let tables = TableWords {
+        head: Head {
+            features: features as usize,
+            attributes: attributes as usize,
+            model: model as usize,
+        },
         expressions,
         entries,
         relations,
         comparisons,
         queries,
         kinds,
-        page,
-    );
+    };
+    let written = write_page(&tables, reading_told(filled), page);
     match written {
         Ok(lines) => {
             *answer = [lines as u64, 0, 0, 0];

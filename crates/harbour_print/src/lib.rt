@@ -11,7 +11,7 @@ ghost use Rattle.harbour_print.specs.Printing.{HeldReadable, Prints};
 
 use harbour_file::{FileWords, Sizes, decode_head, read_file};
 use printed::print_tables;
-use report::Limits;
+use report::{Limits, TableWords};
 use sets::AttributeSet;
 use writing::put_unread;
 
@@ -33,17 +33,16 @@ fn print_read(sizes: Sizes, layout: Layout, words: &FileWords, out: &mut PrintRo
     requires { HeldReadable sizes words.now }
     ensures { (T : Tables) → Held T sizes words.now → Prints (file_as layout (File.holds T)) out.old out.new result }
 {
-    print_tables(
-        decode_head(&words.head),
-        layout,
-        &words.expressions[..sizes.expressions],
-        &words.entries[..sizes.entries],
-        &words.relations[..sizes.relations],
-        &words.comparisons[..sizes.comparisons],
-        &words.queries[..sizes.queries],
-        &words.kinds[..sizes.kinds],
-        out,
-    )
+    let tables = TableWords {
+        head: decode_head(&words.head),
+        expressions: &words.expressions[..sizes.expressions],
+        entries: &words.entries[..sizes.entries],
+        relations: &words.relations[..sizes.relations],
+        comparisons: &words.comparisons[..sizes.comparisons],
+        queries: &words.queries[..sizes.queries],
+        kinds: &words.kinds[..sizes.kinds],
+    };
+    print_tables(&tables, layout, out)
 }
 
 // Prints what the report of a harbour file has, in the layout, or that the file cannot be read, to the start of `out`. Answers how many bytes that are.

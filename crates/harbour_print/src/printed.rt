@@ -1,7 +1,7 @@
 // The print of the answer for tables, written into lent bytes.
 ghost use Rattle.std.specs.Prelude.{◌≤◌, length};
 ghost use Rattle.report.specs.Tables.{Tables};
-ghost use Rattle.report.specs.Expressions.{tables_under};
+ghost use Rattle.report.specs.Expressions.{tables_in};
 ghost use Rattle.report.specs.HarbourFile.{File};
 ghost use Rattle.harbour_print.specs.Layouts.{accepted_as, file_as};
 ghost use Rattle.harbour_print.specs.Printing.{ColumnReads, ColumnReadable, Prints};
@@ -9,7 +9,7 @@ ghost use Rattle.harbour_print.specs.Printing.{ColumnReads, ColumnReadable, Prin
 use crate::Layout;
 use judging::{COLUMN_WORDS, check_into_columns};
 use printing::{put_accepted, put_page};
-use report::{Head, Reading};
+use report::{Reading, TableWords};
 use sets::Row;
 use writing::put_refused;
 
@@ -25,26 +25,23 @@ fn print_columns(n: usize, permitted: Row, layout: Layout, columns: &[u64], out:
 }
 
 // The print of the answer for these tables: a refusal, or the columns of each permitted configuration, in the layout.
-pub fn print_tables(
-    tables: &TableWords,
-    layout: Layout,
-    out: &mut [u8],
-) -> usize
+pub fn print_tables(tables: &TableWords, layout: Layout, out: &mut [u8]) -> usize
     requires { 201653 ≤ length out.old }
     ensures { Prints
         (file_as layout (File.holds (tables_in tables.now)))
         out.old out.new result }
 {
     let mut columns = [0; COLUMN_WORDS];
-    let judged = check_into_columns(
-        tables.head,
-        Reading::Strict,
-        @tables@,
-        &mut columns,
-    );
+    let judged = check_into_columns(tables, Reading::Strict, &mut columns);
     let verdict = judged.verdict;
     match verdict {
-        Ok(()) => print_columns(tables.head.features, judged.permitted, layout, &columns, out),
+        Ok(()) => print_columns(
+            tables.head.features,
+            judged.permitted,
+            layout,
+            &columns,
+            out,
+        ),
         Err(r) => put_refused(out, 0, r),
     }
 }

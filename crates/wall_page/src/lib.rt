@@ -2,13 +2,13 @@
 #![tactic(auto)]
 
 ghost use Rattle.std.specs.Prelude.{◌≡◌, ◌≤◌};
-ghost use Rattle.report.specs.Expressions.{tables_under};
+ghost use Rattle.report.specs.Expressions.{tables_in};
 ghost use Rattle.printing.specs.PageRows.{permitted_count};
 ghost use Rattle.wall_page.specs.Page.{PageWritten};
 
 use judging::{COLUMN_WORDS, check_into_columns};
 use printing::put_page;
-use report::{Head, Reading, Refusal};
+use report::{Reading, Refusal, TableWords};
 use sets::Row;
 use verdicts::refuse_if;
 
@@ -33,19 +33,12 @@ fn permitted_count(row: Row, count: usize) -> usize
 }
 
 // Writes the page of the report of these tables, in the reading, to the start of `page`.
-pub fn write_page(
-    tables: &TableWords,
-    reading: Reading,
-    page: &mut [u8],
-) -> PageAnswer
+pub fn write_page(tables: &TableWords, reading: Reading, page: &mut [u8]) -> PageAnswer
     ensures { PageWritten
         (tables_in tables.now) reading page.old result page.new }
 {
     let mut columns = [0; COLUMN_WORDS];
-    let judged = check_into_columns(
-        tables, reading,
-        &mut columns,
-    );
+    let judged = check_into_columns(tables, reading, &mut columns);
     judged.verdict?;
     let count = 1 << tables.head.features;
     // The lines are counted before any is written: a refused call changes no byte.

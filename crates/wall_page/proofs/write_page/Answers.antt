@@ -1,6 +1,6 @@
 -- What the report's checks refuse, then 23, and then the lines.
 use Rattle.std.proofs.Common.{rules, ◌≡◌, Err, refl, arith}
-use Rattle.report.specs.Expressions.{tables_under}
+use Rattle.report.specs.Expressions.{tables_in}
 use Rattle.printing.proofs.PageLaws.{lines_few}
 use Rattle.judging.proofs.JudgingLaws.{own_columns, shifted_few}
 use Rattle.wall_page.proofs.PageLaws.{refused_answers, late_answers, page_read, page_left}
@@ -9,7 +9,7 @@ use Rattle.wall_page.proofs.write_page.Goals as goal
 pub returns-in_err-judged : goal.returns-in_err-judged
 returns-in_err-judged c =
     let a = c.args in
-    let T = tables_under a.head a.expressions.now a.entries.now a.relations.now a.comparisons.now a.queries.now a.kinds.now in
+    let T = tables_in a.tables.now in
     let told : c.from_residual.result ≡ Err c.in_err-judged.field-0.0 = search rules in
     rw told (refused_answers T a.reading c.check_into_columns-judged.ensures.answers a.page.now c.in_err-judged.was)
 
@@ -31,7 +31,7 @@ overflow_mul-lines c =
 pub returns-in_err-refuse_if : goal.returns-in_err-refuse_if
 returns-in_err-refuse_if c =
     let a = c.args in
-    let T = tables_under a.head a.expressions.now a.entries.now a.relations.now a.comparisons.now a.queries.now a.kinds.now in
+    let T = tables_in a.tables.now in
     let rows = own_columns c.check_into_columns-judged.ensures c.in_ok-judged.was in
     let told : c.from_residual-in_err-refuse_if.result ≡ Err c.in_err-refuse_if.field-0.0 = search rules in
     late_answers T a.reading c.check_into_columns-judged.ensures.answers a.page.now c.in_ok-judged.was rows c.permitted_count-lines.ensures
@@ -40,7 +40,7 @@ returns-in_err-refuse_if c =
 pub put_page-requires : goal.put_page-requires
 put_page-requires c =
     let a = c.args in
-    let T = tables_under a.head a.expressions.now a.entries.now a.relations.now a.comparisons.now a.queries.now a.kinds.now in
+    let T = tables_in a.tables.now in
     let rows = own_columns c.check_into_columns-judged.ensures c.in_ok-judged.was in
     page_read T a.reading c.check_into_columns-judged.ensures.answers a.page.now c.in_ok-judged.was rows
     c.permitted_count-lines.ensures c.in_ok-refuse_if.ensures refl
@@ -48,7 +48,7 @@ put_page-requires c =
 pub returns : goal.returns
 returns c =
     let a = c.args in
-    let T = tables_under a.head a.expressions.now a.entries.now a.relations.now a.comparisons.now a.queries.now a.kinds.now in
+    let T = tables_in a.tables.now in
     let checked = c.check_into_columns-judged.ensures.answers in
     let rows = own_columns c.check_into_columns-judged.ensures c.in_ok-judged.was in
     let lines = c.permitted_count-lines.ensures in
