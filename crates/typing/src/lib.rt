@@ -60,12 +60,7 @@ fn check_rows(
     let Some(c) = configuration else {
         return Ok(());
     };
-    let here = check_here(
-        c,
-        tables,
-        reach,
-        spared_sets,
-    );
+    let here = check_here(c, tables, reach, spared_sets);
     here.verdict
 }
 
@@ -101,12 +96,7 @@ fn add_second_phase(
 }
 
 // Checks 15 to 19 and 25 by rows of all configurations, and the column rows, whatever the answer.
-fn check_by_rows(
-    scope: Scope,
-    tables: &SplitTables,
-    reach: &[u64],
-    columns: &mut [u64],
-) -> Verdict
+fn check_by_rows(scope: Scope, tables: &SplitTables, reach: &[u64], columns: &mut [u64]) -> Verdict
     requires { of_split tables.now (TypingReadable scope) reach.now columns.old }
     ensures { (T : Tables)
         → of_split tables.now (TypingReads T scope) reach.now
@@ -131,12 +121,7 @@ fn check_by_rows(
         reach,
         &mut fault_rows,
     );
-    check_rows(
-        tables,
-        reach,
-        &spared_sets,
-        &fault_rows,
-    )
+    check_rows(tables, reach, &spared_sets, &fault_rows)
 }
 
 // Checks 15 to 19 and 25 of tables whose expression rows `expression_rows` starts with and whose reach rows `reach` starts with, and the column rows,
@@ -153,17 +138,7 @@ pub fn check_typing(
         → Checked T scope.reading result columns.new }
 {
     if scope.permitted.count() <= FEW {
-        return check_each(
-            scope,
-            tables,
-            reach,
-            columns,
-        );
+        return check_each(scope, tables, reach, columns);
     }
-    check_by_rows(
-        scope,
-        tables,
-        reach,
-        columns,
-    )
+    check_by_rows(scope, tables, reach, columns)
 }

@@ -4,4 +4,3 @@ use Rattle.expression_rows.proofs.check_list.Given as goal
 
 abbrev pub invariant-loop-i : goal.invariant-loop-i
 invariant-loop-i l = Listed l.expression_rows l.present.words l.relation_entries l.start l.count l.i
-
