@@ -121,7 +121,7 @@ pub fn judge_into_columns(
 
 // ---- whole tables
 
-// The answer of the checks, and the permitted configurations.
+// The answer of the checks, and the permitted configurations. No Result has both: they are promised where typing refuses too (`ColumnsChecked`).
 #[derive(Clone, Copy)]
 pub struct Judgement {
     pub verdict: Verdict,

@@ -21,7 +21,7 @@ pub struct TableWords<'a> {
 }
 
 // A refusal: its number, and the place, item and configuration that the table of refusals (docs/FORMAT.md) names for that number. A field that
-// the table does not name is 0.
+// the table does not name is 0. The number is no enum: C is told it (`RefusalWords`), and the theorems on the first fault speak of numbers.
 #[derive(Clone, Copy)]
 pub struct Refusal {
     pub number: u64,
@@ -33,7 +33,8 @@ pub struct Refusal {
 // What a check answers: nothing where it accepts, and else the refusal.
 pub type Verdict = Result<(), Refusal>;
 
-// A form of table 0. ExactlyOne is first feature, number of features. Malformed: its kind is unknown, or a word that its kind leaves unused is not 0.
+// A form of table 0. ExactlyOne is first feature, number of features. Malformed: its kind is unknown, or a word that its kind leaves unused is not 0. It is
+// a form among others and no `None`: after the checks of form there is none, and every later match would open an `Option` for nothing.
 #[derive(Clone, Copy)]
 pub enum Expression {
     Malformed,
@@ -47,7 +48,8 @@ pub enum Expression {
 }
 
 // A form of table 3. Constant is operator, attribute, constant, the constant's kind; Attribute is operator, attribute, attribute; Choice is
-// expression, comparison where it holds, comparison elsewhere. Malformed as in table 0.
+// expression, comparison where it holds, comparison elsewhere. Malformed as in table 0. Operator and kind are words and no enums: checks 7 and 24 refuse
+// those that are none, by their place, so until then any word stands there.
 #[derive(Clone, Copy)]
 pub enum Comparison {
     Malformed,

@@ -25,20 +25,14 @@ pub fn refuse(number: u64, place: usize) -> Verdict
 pub fn refuse_if(bad: bool, number: u64, place: usize) -> Verdict
     ensures { result ≡ refuse_if bad (refusal number place 0 0) }
 {
-    if bad {
-        return refuse(number, place);
-    }
-    Ok(())
+    if bad { refuse(number, place) } else { Ok(()) }
 }
 
 // The lowest of the items at fault; 0 stands for none.
 fn lowest_item(found: AttributeSet) -> u64
     ensures { result ≡ lowest_member found.bits }
 {
-    match found.lowest() {
-        Some(a) => a as u64,
-        None => 0,
-    }
+    found.lowest().map_or(0, |a| a as u64)
 }
 
 // The refusal by this number of form q at configuration c, where any item is at fault.
@@ -73,8 +67,5 @@ pub fn sooner_of(x: Verdict, y: Verdict) -> Verdict
     let Err(s) = y else {
         return x;
     };
-    if goes_before(s, r) {
-        return y;
-    }
-    x
+    if goes_before(s, r) { y } else { x }
 }
