@@ -18,18 +18,17 @@ use Rattle.report.specs.Configuring.{new_comparison, new_query, configured, writ
 use Rattle.report.specs.Formed.{Formed}
 use Rattle.report.specs.declared.Reading.{Reading}
 use Rattle.report.specs.declared.TableWords.{TableWords}
-use Rattle.report.proofs.FormedFacts.{counts}
 use Rattle.report.proofs.TypingLaws.{permitted_within}
 use Rattle.report.proofs.WrittenQueries.{entries_room, relations_room, comparisons_room, queries_room}
 use Rattle.expression_rows.specs.SplitTables.{of_split}
 use Rattle.expression_rows.specs.declared.SplitTables.{SplitTables}
 use Rattle.expression_rows.proofs.PermittedLaws.{model_row}
-use Rattle.at_configuration.specs.AtConfiguration.{RelationReads, ComparisonReads, ComparisonNumberable}
+use Rattle.at_configuration.specs.AtConfiguration.{RelationReads, ComparisonReads}
 use Rattle.at_configuration.proofs.PreparedLaws.{at_reads, relation_reads, comparison_reads}
-use Rattle.faults_at.specs.SetsAt.{FormSetsReads, FormSetsReadable}
+use Rattle.faults_at.specs.SetsAt.{FormSetsReads}
 use Rattle.kept_lists.specs.Keeping.{relation_lists, project_lists, relation_forms, KeptRelationWritable, ProjectReads}
 use Rattle.kept_forms.specs.Numbering.{comparison_forms, query_forms, ComparisonFormReads, ComparisonFormWritable}
-use Rattle.kept_forms.specs.Numbering.{QueryReads, QueryNumberable, QueryFormReads, QueryFormWritable}
+use Rattle.kept_forms.specs.Numbering.{QueryReads, QueryFormReads, QueryFormWritable}
 use Rattle.late_checks.specs.LateReads.{LateReads}
 use Rattle.judging.specs.Judging.{IsSplit}
 use Rattle.judging.proofs.JudgingLaws.{tables_read}
@@ -68,8 +67,7 @@ parts_length : (T : Tables) → length T.entries ≡ length (entries_of_relation
 parts_length T = ap length (sym (take-append-drop (relations_end T * 2) T.entries)) ∙ length-append (entries_of_relations T) (entries_of_projects T)
 
 -- there is as much room for the tables of another reading
-pub same_rooms : {T U : Tables} {split : SplitTables} {reach : List ℕ} {c : ℕ}
-    {new_entries new_relations new_comparisons new_queries : List ℕ}
+pub same_rooms : {T U : Tables} {split : SplitTables} {reach : List ℕ} {c : ℕ} {new_entries new_relations new_comparisons new_queries : List ℕ}
     → KeptReads U split reach c → KeptReads T split reach c → Rooms U new_entries new_relations new_comparisons new_queries
     → Rooms T new_entries new_relations new_comparisons new_queries
 same_rooms {T} {U} S R H = record {
@@ -177,14 +175,6 @@ module _ {T : Tables} {split : SplitTables} {reach form_sets : List ℕ} {c : �
 module _ {split : SplitTables} {reach : List ℕ} {c : ℕ} {new_entries new_relations new_comparisons new_queries : List ℕ}
     (W : KeptWritable split reach c new_entries new_relations new_comparisons new_queries)
   where
-    pub sets_readable : {lent : List ℕ} → 256 ≤ length lent
-        → FormSetsReadable c split.expression_rows.now split.relation_entries.now split.project_entries.now split.relations.now split.queries.now lent
-    sets_readable h = record {
-      tables = W.tables;
-      reads = sets_reads W.reads;
-      room = let m = (counts W.reads.prepared.formed).most4 in omega arith;
-    }
-
     pub typed_writable : {form_sets : List ℕ} → form_sets ≡ written (table (query_count W.tables) (set_of W.tables c)) (replicate 256 0)
         → TypedWritable split reach form_sets c new_entries new_relations new_comparisons new_queries
     typed_writable e = record { tables = W.tables; reads = typed_reads W.reads e; rooms = W.rooms }
@@ -201,20 +191,6 @@ module _ {split : SplitTables} {reach form_sets : List ℕ} {c : ℕ} {new_entri
     pub relations_writable : KeptRelationWritable relation_forms split.expression_rows.now split.relation_entries.now split.relations.now c
         new_relations 0
     relations_writable = record { tables = W.tables; reads = lists_read W.reads.kept; room = relations_fit formed c W.rooms }
-
-    pub comparisons_numberable : {numbers : List ℕ} → 256 ≤ length numbers → ComparisonNumberable split.expression_rows.now split.comparisons.now c numbers
-    comparisons_numberable h = record {
-      tables = W.tables;
-      reads = comparisons_read W.reads.kept;
-      room = let m = (counts formed).most3 in omega (arith, ap length W.reads.kept.prepared.comparisons_are);
-    }
-
-    pub queries_numberable : {numbers : List ℕ} → 256 ≤ length numbers → QueryNumberable split.expression_rows.now reach split.queries.now c numbers
-    queries_numberable h = record {
-      tables = W.tables;
-      reads = query_reads W.reads.kept;
-      room = let m = (counts formed).most4 in omega (arith, ap length W.reads.kept.prepared.queries_are);
-    }
 
     module _ {comparison_numbers : List ℕ}
         (first_numbers : comparison_numbers ≡ written (table (comparison_count W.tables) (new_comparison W.tables c)) (replicate 256 0))

@@ -49,7 +49,7 @@ fn write_entries(
     write_project_lists(c, tables, reach, form_sets, out, lists)
 }
 
-// Writes what the report keeps at c, from the expression rows, the configurations that reach each query form, and the sets of the forms at c.
+// Writes what the report keeps at c, from the split tables, the configurations that reach each query form, and the sets of the forms at c.
 fn write_with(
     c: usize,
     tables: &SplitTables,
@@ -63,8 +63,8 @@ fn write_with(
     requires { TypedWritable tables.now reach.now form_sets.now c
         new_entries.old new_relations.old new_comparisons.old new_queries.old }
     ensures { (T : Tables) → TypedReads T tables.now reach.now form_sets.now c
-        → Leaves (Ok tt) (configured T c Reading.Filled) new_entries.old new_relations.old new_comparisons.old
-        new_queries.old result
+        → Leaves (Ok tt) (configured T c Reading.Filled)
+        new_entries.old new_relations.old new_comparisons.old new_queries.old result
         new_entries.new new_relations.new new_comparisons.new new_queries.new }
 {
     let entry_count = write_entries(c, tables, reach, form_sets, new_entries) / 2;
@@ -119,8 +119,8 @@ fn write_kept(
 ) -> Configured
     requires { KeptWritable tables.now reach.now c new_entries.old new_relations.old new_comparisons.old new_queries.old }
     ensures { (T : Tables) → KeptReads T tables.now reach.now c
-        → Leaves (Ok tt) (configured T c Reading.Filled) new_entries.old new_relations.old new_comparisons.old
-        new_queries.old result
+        → Leaves (Ok tt) (configured T c Reading.Filled)
+        new_entries.old new_relations.old new_comparisons.old new_queries.old result
         new_entries.new new_relations.new new_comparisons.new new_queries.new }
 {
     let mut form_sets = [0; Limits::MOST_QUERIES];
@@ -159,7 +159,8 @@ fn configure_judged(
     requires { ConfigureReads (tables_in tables.now) expression_rows.now reach.now }
     ensures { Leaves
         (late_verdict (tables_in tables.now) c new_entries.old new_relations.old new_comparisons.old new_queries.old)
-        (configured (tables_in tables.now) c Reading.Filled) new_entries.old new_relations.old new_comparisons.old new_queries.old result
+        (configured (tables_in tables.now) c Reading.Filled)
+        new_entries.old new_relations.old new_comparisons.old new_queries.old result
         new_entries.new new_relations.new new_comparisons.new new_queries.new }
 {
     let lent = LentWords {

@@ -109,8 +109,8 @@ pub fn new_relation(c: usize, r: usize, expression_rows: &[u64], relations: &[u1
 
 // Writes the lists of the relations that are present at c. All attributes of a relation stay.
 pub fn write_relation_lists(c: usize, tables: &SplitTables, out: &mut [u16]) -> usize
-    requires { KeptRelationWritable relation_lists tables.now.expression_rows.now tables.now.relation_entries.now tables.now.relations.now
-        c out.old 0 }
+    requires { KeptRelationWritable relation_lists tables.now.expression_rows.now tables.now.relation_entries.now
+        tables.now.relations.now c out.old 0 }
     ensures { (T : Tables)
         → RelationReads T tables.now.expression_rows.now tables.now.relation_entries.now tables.now.relations.now c
         → WrittenAt (relation_lists T c) out.old 0 out.new result }
@@ -140,8 +140,8 @@ pub fn write_relation_lists(c: usize, tables: &SplitTables, out: &mut [u16]) -> 
 
 // Writes the relations that are present at c: expression 0, and how many of its entries are kept.
 pub fn write_relation_forms(c: usize, tables: &SplitTables, out: &mut [u16]) -> usize
-    requires { KeptRelationWritable relation_forms tables.now.expression_rows.now tables.now.relation_entries.now tables.now.relations.now
-        c out.old 0 }
+    requires { KeptRelationWritable relation_forms tables.now.expression_rows.now tables.now.relation_entries.now
+        tables.now.relations.now c out.old 0 }
     ensures { (T : Tables)
         → RelationReads T tables.now.expression_rows.now tables.now.relation_entries.now tables.now.relations.now c
         → WrittenAt (relation_forms T c) out.old 0 out.new result }
