@@ -91,15 +91,8 @@ written_late T c new_entries new_relations new_comparisons new_queries e f L =
     rw (← e, f) (L (late_accepted T c new_entries new_relations new_comparisons new_queries (sym e ∙ f)).0)
 
 -- what 20, 21 and the writing read of a report that has passed the checks before
-pub judged_reads : {T : Tables} {expression_rows reach columns : List ℕ} → Rows T expression_rows reach columns
-    → ConfigureReads T T.model expression_rows reach T.entries T.relations T.comparisons T.queries
-judged_reads R = record {
-  formed = R.formed;
-  number = refl;
-  filled = R.filled;
-  reaching = R.reaching;
-  source = record { entries_are = refl; relations_are = refl; comparisons_are = refl; queries_are = refl };
-}
+pub judged_reads : {T : Tables} {expression_rows reach columns : List ℕ} → Rows T expression_rows reach columns → ConfigureReads T expression_rows reach
+judged_reads R = record { formed = R.formed; filled = R.filled; reaching = R.reaching }
 
 -- ---- for those who read the answer
 

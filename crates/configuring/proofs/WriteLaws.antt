@@ -11,25 +11,27 @@ use Rattle.sets.specs.Rows.{row_in}
 use Rattle.sets.specs.Writing.{Room, WrittenAt}
 use Rattle.sets.proofs.ListLaws.{numbers_are}
 use Rattle.sets.proofs.WritingLaws.{from_start}
-use Rattle.report.specs.Tables.{Tables, comparison_count, query_count, relation_start, relations_end, entries_of_relations, entries_of_projects}
+use Rattle.report.specs.Tables.{Tables, comparison_count, query_count, relations_end, entries_of_relations, entries_of_projects}
 use Rattle.report.specs.Typing.{set_of}
-use Rattle.report.specs.Expressions.{permitted}
+use Rattle.report.specs.Expressions.{permitted, tables_in}
 use Rattle.report.specs.Configuring.{new_comparison, new_query, configured, written}
 use Rattle.report.specs.Formed.{Formed}
 use Rattle.report.specs.declared.Reading.{Reading}
-use Rattle.report.proofs.FormedFacts.{counts}
-use Rattle.report.proofs.EntryParts.{split_in}
+use Rattle.report.specs.declared.TableWords.{TableWords}
 use Rattle.report.proofs.TypingLaws.{permitted_within}
 use Rattle.report.proofs.WrittenQueries.{entries_room, relations_room, comparisons_room, queries_room}
+use Rattle.expression_rows.specs.SplitTables.{of_split}
+use Rattle.expression_rows.specs.declared.SplitTables.{SplitTables}
 use Rattle.expression_rows.proofs.PermittedLaws.{model_row}
-use Rattle.expression_rows.proofs.PreparedLaws.{prepare}
-use Rattle.at_configuration.specs.AtConfiguration.{RelationReads, ComparisonReads, ComparisonNumberable}
+use Rattle.at_configuration.specs.AtConfiguration.{RelationReads, ComparisonReads}
 use Rattle.at_configuration.proofs.PreparedLaws.{at_reads, relation_reads, comparison_reads}
-use Rattle.faults_at.specs.SetsAt.{FormSetsReads, FormSetsReadable}
+use Rattle.faults_at.specs.SetsAt.{FormSetsReads}
 use Rattle.kept_lists.specs.Keeping.{relation_lists, project_lists, relation_forms, KeptRelationWritable, ProjectReads}
 use Rattle.kept_forms.specs.Numbering.{comparison_forms, query_forms, ComparisonFormReads, ComparisonFormWritable}
-use Rattle.kept_forms.specs.Numbering.{QueryReads, QueryNumberable, QueryFormReads, QueryFormWritable}
+use Rattle.kept_forms.specs.Numbering.{QueryReads, QueryFormReads, QueryFormWritable}
 use Rattle.late_checks.specs.LateReads.{LateReads}
+use Rattle.judging.specs.Judging.{IsSplit}
+use Rattle.judging.proofs.JudgingLaws.{tables_read}
 use Rattle.configuring.specs.Promises.{form_counts, Rooms, Leaves}
 use Rattle.configuring.specs.AfterTyping.{ConfigureReads, EntriesReads, EntriesWritable, KeptReads, KeptWritable, TypedReads, TypedWritable}
 
@@ -65,11 +67,8 @@ parts_length : (T : Tables) → length T.entries ≡ length (entries_of_relation
 parts_length T = ap length (sym (take-append-drop (relations_end T * 2) T.entries)) ∙ length-append (entries_of_relations T) (entries_of_projects T)
 
 -- there is as much room for the tables of another reading
-pub same_rooms : {T U : Tables} {expression_rows reach relation_entries project_entries relations comparisons queries : List ℕ} {c : ℕ}
-    {new_entries new_relations new_comparisons new_queries : List ℕ}
-    → KeptReads U expression_rows reach relation_entries project_entries relations comparisons queries c
-    → KeptReads T expression_rows reach relation_entries project_entries relations comparisons queries c
-    → Rooms U new_entries new_relations new_comparisons new_queries
+pub same_rooms : {T U : Tables} {split : SplitTables} {reach : List ℕ} {c : ℕ} {new_entries new_relations new_comparisons new_queries : List ℕ}
+    → KeptReads U split reach c → KeptReads T split reach c → Rooms U new_entries new_relations new_comparisons new_queries
     → Rooms T new_entries new_relations new_comparisons new_queries
 same_rooms {T} {U} S R H = record {
   entries =
@@ -118,28 +117,26 @@ module _ {T : Tables} (F : Formed T) (c : ℕ) {new_entries new_relations new_co
 
 -- ---- what the writers read
 
-module _ {T : Tables} {expression_rows reach relation_entries project_entries relations comparisons queries : List ℕ} {c : ℕ}
-    (R : KeptReads T expression_rows reach relation_entries project_entries relations comparisons queries c) where
-  pub lists_read : RelationReads T expression_rows relation_entries relations c
+module _ {T : Tables} {split : SplitTables} {reach : List ℕ} {c : ℕ} (R : KeptReads T split reach c) where
+  pub lists_read : RelationReads T split.expression_rows.now split.relation_entries.now split.relations.now c
   lists_read = relation_reads R.prepared R.inside
 
   -- the sets of the query forms, and what they are worked out from
-  pub sets_reads : FormSetsReads T c expression_rows relation_entries project_entries relations queries
+  pub sets_reads : FormSetsReads T c split.expression_rows.now split.relation_entries.now split.project_entries.now split.relations.now split.queries.now
   sets_reads = record { related = lists_read; entries_are = R.prepared.project_entries_are; queries_are = R.prepared.queries_are }
 
   pub typed_reads : {form_sets : List ℕ} → form_sets ≡ written (table (query_count T) (set_of T c)) (replicate 256 0)
-      → TypedReads T expression_rows reach form_sets relation_entries project_entries relations comparisons queries c
+      → TypedReads T split reach form_sets c
   typed_reads e = record { kept = R; typed = numbers_are (query_count T) (set_of T c) _ e }
 
-  pub comparisons_read : ComparisonReads T expression_rows comparisons c
+  pub comparisons_read : ComparisonReads T split.expression_rows.now split.comparisons.now c
   comparisons_read = comparison_reads R.prepared R.inside
 
-  pub query_reads : QueryReads T expression_rows reach queries c
+  pub query_reads : QueryReads T split.expression_rows.now reach split.queries.now c
   query_reads = record { reads = at_reads R.prepared R.inside; reaching = R.reaching; queries_are = R.prepared.queries_are }
 
-module _ {T : Tables} {expression_rows reach form_sets relation_entries project_entries relations comparisons queries : List ℕ} {c : ℕ}
-    (R : TypedReads T expression_rows reach form_sets relation_entries project_entries relations comparisons queries c) where
-  project_reads : ProjectReads T expression_rows reach form_sets project_entries queries c
+module _ {T : Tables} {split : SplitTables} {reach form_sets : List ℕ} {c : ℕ} (R : TypedReads T split reach form_sets c) where
+  project_reads : ProjectReads T split.expression_rows.now reach form_sets split.project_entries.now split.queries.now c
   project_reads =
       let K = R.kept in
       record {
@@ -150,7 +147,7 @@ module _ {T : Tables} {expression_rows reach form_sets relation_entries project_
         queries_are = K.prepared.queries_are;
       }
 
-  pub entries_reads : EntriesReads T expression_rows reach form_sets relation_entries project_entries relations queries c
+  pub entries_reads : EntriesReads T split reach form_sets c
   entries_reads = record { lists = lists_read R.kept; projects = project_reads }
 
   module _ {comparison_numbers : List ℕ}
@@ -158,13 +155,13 @@ module _ {T : Tables} {expression_rows reach form_sets relation_entries project_
     compared : NumbersAre (comparison_count T) (new_comparison T c) comparison_numbers
     compared = numbers_are (comparison_count T) (new_comparison T c) _ first_numbers
 
-    pub comparison_form_reads : ComparisonFormReads T c comparisons comparison_numbers
+    pub comparison_form_reads : ComparisonFormReads T c split.comparisons.now comparison_numbers
     comparison_form_reads =
         let P = R.kept.prepared in
         record { formed = P.formed; comparisons_are = P.comparisons_are; numbered = compared }
 
     pub form_reads : {query_numbers : List ℕ} → query_numbers ≡ written (table (query_count T) (new_query T c)) (replicate 256 0)
-        → QueryFormReads T expression_rows reach form_sets relations queries c comparison_numbers query_numbers
+        → QueryFormReads T split.expression_rows.now reach form_sets split.relations.now split.queries.now c comparison_numbers query_numbers
     form_reads e = record {
       reads = query_reads R.kept;
       typed = R.typed;
@@ -175,55 +172,30 @@ module _ {T : Tables} {expression_rows reach form_sets relation_entries project_
 
 -- ---- and that there is room
 
-module _ {expression_rows reach relation_entries project_entries relations comparisons queries : List ℕ} {c : ℕ}
-    {new_entries new_relations new_comparisons new_queries : List ℕ}
-    (W : KeptWritable expression_rows reach relation_entries project_entries relations comparisons queries c new_entries new_relations new_comparisons new_queries)
+module _ {split : SplitTables} {reach : List ℕ} {c : ℕ} {new_entries new_relations new_comparisons new_queries : List ℕ}
+    (W : KeptWritable split reach c new_entries new_relations new_comparisons new_queries)
   where
-    pub sets_readable : {lent : List ℕ} → 256 ≤ length lent
-        → FormSetsReadable c expression_rows relation_entries project_entries relations queries lent
-    sets_readable h = record {
-      tables = W.tables;
-      reads = sets_reads W.reads;
-      room = let m = (counts W.reads.prepared.formed).most4 in omega arith;
-    }
-
     pub typed_writable : {form_sets : List ℕ} → form_sets ≡ written (table (query_count W.tables) (set_of W.tables c)) (replicate 256 0)
-        → TypedWritable expression_rows reach form_sets relation_entries project_entries relations comparisons queries c new_entries new_relations new_comparisons
-        new_queries
+        → TypedWritable split reach form_sets c new_entries new_relations new_comparisons new_queries
     typed_writable e = record { tables = W.tables; reads = typed_reads W.reads e; rooms = W.rooms }
 
-module _ {expression_rows reach form_sets relation_entries project_entries relations comparisons queries : List ℕ} {c : ℕ}
-    {new_entries new_relations new_comparisons new_queries : List ℕ}
-    (W : TypedWritable expression_rows reach form_sets relation_entries project_entries relations comparisons queries c new_entries new_relations new_comparisons
-    new_queries)
+module _ {split : SplitTables} {reach form_sets : List ℕ} {c : ℕ} {new_entries new_relations new_comparisons new_queries : List ℕ}
+    (W : TypedWritable split reach form_sets c new_entries new_relations new_comparisons new_queries)
   where
     formed : Formed W.tables
     formed = W.reads.kept.prepared.formed
 
-    pub entries_writable : EntriesWritable expression_rows reach form_sets relation_entries project_entries relations queries c new_entries
+    pub entries_writable : EntriesWritable split reach form_sets c new_entries
     entries_writable = record { tables = W.tables; reads = entries_reads W.reads; room = entries_fit formed c W.rooms }
 
-    pub relations_writable : KeptRelationWritable relation_forms expression_rows relation_entries relations c new_relations 0
+    pub relations_writable : KeptRelationWritable relation_forms split.expression_rows.now split.relation_entries.now split.relations.now c
+        new_relations 0
     relations_writable = record { tables = W.tables; reads = lists_read W.reads.kept; room = relations_fit formed c W.rooms }
-
-    pub comparisons_numberable : {numbers : List ℕ} → 256 ≤ length numbers → ComparisonNumberable expression_rows comparisons c numbers
-    comparisons_numberable h = record {
-      tables = W.tables;
-      reads = comparisons_read W.reads.kept;
-      room = let m = (counts formed).most3 in omega (arith, ap length W.reads.kept.prepared.comparisons_are);
-    }
-
-    pub queries_numberable : {numbers : List ℕ} → 256 ≤ length numbers → QueryNumberable expression_rows reach queries c numbers
-    queries_numberable h = record {
-      tables = W.tables;
-      reads = query_reads W.reads.kept;
-      room = let m = (counts formed).most4 in omega (arith, ap length W.reads.kept.prepared.queries_are);
-    }
 
     module _ {comparison_numbers : List ℕ}
         (first_numbers : comparison_numbers ≡ written (table (comparison_count W.tables) (new_comparison W.tables c)) (replicate 256 0))
       where
-        pub comparisons_writable : ComparisonFormWritable comparisons comparison_numbers new_comparisons
+        pub comparisons_writable : ComparisonFormWritable split.comparisons.now comparison_numbers new_comparisons
         comparisons_writable = record {
           tables = W.tables;
           configuration = c;
@@ -233,39 +205,27 @@ module _ {expression_rows reach form_sets relation_entries project_entries relat
 
         pub queries_writable : {query_numbers : List ℕ}
             → query_numbers ≡ written (table (query_count W.tables) (new_query W.tables c)) (replicate 256 0)
-            → QueryFormWritable expression_rows reach form_sets relations queries c comparison_numbers query_numbers new_queries
+            → QueryFormWritable split.expression_rows.now reach form_sets split.relations.now split.queries.now c comparison_numbers query_numbers
+            new_queries
         queries_writable e =
             record { tables = W.tables; reads = form_reads W.reads first_numbers e; room = queries_fit formed c W.rooms }
 
 -- ---- from the tables
 
-module _ {T : Tables} {model : ℕ} {expression_rows reach entries relations comparisons queries : List ℕ}
-    (R : ConfigureReads T model expression_rows reach entries relations comparisons queries) where
-  pub late_reads : {permits : List ℕ} → permits ≡ row_in 16 expression_rows model → LateReads T permits entries relations comparisons queries
+module _ (words : TableWords) {expression_rows reach : List ℕ} (R : ConfigureReads (tables_in words) expression_rows reach) where
+  pub late_reads : {permits : List ℕ} → permits ≡ row_in 16 expression_rows words.head.model
+      → LateReads (tables_in words) permits words.entries.now words.relations.now words.comparisons.now words.queries.now
   late_reads load = record {
     few = R.formed.few;
-    permitting = load ∙ model_row R.formed R.filled R.number;
-    source = R.source;
+    permitting = load ∙ model_row R.formed R.filled refl;
+    source = record { entries_are = refl; relations_are = refl; comparisons_are = refl; queries_are = refl };
   }
 
-  pub few_relations : length relations / 2 ≤ 32
-  few_relations = let s = (counts R.formed).most2 in let e = ap length R.source.relations_are in omega arith
-
-  module _ {split : ℕ} (is : split ≡ relation_start relations (length relations / 2)) where
-    split_is : split ≡ relations_end T
-    split_is = is ∙ ap (λ (t : List ℕ). relation_start t (length t / 2)) R.source.relations_are
-
-    -- table 1 can be split there
-    pub split_words : split * 2 ≤ length entries
-    split_words = let l = split_in R.formed split_is in let e = ap length R.source.entries_are in omega arith
-
-    -- at a permitted configuration
-    pub kept_reads : {c : ℕ} → permitted T c ≡ true
-        → KeptReads T expression_rows reach (take (split * 2) entries) (take (length entries - split * 2) (drop (split * 2) entries)) relations comparisons
-        queries c
-    kept_reads {c} p = record {
-      prepared = prepare R.formed R.filled split_is R.source.entries_are R.source.relations_are R.source.comparisons_are
-          R.source.queries_are;
-      inside = permitted_within T c p;
-      reaching = R.reaching;
-    }
+  -- split, at a permitted configuration
+  pub kept_reads : {split : SplitTables} → of_split split (IsSplit (tables_in words) expression_rows) → {c : ℕ} → permitted (tables_in words) c ≡ true
+      → KeptReads (tables_in words) split reach c
+  kept_reads S {c} p = record {
+    prepared = (tables_read R.formed S R.filled {head = words.head} refl refl refl).prepared;
+    inside = permitted_within (tables_in words) c p;
+    reaching = R.reaching;
+  }

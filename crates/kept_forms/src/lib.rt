@@ -19,6 +19,7 @@ ghost use Rattle.kept_forms.specs.FormWords.{TargetReads, TargetReadable, compar
 
 use at_configuration::{holds_at, is_present, taken_at};
 use decoders::{comparison_operands, decode_comparison, decode_query, query_operands};
+use expression_rows::SplitTables;
 use kept_lists::new_relation;
 use report::{Comparison, Operands, Query};
 use sets::{AttributeSet, put};
@@ -210,34 +211,31 @@ fn write_query(
 // Writes the query forms that are no choice and that c reaches; `form_sets` has the sets of the forms.
 pub fn write_queries(
     c: usize,
-    expression_rows: &[u64],
-    relations: &[u16],
-    queries: &[u16],
+    tables: &SplitTables,
     reach: &[u64],
     form_sets: &[u64],
     comparison_numbers: &[u16],
     query_numbers: &[u16],
     out: &mut [u16],
 ) -> usize
-    requires { QueryFormWritable expression_rows.now reach.now form_sets.now relations.now queries.now c comparison_numbers.now
-        query_numbers.now out.old }
+    requires { QueryFormWritable tables.now.expression_rows.now reach.now form_sets.now tables.now.relations.now
+        tables.now.queries.now c comparison_numbers.now query_numbers.now out.old }
     ensures { (T : Tables)
-        → QueryFormReads T expression_rows.now reach.now form_sets.now relations.now
-        queries.now c
-        comparison_numbers.now query_numbers.now
+        → QueryFormReads T tables.now.expression_rows.now reach.now form_sets.now tables.now.relations.now
+        tables.now.queries.now c comparison_numbers.now query_numbers.now
         → WrittenAt (query_forms T c) out.old 0 out.new result }
 {
-    let count = queries.len() / 4;
+    let count = tables.queries.len() / 4;
     let mut p = 0;
     for q in 0..count {
-        let x = decode_query(queries, q);
+        let x = decode_query(tables.queries, q);
         if holds_at(reach, q, c) {
             p = write_query(
                 x,
                 c,
                 q,
-                expression_rows,
-                relations,
+                tables.expression_rows,
+                tables.relations,
                 form_sets,
                 comparison_numbers,
                 query_numbers,

@@ -1,7 +1,7 @@
 // What configuring keeps of lists and relations at one configuration, written into lent tables. Each writer returns the position after what it wrote.
 #![tactic(auto)]
 
-ghost use Rattle.std.specs.Prelude.{◌≡◌, cond, ℕ, ◌+◌, ◌<◌};
+ghost use Rattle.std.specs.Prelude.{◌≡◌, ℕ, ◌+◌};
 ghost use Rattle.sets.specs.Bits.{bit};
 ghost use Rattle.sets.specs.Writing.{WrittenAt};
 ghost use Rattle.report.specs.Tables.{Tables};
@@ -13,6 +13,7 @@ ghost use Rattle.kept_lists.specs.Blocks.{pair_if, list_if, WordPairWritable, Li
 
 use at_configuration::{entry_holds, holds_at, is_present, joined_at};
 use decoders::{decode_query, entry_attribute, project_length, relation_length};
+use expression_rows::SplitTables;
 use sets::AttributeSet;
 
 // How many of the `count` entries from `start` on are kept at c, where all attributes stay: as many as their joined set has attributes.
@@ -107,32 +108,28 @@ pub fn new_relation(c: usize, r: usize, expression_rows: &[u64], relations: &[u1
 }
 
 // Writes the lists of the relations that are present at c. All attributes of a relation stay.
-pub fn write_relation_lists(
-    c: usize,
-    expression_rows: &[u64],
-    relation_entries: &[u16],
-    relations: &[u16],
-    out: &mut [u16],
-) -> usize
-    requires { KeptRelationWritable relation_lists expression_rows.now relation_entries.now relations.now c out.old 0 }
-    ensures { (T : Tables) → RelationReads T expression_rows.now relation_entries.now relations.now c
+pub fn write_relation_lists(c: usize, tables: &SplitTables, out: &mut [u16]) -> usize
+    requires { KeptRelationWritable relation_lists tables.now.expression_rows.now tables.now.relation_entries.now
+        tables.now.relations.now c out.old 0 }
+    ensures { (T : Tables)
+        → RelationReads T tables.now.expression_rows.now tables.now.relation_entries.now tables.now.relations.now c
         → WrittenAt (relation_lists T c) out.old 0 out.new result }
 {
     let all = AttributeSet::all();
-    let count = relations.len() / 2;
+    let count = tables.relations.len() / 2;
     let mut start = 0;
     let mut p = 0;
     for r in 0..count {
-        let n = relation_length(relations, r);
-        let present = is_present(c, r, expression_rows, relations);
+        let n = relation_length(tables.relations, r);
+        let present = is_present(c, r, tables.expression_rows, tables.relations);
         p = write_list_if(
             present,
             c,
             start,
             n,
             all,
-            expression_rows,
-            relation_entries,
+            tables.expression_rows,
+            tables.relation_entries,
             out,
             p,
         );
@@ -142,24 +139,20 @@ pub fn write_relation_lists(
 }
 
 // Writes the relations that are present at c: expression 0, and how many of its entries are kept.
-pub fn write_relation_forms(
-    c: usize,
-    expression_rows: &[u64],
-    relation_entries: &[u16],
-    relations: &[u16],
-    out: &mut [u16],
-) -> usize
-    requires { KeptRelationWritable relation_forms expression_rows.now relation_entries.now relations.now c out.old 0 }
-    ensures { (T : Tables) → RelationReads T expression_rows.now relation_entries.now relations.now c
+pub fn write_relation_forms(c: usize, tables: &SplitTables, out: &mut [u16]) -> usize
+    requires { KeptRelationWritable relation_forms tables.now.expression_rows.now tables.now.relation_entries.now
+        tables.now.relations.now c out.old 0 }
+    ensures { (T : Tables)
+        → RelationReads T tables.now.expression_rows.now tables.now.relation_entries.now tables.now.relations.now c
         → WrittenAt (relation_forms T c) out.old 0 out.new result }
 {
-    let count = relations.len() / 2;
+    let count = tables.relations.len() / 2;
     let mut start = 0;
     let mut p = 0;
     for r in 0..count {
-        let n = relation_length(relations, r);
-        let present = is_present(c, r, expression_rows, relations);
-        let kept = kept_length(c, start, n, expression_rows, relation_entries);
+        let n = relation_length(tables.relations, r);
+        let present = is_present(c, r, tables.expression_rows, tables.relations);
+        let kept = kept_length(c, start, n, tables.expression_rows, tables.relation_entries);
         p = write_pair(present, 0, kept, out, p);
         start += n;
     }
@@ -170,25 +163,24 @@ pub fn write_relation_forms(
 // its own set: of what it lists at c they are what its operand has. Another form has no entries, so its list is written as none.
 pub fn write_project_lists(
     c: usize,
-    expression_rows: &[u64],
-    project_entries: &[u16],
-    queries: &[u16],
+    tables: &SplitTables,
     reach: &[u64],
     form_sets: &[u64],
     out: &mut [u16],
     at: usize,
 ) -> usize
-    requires { ProjectWritable expression_rows.now reach.now form_sets.now project_entries.now queries.now c out.old at }
+    requires { ProjectWritable tables.now.expression_rows.now reach.now form_sets.now tables.now.project_entries.now
+        tables.now.queries.now c out.old at }
     ensures { (T : Tables)
-        → ProjectReads T expression_rows.now reach.now form_sets.now project_entries.now
-        queries.now c
+        → ProjectReads T tables.now.expression_rows.now reach.now form_sets.now tables.now.project_entries.now
+        tables.now.queries.now c
         → WrittenAt (project_lists T c) out.old at out.new result }
 {
-    let count = queries.len() / 4;
+    let count = tables.queries.len() / 4;
     let mut start = 0;
     let mut p = at;
     for q in 0..count {
-        let x = decode_query(queries, q);
+        let x = decode_query(tables.queries, q);
         let n = project_length(x);
         let reached = holds_at(reach, q, c);
         let stays = AttributeSet::of_bits(form_sets[q]);
@@ -198,8 +190,8 @@ pub fn write_project_lists(
             start,
             n,
             stays,
-            expression_rows,
-            project_entries,
+            tables.expression_rows,
+            tables.project_entries,
             out,
             p,
         );

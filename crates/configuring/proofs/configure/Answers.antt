@@ -1,4 +1,4 @@
-use Rattle.std.proofs.Common.{rules, ◌≡◌, Err, refl}
+use Rattle.std.proofs.Common.{rules, ◌≡◌, Err}
 use Rattle.judging.proofs.JudgingLaws.{own_rows}
 use Rattle.configuring.proofs.ConfigureLaws.{report_refuses, late_answers, judged_reads}
 use Rattle.configuring.proofs.configure.Goals as goal
@@ -11,15 +11,10 @@ returns-in_err-check_into_rows c =
     c.check_into_rows.ensures.answers c.in_err-check_into_rows.was)
 
 pub configure_judged-requires : goal.configure_judged-requires
-configure_judged-requires c =
-    record {
-      tables = _;
-      reads = judged_reads (own_rows c.check_into_rows.ensures c.in_ok-check_into_rows.was);
-    }
+configure_judged-requires c = judged_reads (own_rows c.check_into_rows.ensures c.in_ok-check_into_rows.was)
 
 pub returns : goal.returns
 returns c =
     let a = c.args in
     late_answers _ a.reading a.c a.new_entries.now a.new_relations.now a.new_comparisons.now a.new_queries.now
-    c.check_into_rows.ensures.answers c.in_ok-check_into_rows.was
-    (c.configure_judged.ensures _ (judged_reads (own_rows c.check_into_rows.ensures c.in_ok-check_into_rows.was)))
+    c.check_into_rows.ensures.answers c.in_ok-check_into_rows.was c.configure_judged.ensures

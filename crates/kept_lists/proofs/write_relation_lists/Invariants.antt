@@ -3,4 +3,6 @@ use Rattle.kept_lists.proofs.RelationLaws.{Relating}
 use Rattle.kept_lists.proofs.write_relation_lists.Given as goal
 
 abbrev pub invariant-loop-r : goal.invariant-loop-r
-invariant-loop-r l = Relating relation_list_at l.expression_rows l.relation_entries l.relations l.c l.initial.out l.out l.r l.start l.p
+invariant-loop-r l =
+    Relating relation_list_at l.tables.expression_rows.now l.tables.relation_entries.now l.tables.relations.now l.c
+    l.initial.out l.out l.r l.start l.p
