@@ -2,6 +2,5 @@ pub mod FillLaws
 pub mod PermittedLaws
 pub mod ScopeLaws
 pub mod CheckLaws
-pub mod PreparedLaws
 pub mod RowsFilling
 pub mod ColumnLaws
