@@ -122,13 +122,13 @@ pub fn fill_here(
         → HereFilled T R c result named_sets.old clash_sets.old form_sets.old named_sets.new
         clash_sets.new form_sets.new }
 {
-    fill_gathered(c, Gathered::Names, tables, &mut *named_sets);
-    fill_gathered(c, Gathered::Clashes, tables, &mut *clash_sets);
-    fill_form_sets(c, tables, &mut *form_sets);
+    fill_gathered(c, Gathered::Names, tables, named_sets);
+    fill_gathered(c, Gathered::Clashes, tables, clash_sets);
+    fill_form_sets(c, tables, form_sets);
     let sets = SetsAt {
-        named: &*named_sets,
-        clashes: &*clash_sets,
-        forms: &*form_sets,
+        named: named_sets,
+        clashes: clash_sets,
+        forms: form_sets,
     };
     let verdict = forms_here(c, tables, reach, spared_sets, &sets);
     let set = AttributeSet::of_bits(form_sets[tables.queries.len() / 4 - 1]);

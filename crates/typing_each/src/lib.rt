@@ -52,9 +52,9 @@ fn check_with(
             tables,
             reach,
             spared_sets,
-            &mut *named_sets,
-            &mut *clash_sets,
-            &mut *form_sets,
+            named_sets,
+            clash_sets,
+            form_sets,
         );
         gathered[count] = SetAt {
             configuration: c as u16,
