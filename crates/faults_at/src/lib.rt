@@ -19,47 +19,44 @@ use comparisons::{Gathered, own_set};
 use decoders::{
     comparison_operands, decode_comparison, decode_query, project_length, relation_length,
 };
+use expression_rows::SplitTables;
 use report::{Limits, Operands, Query};
 use sets::AttributeSet;
 
 // The set of relation r, whose list starts at `start`: none where it is absent.
-fn relation_set(
-    c: usize,
-    r: usize,
-    start: usize,
-    expression_rows: &[u64],
-    relation_entries: &[u16],
-    relations: &[u16],
-) -> AttributeSet
-    requires { RelationSetReadable expression_rows.now relation_entries.now relations.now c r start }
-    ensures { (T : Tables) → RelationReads T expression_rows.now relation_entries.now relations.now c
+fn relation_set(c: usize, r: usize, start: usize, tables: &SplitTables) -> AttributeSet
+    requires { RelationSetReadable tables.now.expression_rows.now tables.now.relation_entries.now tables.now.relations.now c r start }
+    ensures { (T : Tables)
+        → RelationReads T tables.now.expression_rows.now tables.now.relation_entries.now tables.now.relations.now c
         → result.bits ≡ present_set T c r }
 {
-    if is_present(c, r, expression_rows, relations) {
-        let count = relation_length(relations, r);
-        return joined_at(c, start, count, expression_rows, relation_entries);
+    if is_present(c, r, tables.expression_rows, tables.relations) {
+        let count = relation_length(tables.relations, r);
+        return joined_at(
+            c,
+            start,
+            count,
+            tables.expression_rows,
+            tables.relation_entries,
+        );
     }
     AttributeSet::empty()
 }
 
 // Fills `relation_sets` with the sets of all relations.
-fn fill_relation_sets(
-    c: usize,
-    expression_rows: &[u64],
-    relation_entries: &[u16],
-    relations: &[u16],
-    relation_sets: &mut [u64],
-)
-    requires { RelationSetsReadable expression_rows.now relation_entries.now relations.now c relation_sets.old }
-    ensures { (T : Tables) → RelationReads T expression_rows.now relation_entries.now relations.now c
+fn fill_relation_sets(c: usize, tables: &SplitTables, relation_sets: &mut [u64])
+    requires { RelationSetsReadable tables.now.expression_rows.now tables.now.relation_entries.now tables.now.relations.now c
+        relation_sets.old }
+    ensures { (T : Tables)
+        → RelationReads T tables.now.expression_rows.now tables.now.relation_entries.now tables.now.relations.now c
         → relation_sets.new ≡ written (table (relation_count T) (present_set T c)) relation_sets.old }
 {
-    let count = relations.len() / 2;
+    let count = tables.relations.len() / 2;
     let mut start = 0;
     for r in 0..count {
-        let s = relation_set(c, r, start, expression_rows, relation_entries, relations);
+        let s = relation_set(c, r, start, tables);
         relation_sets[r] = s.bits;
-        start += relation_length(relations, r);
+        start += relation_length(tables.relations, r);
     }
 }
 
@@ -92,27 +89,21 @@ fn gathered_at(
 }
 
 // Fills `gathered_sets` with what is gathered from each comparison at c.
-pub fn fill_gathered(
-    c: usize,
-    what: Gathered,
-    expression_rows: &[u64],
-    comparisons: &[u16],
-    kinds: &[u16],
-    gathered_sets: &mut [u64],
-)
-    requires { GatheredReadable expression_rows.now comparisons.now kinds.now c gathered_sets.old }
-    ensures { (T : Tables) → GatheredReads T expression_rows.now comparisons.now kinds.now c
+pub fn fill_gathered(c: usize, what: Gathered, tables: &SplitTables, gathered_sets: &mut [u64])
+    requires { GatheredReadable tables.now.expression_rows.now tables.now.comparisons.now tables.now.kinds.now c gathered_sets.old }
+    ensures { (T : Tables)
+        → GatheredReads T tables.now.expression_rows.now tables.now.comparisons.now tables.now.kinds.now c
         → gathered_sets.new ≡ written (table (comparison_count T) (gathered T c (own_of (kind_of T) what))) gathered_sets.old }
 {
-    let count = comparisons.len() / 5;
+    let count = tables.comparisons.len() / 5;
     for f in 0..count {
-        let x = decode_comparison(comparisons, f);
-        let own = own_set(what, x, kinds);
+        let x = decode_comparison(tables.comparisons, f);
+        let own = own_set(what, x, tables.kinds);
         let s = gathered_at(
             comparison_operands(x),
             c,
             own,
-            expression_rows,
+            tables.expression_rows,
             gathered_sets,
         );
         gathered_sets[f] = s.bits;
@@ -124,15 +115,13 @@ fn set_at(
     x: Query,
     c: usize,
     start: usize,
-    expression_rows: &[u64],
-    project_entries: &[u16],
+    tables: &SplitTables,
     relation_sets: &[u64],
     form_sets: &[u64],
 ) -> AttributeSet
-    requires { SomeQuery expression_rows.now project_entries.now relation_sets.now c form_sets.now start x }
-    ensures { (T : Tables) (q : ℕ) → QueryAt T q expression_rows.now project_entries.now relation_sets.now c
-        form_sets.now
-        start x
+    requires { SomeQuery tables.now.expression_rows.now tables.now.project_entries.now relation_sets.now c form_sets.now start x }
+    ensures { (T : Tables) (q : ℕ)
+        → QueryAt T q tables.now.expression_rows.now tables.now.project_entries.now relation_sets.now c form_sets.now start x
         → result.bits ≡ set_rule T c (set_of T c) q x }
 {
     match x {
@@ -142,79 +131,50 @@ fn set_at(
             set_in(form_sets, a)
         }
         Query::Project(count, a) => {
-            let listed = joined_at(c, start, count, expression_rows, project_entries);
+            let listed = joined_at(
+                c,
+                start,
+                count,
+                tables.expression_rows,
+                tables.project_entries,
+            );
             listed.intersect(set_in(form_sets, a))
         }
-        Query::Choice(e, a, b) => set_in(form_sets, taken_at(c, e, a, b, expression_rows)),
+        Query::Choice(e, a, b) => set_in(form_sets, taken_at(c, e, a, b, tables.expression_rows)),
         Query::Product(a, b) => set_in(form_sets, a).union(set_in(form_sets, b)),
     }
 }
 
 // Fills `form_sets` with the sets of all query forms.
-fn fill_sets(
-    c: usize,
-    expression_rows: &[u64],
-    project_entries: &[u16],
-    queries: &[u16],
-    relation_sets: &[u64],
-    form_sets: &mut [u64],
-)
-    requires { SetsReadable expression_rows.now project_entries.now queries.now relation_sets.now c form_sets.old }
-    ensures { (T : Tables) → SetsReads T expression_rows.now project_entries.now queries.now
-        relation_sets.now c
+fn fill_sets(c: usize, tables: &SplitTables, relation_sets: &[u64], form_sets: &mut [u64])
+    requires { SetsReadable tables.now.expression_rows.now tables.now.project_entries.now tables.now.queries.now relation_sets.now c
+        form_sets.old }
+    ensures { (T : Tables)
+        → SetsReads T tables.now.expression_rows.now tables.now.project_entries.now tables.now.queries.now relation_sets.now c
         → form_sets.new ≡ written (table (query_count T) (set_of T c)) form_sets.old }
 {
-    let count = queries.len() / 4;
+    let count = tables.queries.len() / 4;
     let mut start = 0;
     for q in 0..count {
-        let x = decode_query(queries, q);
-        let s = set_at(
-            x,
-            c,
-            start,
-            expression_rows,
-            project_entries,
-            relation_sets,
-            form_sets,
-        );
+        let x = decode_query(tables.queries, q);
+        let s = set_at(x, c, start, tables, relation_sets, form_sets);
         form_sets[q] = s.bits;
         start += project_length(x);
     }
 }
 
 // Fills `form_sets` with the sets of all query forms at configuration c. Those of the relations, from which they are worked out, are its own.
-pub fn fill_form_sets(
-    c: usize,
-    expression_rows: &[u64],
-    relation_entries: &[u16],
-    project_entries: &[u16],
-    relations: &[u16],
-    queries: &[u16],
-    form_sets: &mut [u64],
-)
-    requires { FormSetsReadable c expression_rows.now relation_entries.now project_entries.now relations.now queries.now
-        form_sets.old }
+pub fn fill_form_sets(c: usize, tables: &SplitTables, form_sets: &mut [u64])
+    requires { FormSetsReadable c tables.now.expression_rows.now tables.now.relation_entries.now tables.now.project_entries.now
+        tables.now.relations.now tables.now.queries.now form_sets.old }
     ensures { (T : Tables)
-        → FormSetsReads T c expression_rows.now relation_entries.now project_entries.now relations.now
-        queries.now
+        → FormSetsReads T c tables.now.expression_rows.now tables.now.relation_entries.now tables.now.project_entries.now
+        tables.now.relations.now tables.now.queries.now
         → form_sets.new ≡ written (table (query_count T) (set_of T c)) form_sets.old }
 {
     let mut relation_sets = [0; Limits::MOST_RELATIONS];
-    fill_relation_sets(
-        c,
-        expression_rows,
-        relation_entries,
-        relations,
-        &mut relation_sets,
-    );
-    fill_sets(
-        c,
-        expression_rows,
-        project_entries,
-        queries,
-        &relation_sets,
-        form_sets,
-    );
+    fill_relation_sets(c, tables, &mut relation_sets);
+    fill_sets(c, tables, &relation_sets, form_sets);
 }
 
 // Relation r if it is absent at c, as a set of items.
@@ -234,24 +194,29 @@ pub fn faults_of(
     x: Query,
     c: usize,
     start: usize,
-    expression_rows: &[u64],
-    project_entries: &[u16],
-    relations: &[u16],
+    tables: &SplitTables,
     named_sets: &[u64],
     form_sets: &[u64],
 ) -> AttributeSet
-    requires { FormFaultsReadable expression_rows.now project_entries.now relations.now c named_sets.now form_sets.now start x }
+    requires { FormFaultsReadable tables.now.expression_rows.now tables.now.project_entries.now tables.now.relations.now c named_sets.now
+        form_sets.now start x }
     ensures { (T : Tables) (q : ℕ)
-        → FormFaultsReads T q expression_rows.now project_entries.now relations.now c
+        → FormFaultsReads T q tables.now.expression_rows.now tables.now.project_entries.now tables.now.relations.now c
         named_sets.now form_sets.now start x
         → result.bits ≡ faults_of T c q x }
 {
     match x {
         Query::Malformed | Query::Empty | Query::Choice(_, _, _) => AttributeSet::empty(),
-        Query::Relation(r) => absent_item(c, r, expression_rows, relations),
+        Query::Relation(r) => absent_item(c, r, tables.expression_rows, tables.relations),
         Query::Select(f, a) => set_in(named_sets, f).minus(set_in(form_sets, a)),
         Query::Project(count, a) => {
-            let listed = joined_at(c, start, count, expression_rows, project_entries);
+            let listed = joined_at(
+                c,
+                start,
+                count,
+                tables.expression_rows,
+                tables.project_entries,
+            );
             listed.minus(set_in(form_sets, a))
         }
         Query::Product(a, b) => set_in(form_sets, a).intersect(set_in(form_sets, b)),

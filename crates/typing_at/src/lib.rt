@@ -39,83 +39,61 @@ fn rule_number(x: Query) -> u64
     }
 }
 
+// The sets at one configuration from which the faults there are worked out: what each comparison names, the left attributes that it compares with another
+// kind, and the set of each query form.
+#[derive(Clone, Copy)]
+struct SetsAt<'a> {
+    named: &'a [u64],
+    clashes: &'a [u64],
+    forms: &'a [u64],
+}
+
 // Both phases of form q, which is x, at c, the first without the items that the reading does not hold against it; a project's list starts at `start`.
 fn form_here(
     x: Query,
     q: usize,
     c: usize,
     start: usize,
-    expression_rows: &[u64],
-    project_entries: &[u16],
-    relations: &[u16],
+    tables: &SplitTables,
     reach: &[u64],
     spared_sets: &[u64],
-    named_sets: &[u64],
-    clash_sets: &[u64],
-    form_sets: &[u64],
+    sets: &SetsAt,
 ) -> Verdict
-    requires { FormHereReadable q expression_rows.now project_entries.now relations.now reach.now spared_sets.now c
-        named_sets.now clash_sets.now form_sets.now start x }
+    requires { FormHereReadable q tables.now.expression_rows.now tables.now.project_entries.now tables.now.relations.now reach.now
+        spared_sets.now c sets.now.named.now sets.now.clashes.now sets.now.forms.now start x }
     ensures { (T : Tables) (R : Reading)
-        → FormHereReads T R q expression_rows.now project_entries.now relations.now reach.now
-        spared_sets.now c named_sets.now clash_sets.now form_sets.now start x
+        → FormHereReads T R q tables.now.expression_rows.now tables.now.project_entries.now tables.now.relations.now reach.now
+        spared_sets.now c sets.now.named.now sets.now.clashes.now sets.now.forms.now start x
         → result ≡ form_here T R c q }
 {
     if !holds_at(reach, q, c) {
         return Ok(());
     }
-    let broken = faults_of(
-        x,
-        c,
-        start,
-        expression_rows,
-        project_entries,
-        relations,
-        named_sets,
-        form_sets,
-    );
+    let broken = faults_of(x, c, start, tables, sets.named, sets.forms);
     let spared = AttributeSet::of_bits(spared_sets[q]);
     refuse_items(rule_number(x), q, broken.minus(spared), c)?;
-    refuse_items(25, q, clashes_in(x, clash_sets), c)
+    refuse_items(25, q, clashes_in(x, sets.clashes), c)
 }
 
 // All forms at c: the lowest that fails there.
 fn forms_here(
     c: usize,
-    expression_rows: &[u64],
-    project_entries: &[u16],
-    relations: &[u16],
-    queries: &[u16],
+    tables: &SplitTables,
     reach: &[u64],
     spared_sets: &[u64],
-    named_sets: &[u64],
-    clash_sets: &[u64],
-    form_sets: &[u64],
+    sets: &SetsAt,
 ) -> Verdict
-    requires { FormsHereReadable expression_rows.now project_entries.now relations.now queries.now reach.now spared_sets.now c
-        named_sets.now clash_sets.now form_sets.now }
+    requires { FormsHereReadable tables.now.expression_rows.now tables.now.project_entries.now tables.now.relations.now
+        tables.now.queries.now reach.now spared_sets.now c sets.now.named.now sets.now.clashes.now sets.now.forms.now }
     ensures { (T : Tables) (R : Reading)
-        → FormsHereReads T R expression_rows.now project_entries.now relations.now queries.now
-        reach.now spared_sets.now c named_sets.now clash_sets.now form_sets.now
+        → FormsHereReads T R tables.now.expression_rows.now tables.now.project_entries.now tables.now.relations.now
+        tables.now.queries.now reach.now spared_sets.now c sets.now.named.now sets.now.clashes.now sets.now.forms.now
         → result ≡ typing_here T R c }
 {
     let mut start = 0;
-    for q in 0..queries.len() / 4 {
-        let x = decode_query(queries, q);
-        form_here(
-            x,
-            q,
-            c,
-            start,
-            expression_rows,
-            project_entries,
-            relations,
-            reach,
-            spared_sets,
-            named_sets,
-            clash_sets,
-            form_sets,
-        )?;
+    for q in 0..tables.queries.len() / 4 {
+        let x = decode_query(tables.queries, q);
+        form_here(x, q, c, start, tables, reach, spared_sets, sets)?;
         start += project_length(x);
     }
     Ok(())
@@ -144,43 +122,15 @@ pub fn fill_here(
         → HereFilled T R c result named_sets.old clash_sets.old form_sets.old named_sets.new
         clash_sets.new form_sets.new }
 {
-    fill_gathered(
-        c,
-        Gathered::Names,
-        tables.expression_rows,
-        tables.comparisons,
-        tables.kinds,
-        &mut *named_sets,
-    );
-    fill_gathered(
-        c,
-        Gathered::Clashes,
-        tables.expression_rows,
-        tables.comparisons,
-        tables.kinds,
-        &mut *clash_sets,
-    );
-    fill_form_sets(
-        c,
-        tables.expression_rows,
-        tables.relation_entries,
-        tables.project_entries,
-        tables.relations,
-        tables.queries,
-        &mut *form_sets,
-    );
-    let verdict = forms_here(
-        c,
-        tables.expression_rows,
-        tables.project_entries,
-        tables.relations,
-        tables.queries,
-        reach,
-        spared_sets,
-        &*named_sets,
-        &*clash_sets,
-        &*form_sets,
-    );
+    fill_gathered(c, Gathered::Names, tables, named_sets);
+    fill_gathered(c, Gathered::Clashes, tables, clash_sets);
+    fill_form_sets(c, tables, form_sets);
+    let sets = SetsAt {
+        named: named_sets,
+        clashes: clash_sets,
+        forms: form_sets,
+    };
+    let verdict = forms_here(c, tables, reach, spared_sets, &sets);
     let set = AttributeSet::of_bits(form_sets[tables.queries.len() / 4 - 1]);
     Here { verdict, set }
 }

@@ -52,9 +52,9 @@ fn check_with(
             tables,
             reach,
             spared_sets,
-            &mut *named_sets,
-            &mut *clash_sets,
-            &mut *form_sets,
+            named_sets,
+            clash_sets,
+            form_sets,
         );
         gathered[count] = SetAt {
             configuration: c as u16,
@@ -81,16 +81,7 @@ fn check_sized<const FORMS: usize>(
         → Checked T scope.reading result columns.new }
 {
     let mut spared_sets = [0; FORMS];
-    fill_spared(
-        scope,
-        tables.expression_rows,
-        tables.relation_entries,
-        tables.project_entries,
-        tables.relations,
-        tables.queries,
-        reach,
-        &mut spared_sets,
-    );
+    fill_spared(scope, tables, reach, &mut spared_sets);
     let mut named_sets = [0; FORMS];
     let mut clash_sets = [0; FORMS];
     let mut form_sets = [0; FORMS];
