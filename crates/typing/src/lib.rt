@@ -60,53 +60,28 @@ fn check_rows(
     let Some(c) = configuration else {
         return Ok(());
     };
-    let here = check_here(
-        c,
-        tables,
-        reach,
-        spared_sets,
-    );
+    let here = check_here(c, tables, reach, spared_sets);
     here.verdict
 }
 
 // The second phase, 25: a row of the first phase that is empty becomes that of the configurations at which kinds differ. Done when the first phase has
 // returned, so that the rows of clashes and those from which the first phase is worked out are not on the stack together.
-fn add_second_phase(
-    full: Row,
-    expression_rows: &[u64],
-    comparisons: &[u16],
-    queries: &[u16],
-    kinds: &[u16],
-    reach: &[u64],
-    fault_rows: &mut [u64],
-)
-    requires { SecondReadable full.words expression_rows.now comparisons.now queries.now kinds.now reach.now fault_rows.old }
+fn add_second_phase(full: Row, tables: &SplitTables, reach: &[u64], fault_rows: &mut [u64])
+    requires { SecondReadable full.words tables.now.expression_rows.now tables.now.comparisons.now tables.now.queries.now
+        tables.now.kinds.now reach.now fault_rows.old }
     ensures { (T : Tables) (R : Reading)
-        → SecondReads T R full.words expression_rows.now comparisons.now queries.now kinds.now
-        reach.now fault_rows.old
+        → SecondReads T R full.words tables.now.expression_rows.now tables.now.comparisons.now
+        tables.now.queries.now tables.now.kinds.now reach.now fault_rows.old
         → fault_rows.new ≡ written (concat (query_count T) (failing_row T R)) fault_rows.old }
 {
     let mut clash_rows = [0; Limits::MOST_COMPARISONS * Row::WORDS];
     // a row of clashes is not of one attribute: 0 stands for any
-    fill_gathered_rows(
-        Gathered::Clashes,
-        0,
-        full,
-        expression_rows,
-        comparisons,
-        kinds,
-        &mut clash_rows,
-    );
-    add_clashes(queries, reach, &clash_rows, fault_rows);
+    fill_gathered_rows(Gathered::Clashes, 0, full, tables, &mut clash_rows);
+    add_clashes(tables.queries, reach, &clash_rows, fault_rows);
 }
 
 // Checks 15 to 19 and 25 by rows of all configurations, and the column rows, whatever the answer.
-fn check_by_rows(
-    scope: Scope,
-    tables: &SplitTables,
-    reach: &[u64],
-    columns: &mut [u64],
-) -> Verdict
+fn check_by_rows(scope: Scope, tables: &SplitTables, reach: &[u64], columns: &mut [u64]) -> Verdict
     requires { of_split tables.now (TypingReadable scope) reach.now columns.old }
     ensures { (T : Tables)
         → of_split tables.now (TypingReads T scope) reach.now
@@ -122,21 +97,8 @@ fn check_by_rows(
         &mut spared_sets,
         columns,
     );
-    add_second_phase(
-        scope.full,
-        tables.expression_rows,
-        tables.comparisons,
-        tables.queries,
-        tables.kinds,
-        reach,
-        &mut fault_rows,
-    );
-    check_rows(
-        tables,
-        reach,
-        &spared_sets,
-        &fault_rows,
-    )
+    add_second_phase(scope.full, tables, reach, &mut fault_rows);
+    check_rows(tables, reach, &spared_sets, &fault_rows)
 }
 
 // Checks 15 to 19 and 25 of tables whose expression rows `expression_rows` starts with and whose reach rows `reach` starts with, and the column rows,
@@ -153,17 +115,7 @@ pub fn check_typing(
         → Checked T scope.reading result columns.new }
 {
     if scope.permitted.count() <= FEW {
-        return check_each(
-            scope,
-            tables,
-            reach,
-            columns,
-        );
+        return check_each(scope, tables, reach, columns);
     }
-    check_by_rows(
-        scope,
-        tables,
-        reach,
-        columns,
-    )
+    check_by_rows(scope, tables, reach, columns)
 }
