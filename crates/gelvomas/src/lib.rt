@@ -1,7 +1,8 @@
 // Checking, configuring, finding and the page as C functions.
 #![tactic(auto)]
 
-ghost use Rattle.report.specs.Expressions.{tables_of};
+ghost use Rattle.std.specs.Prelude.{◌≡◌};
+ghost use Rattle.report.specs.Expressions.{tables_in, tables_of};
 ghost use Rattle.c_answers.specs.ReadingTold.{reading_told};
 ghost use Rattle.gelvomas.specs.Answers.{CheckTold, ConfigureTold, FindTold, PageTold};
 
@@ -11,6 +12,36 @@ use configuring::configure;
 use finding::find;
 use report::{Head, TableWords};
 use wall_page::write_page;
+
+// The tables that C tells: an exported function takes no struct of slices.
+fn tables_told<'a>(
+    features: u64,
+    attributes: u64,
+    model: u64,
+    expressions: &'a [u16],
+    entries: &'a [u16],
+    relations: &'a [u16],
+    comparisons: &'a [u16],
+    queries: &'a [u16],
+    kinds: &'a [u16],
+) -> TableWords<'a>
+    ensures { tables_in result ≡ tables_of features attributes model expressions.now entries.now relations.now
+        comparisons.now queries.now kinds.now }
+{
+    TableWords {
+        head: Head {
+            features: features as usize,
+            attributes: attributes as usize,
+            model: model as usize,
+        },
+        expressions,
+        entries,
+        relations,
+        comparisons,
+        queries,
+        kinds,
+    }
+}
 
 // Answers 0 where the report is accepted: `rows` holds its column rows, and `refusal` is as it was.
 // Else answers 1: `refusal` holds number, place, item and configuration, and `rows` is as it was.
@@ -33,19 +64,17 @@ pub extern "C" fn gelvomas_check(
         comparisons.now queries.now kinds.now)
         (reading_told filled) rows.old refusal.old result refusal.new rows.new }
 {
-    let tables = TableWords {
-        head: Head {
-            features: features as usize,
-            attributes: attributes as usize,
-            model: model as usize,
-        },
+    let tables = tables_told(
+        features,
+        attributes,
+        model,
         expressions,
         entries,
         relations,
         comparisons,
         queries,
         kinds,
-    };
+    );
     let checked = check(&tables, reading_told(filled), rows);
     match checked {
         Ok(()) => 0,
@@ -80,19 +109,17 @@ pub extern "C" fn gelvomas_configure(
         (reading_told filled) c new_entries.old new_relations.old new_comparisons.old new_queries.old
         result answer.new new_entries.new new_relations.new new_comparisons.new new_queries.new }
 {
-    let tables = TableWords {
-        head: Head {
-            features: features as usize,
-            attributes: attributes as usize,
-            model: model as usize,
-        },
+    let tables = tables_told(
+        features,
+        attributes,
+        model,
         expressions,
         entries,
         relations,
         comparisons,
         queries,
         kinds,
-    };
+    );
     let made = configure(
         &tables,
         reading_told(filled),
@@ -137,19 +164,17 @@ pub extern "C" fn gelvomas_find(
         comparisons.now queries.now kinds.now)
         (reading_told filled) wanted result answer.new }
 {
-    let tables = TableWords {
-        head: Head {
-            features: features as usize,
-            attributes: attributes as usize,
-            model: model as usize,
-        },
+    let tables = tables_told(
+        features,
+        attributes,
+        model,
         expressions,
         entries,
         relations,
         comparisons,
         queries,
         kinds,
-    };
+    );
     let found = find(&tables, reading_told(filled), wanted);
     match found {
         Ok(Some(c)) => {
@@ -185,19 +210,17 @@ pub extern "C" fn gelvomas_page(
         comparisons.now queries.now kinds.now)
         (reading_told filled) page.old result answer.new page.new }
 {
-    let tables = TableWords {
-        head: Head {
-            features: features as usize,
-            attributes: attributes as usize,
-            model: model as usize,
-        },
+    let tables = tables_told(
+        features,
+        attributes,
+        model,
         expressions,
         entries,
         relations,
         comparisons,
         queries,
         kinds,
-    };
+    );
     let written = write_page(&tables, reading_told(filled), page);
     match written {
         Ok(lines) => {

@@ -42,9 +42,9 @@ module _ {T : Tables} {entries relations comparisons queries : List ℕ} (R : So
   -- the four tests, one after another
   pub room_answers : {v : Verdict}
       → v ≡ or_else (refuse_if (ltb lent.entries (length entries)) (refusal 21 1 0 0))
-          (or_else (refuse_if (ltb lent.relations (length relations)) (refusal 21 2 0 0))
-              (or_else (refuse_if (ltb lent.comparisons (length comparisons)) (refusal 21 3 0 0))
-                  (refuse_if (ltb lent.queries (length queries)) (refusal 21 4 0 0))))
+      (or_else (refuse_if (ltb lent.relations (length relations)) (refusal 21 2 0 0))
+      (or_else (refuse_if (ltb lent.comparisons (length comparisons)) (refusal 21 3 0 0))
+      (refuse_if (ltb lent.queries (length queries)) (refusal 21 4 0 0))))
       → v ≡ first_of (room_conditions lent.entries lent.relations lent.comparisons lent.queries T)
   room_answers e =
       (rw (R.entries_are, R.relations_are, R.comparisons_are, R.queries_are) at e)

@@ -107,30 +107,15 @@ fn check_sized<const FORMS: usize>(
 }
 
 // Checks 15 to 19 and 25 at each permitted configuration, ascending, and the column rows, whatever the answer.
-pub fn check_each(
-    scope: Scope,
-    tables: &SplitTables,
-    reach: &[u64],
-    columns: &mut [u64],
-) -> Verdict
+pub fn check_each(scope: Scope, tables: &SplitTables, reach: &[u64], columns: &mut [u64]) -> Verdict
     requires { of_split tables.now (EachReadable scope) reach.now columns.old }
     ensures { (T : Tables)
         → of_split tables.now (TypingReads T scope) reach.now
         → Checked T scope.reading result columns.new }
 {
     if tables.comparisons.len() / 5 <= Limits::SMALL && tables.queries.len() / 4 <= Limits::SMALL {
-        return check_sized::<{ Limits::SMALL }>(
-            scope,
-            tables,
-            reach,
-            columns,
-        );
+        return check_sized::<{ Limits::SMALL }>(scope, tables, reach, columns);
     }
     // MOST_COMPARISONS is the same number.
-    check_sized::<{ Limits::MOST_QUERIES }>(
-        scope,
-        tables,
-        reach,
-        columns,
-    )
+    check_sized::<{ Limits::MOST_QUERIES }>(scope, tables, reach, columns)
 }

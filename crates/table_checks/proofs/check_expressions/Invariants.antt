@@ -7,4 +7,3 @@ use Rattle.table_checks.proofs.check_expressions.Given as goal
 
 abbrev pub invariant-loop-f : goal.invariant-loop-f
 invariant-loop-f l = FormsPassed (λ j. expression_fits l.n j (expression l.expressions j)) (length l.expressions / 3) l.f
-
