@@ -61,12 +61,7 @@ pub fn judge_into_rows(
 {
     let permitted = Row::load(tables.expression_rows, head.model);
     check_model_and_schema(permitted, tables)?;
-    fill_reach(
-        permitted,
-        tables.expression_rows,
-        tables.queries,
-        &mut *reach,
-    );
+    fill_reach(permitted, tables, &mut *reach);
     let scope = Scope {
         full: Row::full(head.features),
         permitted: permitted,
