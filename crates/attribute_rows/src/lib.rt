@@ -20,6 +20,7 @@ use decoders::{
     comparison_operands, decode_comparison, entry_attribute, entry_expression, relation_expression,
     relation_length,
 };
+use expression_rows::SplitTables;
 use report::{Comparison, Operands, Query};
 use sets::Row;
 
@@ -69,18 +70,17 @@ fn gathered_row(
     what: Gathered,
     a: usize,
     full: Row,
-    expression_rows: &[u64],
-    kinds: &[u16],
+    tables: &SplitTables,
     rows: &[u64],
 ) -> Row
-    requires { GatheredRead expression_rows.now rows.now (comparison_operands x) }
+    requires { GatheredRead tables.now.expression_rows.now rows.now (comparison_operands x) }
     ensures { result.words
-        ≡ gathered_step expression_rows.now rows.now full.words (shows what a (own_of (kind_in kinds.now) what x))
+        ≡ gathered_step tables.now.expression_rows.now rows.now full.words (shows what a (own_of (kind_in tables.now.kinds.now) what x))
         (comparison_operands x) }
 {
     match comparison_operands(x) {
         Operands::Nothing => {
-            if own_shows(what, x, a, kinds) {
+            if own_shows(what, x, a, tables.kinds) {
                 full
             } else {
                 Row::empty()
@@ -89,7 +89,7 @@ fn gathered_row(
         Operands::One(b) => Row::load(rows, b),
         Operands::Both(b, d) => Row::load(rows, b).join(Row::load(rows, d)),
         Operands::Choice(e, b, d) => choice_row(
-            Row::load(expression_rows, e),
+            Row::load(tables.expression_rows, e),
             Row::load(rows, b),
             Row::load(rows, d),
         ),
@@ -101,61 +101,55 @@ pub fn fill_gathered_rows(
     what: Gathered,
     a: usize,
     full: Row,
-    expression_rows: &[u64],
-    comparisons: &[u16],
-    kinds: &[u16],
+    tables: &SplitTables,
     rows: &mut [u64],
 )
-    requires { GatheredReadable expression_rows.now comparisons.now kinds.now full.words rows.old }
-    ensures { (T : Tables) → GatheredReads T expression_rows.now comparisons.now kinds.now full.words
+    requires { GatheredReadable tables.now.expression_rows.now tables.now.comparisons.now tables.now.kinds.now full.words rows.old }
+    ensures { (T : Tables)
+        → GatheredReads T tables.now.expression_rows.now tables.now.comparisons.now tables.now.kinds.now full.words
         → rows.new ≡ written (concat (comparison_count T) (gathered_row T what a)) rows.old }
 {
-    let count = comparisons.len() / 5;
+    let count = tables.comparisons.len() / 5;
     for f in 0..count {
-        let x = decode_comparison(comparisons, f);
-        let r = gathered_row(x, what, a, full, expression_rows, kinds, rows);
+        let x = decode_comparison(tables.comparisons, f);
+        let r = gathered_row(x, what, a, full, tables, rows);
         r.store(rows, f);
     }
 }
 
 // Relation r, whose list starts at `start`: its list where it is present.
-fn relation_row(
-    r: usize,
-    start: usize,
-    a: usize,
-    expression_rows: &[u64],
-    relation_entries: &[u16],
-    relations: &[u16],
-) -> Row
-    requires { SomeRelation expression_rows.now relation_entries.now relations.now r start }
-    ensures { (T : Tables) → RelationAt T expression_rows.now relation_entries.now relations.now r start
+fn relation_row(r: usize, start: usize, a: usize, tables: &SplitTables) -> Row
+    requires { SomeRelation tables.now.expression_rows.now tables.now.relation_entries.now tables.now.relations.now r start }
+    ensures { (T : Tables)
+        → RelationAt T tables.now.expression_rows.now tables.now.relation_entries.now tables.now.relations.now r start
         → result.words ≡ relation_row T a r }
 {
-    let count = relation_length(relations, r);
-    let x = relation_expression(relations, r);
-    let listed = list_row(start, count, a, expression_rows, relation_entries);
-    let present = Row::load(expression_rows, x);
+    let count = relation_length(tables.relations, r);
+    let x = relation_expression(tables.relations, r);
+    let listed = list_row(
+        start,
+        count,
+        a,
+        tables.expression_rows,
+        tables.relation_entries,
+    );
+    let present = Row::load(tables.expression_rows, x);
     listed.intersect(present)
 }
 
 // Fills `relation_rows` with the rows of all relations.
-pub fn fill_relation_rows(
-    a: usize,
-    expression_rows: &[u64],
-    relation_entries: &[u16],
-    relations: &[u16],
-    relation_rows: &mut [u64],
-)
-    requires { RelationRowReadable expression_rows.now relation_entries.now relations.now relation_rows.old }
-    ensures { (T : Tables) → RelationRowReads T expression_rows.now relation_entries.now relations.now
+pub fn fill_relation_rows(a: usize, tables: &SplitTables, relation_rows: &mut [u64])
+    requires { RelationRowReadable tables.now.expression_rows.now tables.now.relation_entries.now tables.now.relations.now relation_rows.old }
+    ensures { (T : Tables)
+        → RelationRowReads T tables.now.expression_rows.now tables.now.relation_entries.now tables.now.relations.now
         → relation_rows.new ≡ written (concat (relation_count T) (relation_row T a)) relation_rows.old }
 {
-    let count = relations.len() / 2;
+    let count = tables.relations.len() / 2;
     let mut start = 0;
     for r in 0..count {
-        let row = relation_row(r, start, a, expression_rows, relation_entries, relations);
+        let row = relation_row(r, start, a, tables);
         row.store(relation_rows, r);
-        start += relation_length(relations, r);
+        start += relation_length(tables.relations, r);
     }
 }
 

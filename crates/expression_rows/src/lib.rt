@@ -83,22 +83,15 @@ pub fn check_permitted(permitted: Row) -> Verdict
 }
 
 // Check 14 of relation r, which has `count` entries from `start` on; `present` has the permitted configurations where it is present.
-fn check_list(
-    present: Row,
-    r: usize,
-    start: usize,
-    count: usize,
-    expression_rows: &[u64],
-    relation_entries: &[u16],
-) -> Verdict
-    requires { ListRead expression_rows.now relation_entries.now start count }
-    ensures { result ≡ list_rule expression_rows.now present.words relation_entries.now r start count }
+fn check_list(present: Row, r: usize, start: usize, count: usize, tables: &SplitTables) -> Verdict
+    requires { ListRead tables.now.expression_rows.now tables.now.relation_entries.now start count }
+    ensures { result ≡ list_rule tables.now.expression_rows.now present.words tables.now.relation_entries.now r start count }
 {
     for i in 0..count {
         let k = start + i;
-        let x = entry_expression(relation_entries, k);
-        if !present.meets(expression_rows, x) {
-            let a = entry_attribute(relation_entries, k);
+        let x = entry_expression(tables.relation_entries, k);
+        if !present.meets(tables.expression_rows, x) {
+            let a = entry_attribute(tables.relation_entries, k);
             return Err(Refusal {
                 number: 14,
                 place: r as u64,
@@ -111,47 +104,31 @@ fn check_list(
 }
 
 // Checks 13 and 14 of relation r, whose list starts at `start`.
-fn check_relation(
-    permitted: Row,
-    r: usize,
-    start: usize,
-    expression_rows: &[u64],
-    relation_entries: &[u16],
-    relations: &[u16],
-) -> Verdict
-    requires { RelationRead expression_rows.now relation_entries.now relations.now r start }
-    ensures { result ≡ relation_rule expression_rows.now permitted.words relation_entries.now relations.now r start }
+fn check_relation(permitted: Row, r: usize, start: usize, tables: &SplitTables) -> Verdict
+    requires { RelationRead tables.now.expression_rows.now tables.now.relation_entries.now tables.now.relations.now r start }
+    ensures { result ≡ relation_rule tables.now.expression_rows.now permitted.words tables.now.relation_entries.now
+        tables.now.relations.now r start }
 {
-    let x = relation_expression(relations, r);
-    let count = relation_length(relations, r);
-    let own = Row::load(expression_rows, x);
+    let x = relation_expression(tables.relations, r);
+    let count = relation_length(tables.relations, r);
+    let own = Row::load(tables.expression_rows, x);
     let present = permitted.intersect(own);
     refuse_if(present.is_empty(), 13, r)?;
-    check_list(present, r, start, count, expression_rows, relation_entries)
+    check_list(present, r, start, count, tables)
 }
 
-// Checks 13 and 14, relation by relation, of tables whose expression rows `expression_rows` starts with.
-pub fn check_schema(
-    permitted: Row,
-    expression_rows: &[u64],
-    relation_entries: &[u16],
-    relations: &[u16],
-) -> Verdict
-    requires { SchemaReadable expression_rows.now permitted.words relation_entries.now relations.now }
-    ensures { (T : Tables) → SchemaReads T expression_rows.now permitted.words relation_entries.now relations.now
+// Checks 13 and 14, relation by relation, of tables that have passed the form checks.
+pub fn check_schema(permitted: Row, tables: &SplitTables) -> Verdict
+    requires { SchemaReadable tables.now.expression_rows.now permitted.words tables.now.relation_entries.now tables.now.relations.now }
+    ensures { (T : Tables)
+        → SchemaReads T tables.now.expression_rows.now permitted.words tables.now.relation_entries.now
+        tables.now.relations.now
         → result ≡ schema_check T }
 {
     let mut start = 0;
-    for r in 0..relations.len() / 2 {
-        check_relation(
-            permitted,
-            r,
-            start,
-            expression_rows,
-            relation_entries,
-            relations,
-        )?;
-        start += relation_length(relations, r);
+    for r in 0..tables.relations.len() / 2 {
+        check_relation(permitted, r, start, tables)?;
+        start += relation_length(tables.relations, r);
     }
     Ok(())
 }

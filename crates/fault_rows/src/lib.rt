@@ -24,6 +24,16 @@ use expression_rows::{Scope, SplitTables};
 use report::{Limits, Query, Reading};
 use sets::{AttributeSet, Row};
 
+// A question of the first phase: is the item, an attribute or a relation, at fault in the form, and where, of the configurations in `reached`, which are
+// those that reach the form? `listed` is the row of the form's own list.
+#[derive(Clone, Copy)]
+struct Question {
+    form: Query,
+    listed: Row,
+    reached: Row,
+    item: usize,
+}
+
 // The configurations that one of two rows has and the other lacks.
 fn unequal_row(x: Row, y: Row) -> Row
     ensures { result.words ≡ unequal_row x.words y.words }
@@ -31,40 +41,36 @@ fn unequal_row(x: Row, y: Row) -> Row
     x.minus(y).join(y.minus(x))
 }
 
-// The configurations of `reached` at which relation r is absent, if it is item a.
-fn absent_row(reached: Row, r: usize, a: usize, expression_rows: &[u64], relations: &[u16]) -> Row
-    requires { AbsentRead expression_rows.now relations.now r }
-    ensures { result.words ≡ absent_row expression_rows.now reached.words relations.now a r }
+// The configurations that reach the form at which relation r is absent, if it is the item.
+fn absent_row(question: &Question, r: usize, tables: &SplitTables) -> Row
+    requires { AbsentRead tables.now.expression_rows.now tables.now.relations.now r }
+    ensures { result.words ≡ absent_row tables.now.expression_rows.now question.now.reached.words tables.now.relations.now question.now.item r }
 {
-    if a == r {
-        let x = relation_expression(relations, r);
-        reached.minus(Row::load(expression_rows, x))
+    if question.item == r {
+        let x = relation_expression(tables.relations, r);
+        question.reached.minus(Row::load(tables.expression_rows, x))
     } else {
         Row::empty()
     }
 }
 
-// The configurations at which item a is at fault in a query form: all of those in `reached`, perhaps others. `listed` is the row of the form's
-// own list; `named_rows` and `form_rows`, of which only those of lower forms are read, have the rows of attribute a.
+// The configurations at which the item is at fault in the form: all of those that reach it, perhaps others. `named_rows` and `form_rows`, of which only
+// those of lower forms are read, have the rows of the item.
 fn form_faults(
-    x: Query,
-    listed: Row,
-    reached: Row,
-    a: usize,
-    expression_rows: &[u64],
-    relations: &[u16],
+    question: &Question,
+    tables: &SplitTables,
     named_rows: &[u64],
     form_rows: &[u64],
 ) -> Row
-    requires { FaultRead expression_rows.now relations.now named_rows.now form_rows.now x }
-    ensures { result.words ≡ fault_step expression_rows.now relations.now named_rows.now form_rows.now
-        listed.words reached.words a x }
+    requires { FaultRead tables.now.expression_rows.now tables.now.relations.now named_rows.now form_rows.now question.now.form }
+    ensures { result.words ≡ fault_step tables.now.expression_rows.now tables.now.relations.now named_rows.now
+        form_rows.now question.now.listed.words question.now.reached.words question.now.item question.now.form }
 {
-    match x {
+    match question.form {
         Query::Malformed | Query::Empty | Query::Choice(_, _, _) => Row::empty(),
-        Query::Relation(r) => absent_row(reached, r, a, expression_rows, relations),
+        Query::Relation(r) => absent_row(question, r, tables),
         Query::Select(f, b) => Row::load(named_rows, f).minus(Row::load(form_rows, b)),
-        Query::Project(_, b) => listed.minus(Row::load(form_rows, b)),
+        Query::Project(_, b) => question.listed.minus(Row::load(form_rows, b)),
         Query::Product(b, d) => Row::load(form_rows, b).intersect(Row::load(form_rows, d)),
         Query::Union(b, d) | Query::Intersection(b, d) => {
             unequal_row(Row::load(form_rows, b), Row::load(form_rows, d))
@@ -72,38 +78,29 @@ fn form_faults(
     }
 }
 
-// Relation r is item a, and present at a configuration of `reached`.
-fn is_present_in(
-    reached: Row,
-    r: usize,
-    a: usize,
-    expression_rows: &[u64],
-    relations: &[u16],
-) -> bool
-    requires { AbsentRead expression_rows.now relations.now r }
-    ensures { result ≡ present_in expression_rows.now reached.words relations.now a r }
+// Relation r is the item, and present at a configuration that reaches the form.
+fn is_present_in(question: &Question, r: usize, tables: &SplitTables) -> bool
+    requires { AbsentRead tables.now.expression_rows.now tables.now.relations.now r }
+    ensures { result ≡ present_in tables.now.expression_rows.now question.now.reached.words tables.now.relations.now question.now.item r }
 {
-    a == r && reached.meets(expression_rows, relation_expression(relations, r))
+    question.item == r
+        && question.reached.meets(
+            tables.expression_rows,
+            relation_expression(tables.relations, r),
+        )
 }
 
-// A query form asks for item a, and finds it at a configuration of `reached`, which has those that reach the form. `listed` and `form_rows` are as in
-// form_faults.
-fn is_found(
-    x: Query,
-    listed: Row,
-    reached: Row,
-    a: usize,
-    expression_rows: &[u64],
-    relations: &[u16],
-    form_rows: &[u64],
-) -> bool
-    requires { FormRead expression_rows.now relations.now form_rows.now x }
-    ensures { result ≡ found_step expression_rows.now relations.now form_rows.now listed.words reached.words a x }
+// The form asks for the item, and finds it at a configuration that reaches the form. `form_rows` is as in form_faults.
+fn is_found(question: &Question, tables: &SplitTables, form_rows: &[u64]) -> bool
+    requires { FormRead tables.now.expression_rows.now tables.now.relations.now form_rows.now question.now.form }
+    ensures { result ≡ found_step tables.now.expression_rows.now tables.now.relations.now form_rows.now question.now.listed.words
+        question.now.reached.words question.now.item question.now.form }
 {
-    match x {
-        Query::Relation(r) => is_present_in(reached, r, a, expression_rows, relations),
-        Query::Project(_, b) => !listed
-            .intersect(reached)
+    match question.form {
+        Query::Relation(r) => is_present_in(question, r, tables),
+        Query::Project(_, b) => !question
+            .listed
+            .intersect(question.reached)
             .intersect(Row::load(form_rows, b))
             .is_empty(),
         Query::Malformed
@@ -116,24 +113,15 @@ fn is_found(
     }
 }
 
-// The reading does not hold item a against the form where it is missing.
-fn is_spared(
-    reading: Reading,
-    x: Query,
-    listed: Row,
-    reached: Row,
-    a: usize,
-    expression_rows: &[u64],
-    relations: &[u16],
-    form_rows: &[u64],
-) -> bool
-    requires { FormRead expression_rows.now relations.now form_rows.now x }
-    ensures { result ≡ spared_step reading expression_rows.now relations.now form_rows.now listed.words
-        reached.words a x }
+// The reading does not hold the item against the form where it is missing.
+fn is_spared(reading: Reading, question: &Question, tables: &SplitTables, form_rows: &[u64]) -> bool
+    requires { FormRead tables.now.expression_rows.now tables.now.relations.now form_rows.now question.now.form }
+    ensures { result ≡ spared_step reading tables.now.expression_rows.now tables.now.relations.now form_rows.now
+        question.now.listed.words question.now.reached.words question.now.item question.now.form }
 {
     match reading {
         Reading::Strict => false,
-        Reading::Filled => is_found(x, listed, reached, a, expression_rows, relations, form_rows),
+        Reading::Filled => is_found(question, tables, form_rows),
     }
 }
 
@@ -155,51 +143,32 @@ fn spare_item(a: usize, q: usize, spared_sets: &mut [u64])
     spared_sets[q] = all.bits;
 }
 
-// Item a in form q: one that is spared goes to set q of `spared_sets`, and of any other row q of `fault_rows` is joined with the configurations of
-// `reached`, which has those that reach the form, at which it is at fault.
+// The item in form q: one that is spared goes to set q of `spared_sets`, and of any other row q of `fault_rows` is joined with the configurations that
+// reach the form and at which it is at fault.
 fn judge_item(
     reading: Reading,
-    x: Query,
-    listed: Row,
-    reached: Row,
-    a: usize,
+    question: &Question,
     q: usize,
-    expression_rows: &[u64],
-    relations: &[u16],
+    tables: &SplitTables,
     named_rows: &[u64],
     form_rows: &[u64],
     fault_rows: &mut [u64],
     spared_sets: &mut [u64],
 )
-    requires { ItemRead expression_rows.now relations.now named_rows.now form_rows.now fault_rows.old spared_sets.old x a q }
-    ensures { ItemJudged (spared_step reading expression_rows.now relations.now form_rows.now listed.words
-        reached.words a x) (row_intersect 16 (fault_step expression_rows.now relations.now named_rows.now
-        form_rows.now listed.words reached.words a x) reached.words) a q fault_rows.old
+    requires { ItemRead tables.now.expression_rows.now tables.now.relations.now named_rows.now form_rows.now fault_rows.old
+        spared_sets.old question.now.form question.now.item q }
+    ensures { ItemJudged (spared_step reading tables.now.expression_rows.now tables.now.relations.now form_rows.now
+        question.now.listed.words question.now.reached.words question.now.item question.now.form) (row_intersect 16
+        (fault_step tables.now.expression_rows.now tables.now.relations.now named_rows.now form_rows.now
+        question.now.listed.words question.now.reached.words question.now.item question.now.form)
+        question.now.reached.words) question.now.item q fault_rows.old
         fault_rows.new spared_sets.old spared_sets.new }
 {
-    if is_spared(
-        reading,
-        x,
-        listed,
-        reached,
-        a,
-        expression_rows,
-        relations,
-        form_rows,
-    ) {
-        spare_item(a, q, spared_sets);
+    if is_spared(reading, question, tables, form_rows) {
+        spare_item(question.item, q, spared_sets);
     } else {
-        let faults = form_faults(
-            x,
-            listed,
-            reached,
-            a,
-            expression_rows,
-            relations,
-            named_rows,
-            form_rows,
-        );
-        join_fault(faults.intersect(reached), q, fault_rows);
+        let faults = form_faults(question, tables, named_rows, form_rows);
+        join_fault(faults.intersect(question.reached), q, fault_rows);
     }
 }
 
@@ -207,10 +176,7 @@ fn judge_item(
 fn type_forms(
     reading: Reading,
     a: usize,
-    expression_rows: &[u64],
-    project_entries: &[u16],
-    relations: &[u16],
-    queries: &[u16],
+    tables: &SplitTables,
     reach: &[u64],
     named_rows: &[u64],
     relation_rows: &[u64],
@@ -218,49 +184,56 @@ fn type_forms(
     fault_rows: &mut [u64],
     spared_sets: &mut [u64],
 )
-    requires { FormRowsReadable reading expression_rows.now project_entries.now relations.now queries.now reach.now
-        named_rows.now relation_rows.now a form_rows.old fault_rows.old spared_sets.old }
+    requires { FormRowsReadable reading tables.now.expression_rows.now tables.now.project_entries.now tables.now.relations.now
+        tables.now.queries.now reach.now named_rows.now relation_rows.now a form_rows.old fault_rows.old spared_sets.old }
     ensures { (T : Tables)
-        → FormRowsReads T reading expression_rows.now project_entries.now relations.now
-        queries.now reach.now named_rows.now relation_rows.now a fault_rows.old
-        spared_sets.old
+        → FormRowsReads T reading tables.now.expression_rows.now tables.now.project_entries.now
+        tables.now.relations.now tables.now.queries.now reach.now named_rows.now relation_rows.now
+        a fault_rows.old spared_sets.old
         → FormsFilled T reading a form_rows.new fault_rows.old fault_rows.new
         spared_sets.old spared_sets.new }
 {
-    let count = queries.len() / 4;
+    let count = tables.queries.len() / 4;
     let mut start = 0;
     for q in 0..count {
-        let x = decode_query(queries, q);
+        let x = decode_query(tables.queries, q);
         let n = project_length(x);
-        let listed = list_row(start, n, a, expression_rows, project_entries);
-        let reached = Row::load(reach, q);
+        let listed = list_row(start, n, a, tables.expression_rows, tables.project_entries);
+        let question = Question {
+            form: x,
+            listed,
+            reached: Row::load(reach, q),
+            item: a,
+        };
         judge_item(
             reading,
-            x,
-            listed,
-            reached,
-            a,
+            &question,
             q,
-            expression_rows,
-            relations,
+            tables,
             named_rows,
             form_rows,
             fault_rows,
             spared_sets,
         );
-        let row = set_row(x, listed, expression_rows, relation_rows, form_rows);
+        let row = set_row(x, listed, tables.expression_rows, relation_rows, form_rows);
         row.store(form_rows, q);
         start += n;
     }
 }
 
 // Stores the column row of attribute a; `form_rows` has the rows of attribute a.
-fn store_column(permitted: Row, a: usize, queries: &[u16], form_rows: &[u64], columns: &mut [u64])
-    requires { ColumnRead queries.now form_rows.now a columns.old }
-    ensures { columns.new ≡ with_row 16 columns.old a (stored_column permitted.words queries.now
+fn store_column(
+    permitted: Row,
+    a: usize,
+    tables: &SplitTables,
+    form_rows: &[u64],
+    columns: &mut [u64],
+)
+    requires { ColumnRead tables.now.queries.now form_rows.now a columns.old }
+    ensures { columns.new ≡ with_row 16 columns.old a (stored_column permitted.words tables.now.queries.now
         form_rows.now) }
 {
-    let last = queries.len() / 4 - 1;
+    let last = tables.queries.len() / 4 - 1;
     let shown = Row::load(form_rows, last);
     let column = shown.intersect(permitted);
     column.store(columns, a);
@@ -286,29 +259,12 @@ pub fn fill_faults(
     let mut relation_rows = [0; Limits::MOST_RELATIONS * Row::WORDS];
     let mut form_rows = [0; Limits::MOST_QUERIES * Row::WORDS];
     for a in 0..scope.items {
-        fill_gathered_rows(
-            Gathered::Names,
-            a,
-            scope.full,
-            tables.expression_rows,
-            tables.comparisons,
-            tables.kinds,
-            &mut named_rows,
-        );
-        fill_relation_rows(
-            a,
-            tables.expression_rows,
-            tables.relation_entries,
-            tables.relations,
-            &mut relation_rows,
-        );
+        fill_gathered_rows(Gathered::Names, a, scope.full, tables, &mut named_rows);
+        fill_relation_rows(a, tables, &mut relation_rows);
         type_forms(
             scope.reading,
             a,
-            tables.expression_rows,
-            tables.project_entries,
-            tables.relations,
-            tables.queries,
+            tables,
             reach,
             &named_rows,
             &relation_rows,
@@ -316,7 +272,7 @@ pub fn fill_faults(
             fault_rows,
             spared_sets,
         );
-        store_column(scope.permitted, a, tables.queries, &form_rows, columns);
+        store_column(scope.permitted, a, tables, &form_rows, columns);
     }
 }
 

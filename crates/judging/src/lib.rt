@@ -32,18 +32,15 @@ pub const COLUMN_WORDS: usize = AttributeSet::MOST_ATTRIBUTES * Row::WORDS;
 const SMALL_WORDS: usize = Limits::SMALL * Row::WORDS;
 
 // Checks 12 to 14, where these configurations are permitted.
-fn check_model_and_schema(
-    permitted: Row,
-    expression_rows: &[u64],
-    relation_entries: &[u16],
-    relations: &[u16],
-) -> Verdict
-    requires { SchemaReadable expression_rows.now permitted.words relation_entries.now relations.now }
-    ensures { (T : Tables) → SchemaReads T expression_rows.now permitted.words relation_entries.now relations.now
+fn check_model_and_schema(permitted: Row, tables: &SplitTables) -> Verdict
+    requires { SchemaReadable tables.now.expression_rows.now permitted.words tables.now.relation_entries.now tables.now.relations.now }
+    ensures { (T : Tables)
+        → SchemaReads T tables.now.expression_rows.now permitted.words tables.now.relation_entries.now
+        tables.now.relations.now
         → result ≡ model_and_schema_check T }
 {
     check_permitted(permitted)?;
-    check_schema(permitted, expression_rows, relation_entries, relations)
+    check_schema(permitted, tables)
 }
 
 // ---- given expression rows
@@ -63,18 +60,8 @@ pub fn judge_into_rows(
         → Judged T reading result reach.old columns.old reach.new columns.new }
 {
     let permitted = Row::load(tables.expression_rows, head.model);
-    check_model_and_schema(
-        permitted,
-        tables.expression_rows,
-        tables.relation_entries,
-        tables.relations,
-    )?;
-    fill_reach(
-        permitted,
-        tables.expression_rows,
-        tables.queries,
-        &mut *reach,
-    );
+    check_model_and_schema(permitted, tables)?;
+    fill_reach(permitted, tables, &mut *reach);
     let scope = Scope {
         full: Row::full(head.features),
         permitted: permitted,

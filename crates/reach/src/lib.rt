@@ -6,6 +6,7 @@ ghost use Rattle.report.specs.Tables.{Tables};
 ghost use Rattle.reach.specs.Reach.{joined, reach_rows, ReachReads, ReachReadable, WalkReady, Walked};
 
 use decoders::{decode_query, query_operands};
+use expression_rows::SplitTables;
 use report::Operands;
 use sets::Row;
 
@@ -20,39 +21,33 @@ fn join_row(form: usize, reached: Row, out: &mut [u64])
 // Joins `reached` into row `form` of out, and into the rows of the forms below it the configurations that it passes on to them: a choice those
 // of its expression to its first alternative and the others to its second, any other form all to each operand. Operands are lower, so the
 // form number falls at each call.
-fn walk(form: usize, reached: Row, expression_rows: &[u64], queries: &[u16], out: &mut [u64])
-    requires { WalkReady queries.now expression_rows.now reached.words out.old form }
-    ensures { Walked queries.now expression_rows.now form reached.words out.old out.new }
+fn walk(form: usize, reached: Row, tables: &SplitTables, out: &mut [u64])
+    requires { WalkReady tables.now.queries.now tables.now.expression_rows.now reached.words out.old form }
+    ensures { Walked tables.now.queries.now tables.now.expression_rows.now form reached.words out.old out.new }
 {
     join_row(form, reached, out);
-    match query_operands(decode_query(queries, form)) {
+    match query_operands(decode_query(tables.queries, form)) {
         Operands::Nothing => {}
-        Operands::One(b) => walk(b, reached, expression_rows, queries, out),
+        Operands::One(b) => walk(b, reached, tables, out),
         Operands::Both(a, b) => {
-            walk(a, reached, expression_rows, queries, out);
-            walk(b, reached, expression_rows, queries, out);
+            walk(a, reached, tables, out);
+            walk(b, reached, tables, out);
         }
         Operands::Choice(e, b, d) => {
-            let holds = Row::load(expression_rows, e);
+            let holds = Row::load(tables.expression_rows, e);
             let chosen = reached.intersect(holds);
             let others = reached.minus(holds);
-            walk(b, chosen, expression_rows, queries, out);
-            walk(d, others, expression_rows, queries, out);
+            walk(b, chosen, tables, out);
+            walk(d, others, tables, out);
         }
     }
 }
 
 // Fills `out`, whose words are all 0, with the reach rows, by the walk from the report with the permitted configurations.
-pub fn fill_reach(permitted: Row, expression_rows: &[u64], queries: &[u16], out: &mut [u64])
-    requires { ReachReadable queries.now expression_rows.now permitted.words out.old }
-    ensures { (T : Tables) → ReachReads T queries.now expression_rows.now permitted.words
+pub fn fill_reach(permitted: Row, tables: &SplitTables, out: &mut [u64])
+    requires { ReachReadable tables.now.queries.now tables.now.expression_rows.now permitted.words out.old }
+    ensures { (T : Tables) → ReachReads T tables.now.queries.now tables.now.expression_rows.now permitted.words
         → out.new ≡ reach_rows T (length out.old) }
 {
-    walk(
-        queries.len() / 4 - 1,
-        permitted,
-        expression_rows,
-        queries,
-        out,
-    );
+    walk(tables.queries.len() / 4 - 1, permitted, tables, out);
 }

@@ -66,33 +66,18 @@ fn check_rows(
 
 // The second phase, 25: a row of the first phase that is empty becomes that of the configurations at which kinds differ. Done when the first phase has
 // returned, so that the rows of clashes and those from which the first phase is worked out are not on the stack together.
-fn add_second_phase(
-    full: Row,
-    expression_rows: &[u64],
-    comparisons: &[u16],
-    queries: &[u16],
-    kinds: &[u16],
-    reach: &[u64],
-    fault_rows: &mut [u64],
-)
-    requires { SecondReadable full.words expression_rows.now comparisons.now queries.now kinds.now reach.now fault_rows.old }
+fn add_second_phase(full: Row, tables: &SplitTables, reach: &[u64], fault_rows: &mut [u64])
+    requires { SecondReadable full.words tables.now.expression_rows.now tables.now.comparisons.now tables.now.queries.now
+        tables.now.kinds.now reach.now fault_rows.old }
     ensures { (T : Tables) (R : Reading)
-        → SecondReads T R full.words expression_rows.now comparisons.now queries.now kinds.now
-        reach.now fault_rows.old
+        → SecondReads T R full.words tables.now.expression_rows.now tables.now.comparisons.now
+        tables.now.queries.now tables.now.kinds.now reach.now fault_rows.old
         → fault_rows.new ≡ written (concat (query_count T) (failing_row T R)) fault_rows.old }
 {
     let mut clash_rows = [0; Limits::MOST_COMPARISONS * Row::WORDS];
     // a row of clashes is not of one attribute: 0 stands for any
-    fill_gathered_rows(
-        Gathered::Clashes,
-        0,
-        full,
-        expression_rows,
-        comparisons,
-        kinds,
-        &mut clash_rows,
-    );
-    add_clashes(queries, reach, &clash_rows, fault_rows);
+    fill_gathered_rows(Gathered::Clashes, 0, full, tables, &mut clash_rows);
+    add_clashes(tables.queries, reach, &clash_rows, fault_rows);
 }
 
 // Checks 15 to 19 and 25 by rows of all configurations, and the column rows, whatever the answer.
@@ -112,15 +97,7 @@ fn check_by_rows(scope: Scope, tables: &SplitTables, reach: &[u64], columns: &mu
         &mut spared_sets,
         columns,
     );
-    add_second_phase(
-        scope.full,
-        tables.expression_rows,
-        tables.comparisons,
-        tables.queries,
-        tables.kinds,
-        reach,
-        &mut fault_rows,
-    );
+    add_second_phase(scope.full, tables, reach, &mut fault_rows);
     check_rows(tables, reach, &spared_sets, &fault_rows)
 }
 

@@ -23,7 +23,7 @@ overflow_add-start c =
 pub loop-q-preserved : goal.loop-q-preserved
 loop-q-preserved c =
     typing_more c.loop-q.invariant c.loop-q-test.true c.decode_query-x.ensures c.project_length-n.ensures c.list_row-listed.ensures
-    c.requires c.load-reached.ensures c.judge_item.ensures c.judge_item.auto.fault_rows
+    c.requires c.load.ensures c.judge_item.ensures c.judge_item.auto.fault_rows
     c.set_row-row.ensures c.store.auto.rows c.store.ensures
 
 pub returns : goal.returns
