@@ -16,9 +16,8 @@ use Rattle.report.proofs.FileLaws.{file_long}
 use Rattle.harbour_file.specs.declared.Sizes.{Sizes}
 use Rattle.std.specs.Prelude.{Result, Ok, Err}
 use Rattle.harbour_file.specs.declared.BadLine.{BadLine}
-use Rattle.harbour_file.specs.declared.FileWords.{FileWords}
 use Rattle.harbour_file.specs.Reading.{parts_from, file_parts, part_at, last_part, file_from}
-use Rattle.harbour_file.specs.Filing.{head_of, sizes_of, outcome_of, groups_left, file_left, Filed, Starts, Held}
+use Rattle.harbour_file.specs.Filing.{head_of, FileWords, sizes_of, outcome_of, groups_left, file_left, Filed, Starts, Held}
 use Rattle.harbour_file.proofs.GroupSteps.{lines_start, head_word, short_file, long_left, short_left}
 use Rattle.harbour_file.proofs.FirstBadLine.{file_read}
 

@@ -18,11 +18,10 @@ use Rattle.reading.specs.declared.Broken.{Broken}
 use Rattle.reading.specs.Scanning.{on_step, line_at, Stored}
 use Rattle.reading.proofs.LineSteps.{line_width, stored_same}
 use Rattle.harbour_file.specs.declared.Place.{Place}
-use Rattle.harbour_file.specs.declared.FileWords.{FileWords}
 use Rattle.harbour_file.specs.Reading.{Part, part_of, with_line, group_lines_from, part_from, kind_part, parts_from}
 use Rattle.harbour_file.specs.Reading.{file_parts, part_at, last_part, file_from, read_file}
 use Rattle.harbour_file.specs.Filing.{lines_left, group_left, kinds_left, GroupRoom, GroupTaken}
-use Rattle.harbour_file.specs.Filing.{file_words, groups_left, file_left, Filed, Starts}
+use Rattle.harbour_file.specs.Filing.{FileWords, file_words, groups_left, file_left, Filed, Starts}
 
 -- ---- the words of a line, stored after those before them
 

@@ -11,7 +11,6 @@ use Rattle.harbour_file.specs.Reading.{Part, group_lines_from, group_numbered, p
 use Rattle.harbour_file.specs.declared.Place.{Place}
 use Rattle.harbour_file.specs.declared.Sizes.{Sizes}
 use Rattle.harbour_file.specs.declared.BadLine.{BadLine}
-use Rattle.harbour_file.specs.declared.FileWords.{FileWords}
 
 -- ---- a group
 
@@ -49,6 +48,16 @@ pub record GroupTaken (part : Part) (left : List ℕ) (most : ℕ) (answer : Pla
 abbrev pub head_of : List ℕ → Head
 head_of words = record { features = get_or words 0 0; attributes = get_or words 1 0; model = get_or words 2 0 }
 
+-- the words that are lent for the head and the tables
+pub record FileWords : Type 0 where
+  pub head : List ℕ
+  pub expressions : List ℕ
+  pub entries : List ℕ
+  pub relations : List ℕ
+  pub comparisons : List ℕ
+  pub queries : List ℕ
+  pub kinds : List ℕ
+
 abbrev pub file_words : List ℕ → List ℕ → List ℕ → List ℕ → List ℕ → List ℕ → List ℕ → FileWords
 file_words head expressions entries relations comparisons queries kinds = record {
   head = head;
@@ -59,6 +68,16 @@ file_words head expressions entries relations comparisons queries kinds = record
   queries = queries;
   kinds = kinds;
 }
+
+-- there is room for the head and for every table
+pub record Lent (lent : FileWords) : Type 0 where
+  pub head_room : 3 ≤ length lent.head
+  pub expressions_room : 768 ≤ length lent.expressions
+  pub entries_room : 1024 ≤ length lent.entries
+  pub relations_room : 64 ≤ length lent.relations
+  pub comparisons_room : 1280 ≤ length lent.comparisons
+  pub queries_room : 1024 ≤ length lent.queries
+  pub kinds_room : 64 ≤ length lent.kinds
 
 -- how many words each table has
 abbrev pub sizes_of : Tables → Sizes

@@ -1,11 +1,11 @@
-// Reading a harbour file into the words of its tables.
+// Reading a harbour file into lent tables.
 #![tactic(auto)]
 
-ghost use Rattle.std.specs.Prelude.{◌≡◌, ◌+◌};
+ghost use Rattle.std.specs.Prelude.{◌≡◌, ◌+◌, ◌≤◌, length};
 ghost use Rattle.report.specs.HarbourFile.{file_of};
 ghost use Rattle.harbour_file.specs.Reading.{group_lines_from, part_from, kind_part, file_parts, file_from};
 ghost use Rattle.harbour_file.specs.Filing.{lines_left, group_left, kinds_left, GroupRoom, GroupTaken};
-ghost use Rattle.harbour_file.specs.Filing.{head_of, groups_left, file_left, Filed};
+ghost use Rattle.harbour_file.specs.Filing.{head_of, file_words, Lent, groups_left, file_left, Filed};
 
 use reading::read_line;
 use report::{Head, Limits};
@@ -17,18 +17,6 @@ struct Place {
     at: usize,
     line: usize,
     end: usize,
-}
-
-// Room for the head and the tables of any file.
-#[derive(Drop)]
-pub struct FileWords {
-    pub head: [u16; 3],
-    pub expressions: [u16; Limits::MOST_EXPRESSIONS * 3],
-    pub entries: [u16; Limits::MOST_ENTRIES * 2],
-    pub relations: [u16; Limits::MOST_RELATIONS * 2],
-    pub comparisons: [u16; Limits::MOST_COMPARISONS * 5],
-    pub queries: [u16; Limits::MOST_QUERIES * 4],
-    pub kinds: [u16; AttributeSet::MOST_ATTRIBUTES],
 }
 
 // How many words of each table were read.
@@ -77,7 +65,8 @@ fn read_lines(
 }
 
 // The head line, which is the first.
-fn read_head(s: &[u8], head: &mut [u16; 3]) -> Place
+fn read_head(s: &[u8], head: &mut [u16]) -> Place
+    requires { 3 ≤ length head.old }
     ensures { GroupTaken (part_from s.now 0 0 1) (group_left s.now 0 0 1 head.old) 2 result head.new }
 {
     let start = Place {
@@ -104,7 +93,8 @@ fn read_kinds(s: &[u8], m: usize, from: Place, kinds: &mut [u16]) -> Place
 }
 
 // The head, from its three words.
-pub fn decode_head(words: &[u16; 3]) -> Head
+pub fn decode_head(words: &[u16]) -> Head
+    requires { 3 ≤ length words.now }
     ensures { result ≡ head_of words.now }
 {
     Head {
@@ -115,37 +105,45 @@ pub fn decode_head(words: &[u16; 3]) -> Head
 }
 
 // The groups in their order, each with its word, the words of its form and its range.
-fn read_groups(s: &[u8], words: &mut FileWords) -> Result<Sizes, BadLine>
-    ensures { Filed (file_from s.now (file_parts s.now)) (groups_left s.now words.old) result words.new }
+fn read_groups(
+    s: &[u8],
+    head: &mut [u16],
+    expressions: &mut [u16],
+    entries: &mut [u16],
+    relations: &mut [u16],
+    comparisons: &mut [u16],
+    queries: &mut [u16],
+    kinds: &mut [u16],
+) -> Result<Sizes, BadLine>
+    requires { Lent (file_words head.old expressions.old entries.old relations.old comparisons.old queries.old kinds.old) }
+    ensures { Filed (file_from s.now (file_parts s.now))
+        (groups_left s.now
+        (file_words head.old expressions.old entries.old relations.old comparisons.old
+        queries.old kinds.old)) result
+        (file_words head.new expressions.new entries.new relations.new comparisons.new
+        queries.new kinds.new) }
 {
-    let h = read_head(s, &mut words.head);
+    let h = read_head(s, head);
     let x = read_lines(
         s,
         b"(expression",
         3,
         Limits::MOST_EXPRESSIONS,
         h,
-        &mut words.expressions,
+        expressions,
     );
-    let e = read_lines(s, b"(entry", 2, Limits::MOST_ENTRIES, x, &mut words.entries);
-    let r = read_lines(
-        s,
-        b"(relation",
-        2,
-        Limits::MOST_RELATIONS,
-        e,
-        &mut words.relations,
-    );
+    let e = read_lines(s, b"(entry", 2, Limits::MOST_ENTRIES, x, entries);
+    let r = read_lines(s, b"(relation", 2, Limits::MOST_RELATIONS, e, relations);
     let c = read_lines(
         s,
         b"(comparison",
         5,
         Limits::MOST_COMPARISONS,
         r,
-        &mut words.comparisons,
+        comparisons,
     );
-    let q = read_lines(s, b"(query", 4, Limits::MOST_QUERIES, c, &mut words.queries);
-    let k = read_kinds(s, usize::from(words.head[1]), q, &mut words.kinds);
+    let q = read_lines(s, b"(query", 4, Limits::MOST_QUERIES, c, queries);
+    let k = read_kinds(s, usize::from(head[1]), q, kinds);
     if h.end == 0 {
         return Err(BadLine { number: 1 });
     }
@@ -165,12 +163,37 @@ fn read_groups(s: &[u8], words: &mut FileWords) -> Result<Sizes, BadLine>
 // The length of the longest file that is read.
 pub const LONGEST_FILE: usize = 65536;
 
-// The whole file: its head and its tables into the words. A longer one is not read.
-pub fn read_file(s: &[u8], words: &mut FileWords) -> Result<Sizes, BadLine>
-    ensures { Filed (file_of s.now) (file_left s.now words.old) result words.new }
+// The whole file: its head and its tables into the lent ones. A longer one is not read.
+// The tables are slices, and not the arrays of one struct, since a caller may lend longer ones (`Lent`).
+pub fn read_file(
+    s: &[u8],
+    head: &mut [u16],
+    expressions: &mut [u16],
+    entries: &mut [u16],
+    relations: &mut [u16],
+    comparisons: &mut [u16],
+    queries: &mut [u16],
+    kinds: &mut [u16],
+) -> Result<Sizes, BadLine>
+    requires { Lent (file_words head.old expressions.old entries.old relations.old comparisons.old queries.old kinds.old) }
+    ensures { Filed (file_of s.now)
+        (file_left s.now
+        (file_words head.old expressions.old entries.old relations.old comparisons.old
+        queries.old kinds.old)) result
+        (file_words head.new expressions.new entries.new relations.new comparisons.new
+        queries.new kinds.new) }
 {
     if LONGEST_FILE < s.len() {
         return Err(BadLine { number: 0 });
     }
-    read_groups(s, words)
+    read_groups(
+        s,
+        head,
+        expressions,
+        entries,
+        relations,
+        comparisons,
+        queries,
+        kinds,
+    )
 }

@@ -2,7 +2,7 @@
 use Rattle.std.specs.Prelude.{Ok, Err}
 use Prim.Native.Nat.{ℕ, ◌*◌, ◌%◌, ◌^◌, ◌≤◌}
 use mathlib.Core.Path.{◌≡◌, refl, sym, ap, ◌∙◌}
-use mathlib.Core.List.{List}
+use mathlib.Core.List.{List, [], ◌∷◌}
 use native.Mathlib.Omega.{arith}
 use lib.ListN.{length, take}
 use Rattle.sets.specs.Writing.{WrittenAt}
@@ -27,8 +27,7 @@ use Rattle.printing.proofs.PrintLaws.{accepted_print, accepted_room}
 use Rattle.printing.specs.PageRows.{page_text, PageRead}
 use Rattle.printing.proofs.PageLaws.{rows_page, page_room}
 use Rattle.harbour_file.specs.declared.Sizes.{Sizes}
-use Rattle.harbour_file.specs.declared.FileWords.{FileWords}
-use Rattle.harbour_file.specs.Filing.{head_of, Held}
+use Rattle.harbour_file.specs.Filing.{head_of, FileWords, file_words, Held}
 use Rattle.harbour_file.proofs.FileHeld.{held_tables}
 use Rattle.harbour_print.specs.declared.Layout.{Layout}
 use Rattle.harbour_print.specs.Layouts.{accepted_as, answer_as, file_as, text_as}
@@ -116,6 +115,25 @@ pub accepted_reads : {T : Tables} {permits columns : List ℕ} → Columns T per
 accepted_reads C = record { formed = C.formed; features = refl; permitting = C.permitting; shows = C.shows }
 
 -- ---- the print of a file
+
+-- the tables stand too where the head is decoded
+pub held_decoded : {T : Tables} {sizes : Sizes} {words : FileWords} → Held T sizes words → {head : Head} → head ≡ head_of words.head
+    → Held T sizes
+    (file_words (head.features ∷ head.attributes ∷ head.model ∷ []) words.expressions words.entries words.relations words.comparisons
+    words.queries words.kinds)
+held_decoded H e = record {
+  lengths = H.lengths;
+  features = ap (λ (h : Head). h.features) e ∙ H.features;
+  attributes = ap (λ (h : Head). h.attributes) e ∙ H.attributes;
+  model = ap (λ (h : Head). h.model) e ∙ H.model;
+  expressions_start = H.expressions_start;
+  entries_start = H.entries_start;
+  relations_start = H.relations_start;
+  comparisons_start = H.comparisons_start;
+  queries_start = H.queries_start;
+  kinds_start = H.kinds_start;
+  worked = H.worked;
+}
 
 -- the words that were read are the tables
 pub held_printed : (layout : Layout) {T : Tables} {sizes : Sizes} {words : FileWords} → Held T sizes words → {head : Head} → head ≡ head_of words.head

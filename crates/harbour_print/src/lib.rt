@@ -7,9 +7,9 @@ ghost use Rattle.report.specs.Tables.{Tables};
 ghost use Rattle.report.specs.HarbourFile.{File};
 ghost use Rattle.harbour_file.specs.Filing.{Held};
 ghost use Rattle.harbour_print.specs.Layouts.{file_as, text_as};
-ghost use Rattle.harbour_print.specs.Printing.{HeldReadable, Prints};
+ghost use Rattle.harbour_print.specs.Printing.{words_in, HeldReadable, Prints};
 
-use harbour_file::{FileWords, Sizes, decode_head, read_file};
+use harbour_file::{Sizes, decode_head, read_file};
 use printed::print_tables;
 use report::{Limits, TableWords};
 use sets::AttributeSet;
@@ -28,19 +28,19 @@ pub const LONGEST_PRINT: usize = 201653;
 // Room for every print.
 pub type PrintRoom = [u8; LONGEST_PRINT];
 
-// The print of tables that were read, which are so many of the first words of each array.
-fn print_read(sizes: Sizes, layout: Layout, words: &FileWords, out: &mut PrintRoom) -> usize
-    requires { HeldReadable sizes words.now }
-    ensures { (T : Tables) → Held T sizes words.now → Prints (file_as layout (File.holds T)) out.old out.new result }
+// The print of tables that were read, which are so many of the first words of the lent ones.
+fn print_read(sizes: Sizes, layout: Layout, lent: &TableWords, out: &mut [u8]) -> usize
+    requires { HeldReadable sizes (words_in lent.now) out.old }
+    ensures { (T : Tables) → Held T sizes (words_in lent.now) → Prints (file_as layout (File.holds T)) out.old out.new result }
 {
     let tables = TableWords {
-        head: decode_head(&words.head),
-        expressions: &words.expressions[..sizes.expressions],
-        entries: &words.entries[..sizes.entries],
-        relations: &words.relations[..sizes.relations],
-        comparisons: &words.comparisons[..sizes.comparisons],
-        queries: &words.queries[..sizes.queries],
-        kinds: &words.kinds[..sizes.kinds],
+        head: lent.head,
+        expressions: &lent.expressions[..sizes.expressions],
+        entries: &lent.entries[..sizes.entries],
+        relations: &lent.relations[..sizes.relations],
+        comparisons: &lent.comparisons[..sizes.comparisons],
+        queries: &lent.queries[..sizes.queries],
+        kinds: &lent.kinds[..sizes.kinds],
     };
     print_tables(&tables, layout, out)
 }
@@ -49,17 +49,36 @@ fn print_read(sizes: Sizes, layout: Layout, words: &FileWords, out: &mut PrintRo
 pub fn print_file(text: &[u8], layout: Layout, out: &mut PrintRoom) -> usize
     ensures { Prints (text_as layout text.now) out.old out.new result }
 {
-    let mut words = FileWords {
-        head: [0; 3],
-        expressions: [0; Limits::MOST_EXPRESSIONS * 3],
-        entries: [0; Limits::MOST_ENTRIES * 2],
-        relations: [0; Limits::MOST_RELATIONS * 2],
-        comparisons: [0; Limits::MOST_COMPARISONS * 5],
-        queries: [0; Limits::MOST_QUERIES * 4],
-        kinds: [0; AttributeSet::MOST_ATTRIBUTES],
-    };
-    match read_file(text, &mut words) {
+    let mut head = [0; 3];
+    let mut expressions = [0; Limits::MOST_EXPRESSIONS * 3];
+    let mut entries = [0; Limits::MOST_ENTRIES * 2];
+    let mut relations = [0; Limits::MOST_RELATIONS * 2];
+    let mut comparisons = [0; Limits::MOST_COMPARISONS * 5];
+    let mut queries = [0; Limits::MOST_QUERIES * 4];
+    let mut kinds = [0; AttributeSet::MOST_ATTRIBUTES];
+    let file = read_file(
+        text,
+        &mut head,
+        &mut expressions,
+        &mut entries,
+        &mut relations,
+        &mut comparisons,
+        &mut queries,
+        &mut kinds,
+    );
+    match file {
         Err(bad) => put_unread(out, 0, bad.number as u64),
-        Ok(sizes) => print_read(sizes, layout, &words, out),
+        Ok(sizes) => {
+            let lent = TableWords {
+                head: decode_head(&head),
+                expressions: &expressions,
+                entries: &entries,
+                relations: &relations,
+                comparisons: &comparisons,
+                queries: &queries,
+                kinds: &kinds,
+            };
+            print_read(sizes, layout, &lent, out)
+        }
     }
 }
