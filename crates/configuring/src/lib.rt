@@ -124,15 +124,7 @@ fn write_kept(
         new_entries.new new_relations.new new_comparisons.new new_queries.new }
 {
     let mut form_sets = [0; Limits::MOST_QUERIES];
-    fill_form_sets(
-        c,
-        tables.expression_rows,
-        tables.relation_entries,
-        tables.project_entries,
-        tables.relations,
-        tables.queries,
-        &mut form_sets,
-    );
+    fill_form_sets(c, tables, &mut form_sets);
     write_with(
         c,
         tables,
