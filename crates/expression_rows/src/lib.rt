@@ -47,8 +47,8 @@ pub fn fill_expression_rows(n: usize, expressions: &[u16], expression_rows: &mut
     let full = Row::full(n);
     for f in 0..expressions.len() / 3 {
         let x = decode_expression(expressions, f);
-        let r = expression_row(x, full, &*expression_rows);
-        r.store(&mut *expression_rows, f);
+        let r = expression_row(x, full, expression_rows);
+        r.store(expression_rows, f);
     }
 }
 

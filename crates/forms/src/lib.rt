@@ -210,13 +210,7 @@ fn check_tables(tables: &TableWords) -> Verdict
     ensures { result ≡ tables_check (tables_in tables.now) }
 {
     check_head(tables.head.features, tables.head.attributes)?;
-    check_lengths(
-        tables.expressions,
-        tables.entries,
-        tables.relations,
-        tables.comparisons,
-        tables.queries,
-    )?;
+    check_lengths(tables)?;
     check_contents(tables)
 }
 
