@@ -45,7 +45,7 @@ fn check_model_and_schema(permitted: Row, tables: &SplitTables) -> Verdict
 
 // ---- given expression rows
 
-// Checks 12 to 19 and 25 of tables that have passed the form checks, whose expression rows `expression_rows` starts with. Fills `reach` with the reach
+// Checks 12 to 19 and 25 of split tables, whose expression rows the first of their parts starts with. Fills `reach` with the reach
 // rows and `columns` with the column rows, unless 12 to 14 refuse; before, both are all 0.
 pub fn judge_into_rows(
     head: Head,
@@ -87,7 +87,7 @@ fn judge_with_reach<const WORDS: usize>(
     judge_into_rows(head, reading, tables, &mut reach, columns)
 }
 
-// Checks 12 to 19 and 25 of tables that have passed the form checks, whose expression rows `expression_rows` starts with. Fills `columns`, which is all 0,
+// Checks 12 to 19 and 25 of split tables, whose expression rows the first of their parts starts with. Fills `columns`, which is all 0,
 // with the column rows, unless 12 to 14 refuse.
 pub fn judge_into_columns(
     head: Head,
