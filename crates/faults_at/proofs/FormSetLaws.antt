@@ -14,14 +14,6 @@ use Rattle.faults_at.specs.SetsAt.{present_set, RelationSetsReadable, SetsReads,
 
 module _ {T : Tables} {c : ℕ} {expression_rows relation_entries project_entries relations queries : List ℕ}
     (R : FormSetsReads T c expression_rows relation_entries project_entries relations queries) where
-  -- words for the sets of 32 relations are enough
-  pub relations_readable : RelationSetsReadable expression_rows relation_entries relations c (replicate 32 0)
-  relations_readable = record {
-    tables = T;
-    reads = R.related;
-    room = rw R.related.relations_are (let m = (counts R.related.reads.formed).most2 in omega (arith, length-replicate {A = ℕ} 32 0));
-  }
-
   pub form_count : length queries / 4 ≡ query_count T
   form_count = ap (λ (t : List ℕ). length t / 4) R.queries_are
 
