@@ -3,14 +3,13 @@ use Prim.Native.Nat.{ℕ, ◌/◌, ◌≤◌}
 use mathlib.Core.Path.{◌≡◌, ap}
 use mathlib.Core.List.{List}
 use native.Mathlib.Omega.{arith}
-use lib.ListN.{length, replicate, length-replicate}
+use lib.ListN.{length, replicate}
 use Rattle.sets.specs.Lists.{table}
 use Rattle.sets.proofs.ListLaws.{numbers_are}
 use Rattle.report.specs.Tables.{Tables, relation_count, query_count}
 use Rattle.report.specs.Configuring.{written}
-use Rattle.report.proofs.FormedFacts.{counts}
 use Rattle.at_configuration.specs.AtConfiguration.{RelationReads}
-use Rattle.faults_at.specs.SetsAt.{present_set, RelationSetsReadable, SetsReads, SetsReadable, FormSetsReads}
+use Rattle.faults_at.specs.SetsAt.{present_set, SetsReads, SetsReadable, FormSetsReads}
 
 module _ {T : Tables} {c : ℕ} {expression_rows relation_entries project_entries relations queries : List ℕ}
     (R : FormSetsReads T c expression_rows relation_entries project_entries relations queries) where

@@ -1,22 +1,19 @@
 -- Laws of what is gathered from comparisons.
-use Prim.Native.Nat.{ℕ, ◌+◌, ◌/◌, ◌<◌, ◌≤◌}
+use Prim.Native.Nat.{ℕ, ◌+◌, ◌/◌, ◌<◌}
 use mathlib.Core.Path.{◌≡◌, sym, ap, ap₂, ◌∙◌}
 use mathlib.Core.List.{List}
 use lib.ListN.{length, set}
-use Rattle.sets.specs.Lists.{table}
-use Rattle.sets.proofs.ListLaws.{NumbersFilling, filling_none, filling_below, filling_place, filling_more, filling_all}
+use Rattle.sets.proofs.ListLaws.{NumbersFilling, filling_below, filling_more}
 use Rattle.report.specs.Tables.{Tables, comparison, kind_of, comparison_count, expression_count, kind_in}
 use Rattle.report.specs.Operands.{comparison_operands}
 use Rattle.report.specs.Typing.{gathered_of, gathered}
-use Rattle.report.specs.Configuring.{written}
 use Rattle.report.specs.Formed.{OperandsBelow}
 use Rattle.report.specs.declared.Comparison.{Comparison}
 use Rattle.report.specs.declared.Operands.{Operands}
 use Rattle.report.proofs.FormedFacts.{comparison_at, comparison_operands_lem}
 use Rattle.report.proofs.StepLaws.{gathered_in}
 use Rattle.report.proofs.OperandLaws.{choice_comparison}
-use Rattle.comparisons.specs.Gathering.{own_of, Narrow}
-use Rattle.comparisons.proofs.OwnLaws.{narrow_at}
+use Rattle.comparisons.specs.Gathering.{own_of}
 use Rattle.comparisons.specs.declared.Gathered.{Gathered}
 use Rattle.faults_at.specs.SetsAt.{ComparisonAt, SomeComparison, GatheredReadable, GatheredReads}
 

@@ -4,15 +4,14 @@ use mathlib.Core.Path.{◌≡◌, refl, sym, ap, ap₂, ◌∙◌}
 use mathlib.Core.Bool.{Bool, cond}
 use mathlib.Core.List.{List}
 use native.Mathlib.Numerals.{add-one}
-use native.Mathlib.Omega.{arith}
 use lib.ListN.{length, set}
 use Rattle.sets.specs.Lists.{table}
-use Rattle.sets.proofs.ListLaws.{NumbersFilling, filling_none, filling_place, filling_more, filling_all}
+use Rattle.sets.proofs.ListLaws.{NumbersFilling, filling_none, filling_more, filling_all}
 use Rattle.report.specs.Tables.{Tables, relation_length, relation_start, relation_count}
 use Rattle.report.specs.Typing.{joined_set, present, relation_set}
 use Rattle.report.specs.Configuring.{written}
-use Rattle.at_configuration.specs.AtConfiguration.{ListReads, PresentReads, PresentReadable, RelationReads}
-use Rattle.at_configuration.proofs.ListLaws.{reads_present, starts_at, is_long, relation_list_lem}
+use Rattle.at_configuration.specs.AtConfiguration.{ListReads, PresentReads, RelationReads}
+use Rattle.at_configuration.proofs.ListLaws.{starts_at, is_long, relation_list_lem}
 use Rattle.faults_at.specs.SetsAt.{present_set, RelationSetsReadable, RelationSetReadable}
 
 -- ---- one relation

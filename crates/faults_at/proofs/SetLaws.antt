@@ -1,14 +1,12 @@
 -- Laws of the sets of query forms.
 use Prim.Native.Nat.{ℕ, ◌+◌, ◌/◌, ◌<◌, ◌≤◌}
-use mathlib.Core.Path.{◌≡◌, refl, sym, ap, ap₂, ◌∙◌}
+use mathlib.Core.Path.{◌≡◌, sym, ap, ap₂, ◌∙◌}
 use mathlib.Core.List.{List}
 use native.Mathlib.Numerals.{add-one}
 use lib.ListN.{length, set}
-use Rattle.sets.specs.Lists.{table}
-use Rattle.sets.proofs.ListLaws.{NumbersFilling, filling_none, filling_below, filling_place, filling_more, filling_all}
-use Rattle.report.specs.Tables.{Tables, query, query_count, project_length, projected_before, relations_end}
+use Rattle.sets.proofs.ListLaws.{NumbersFilling, filling_below, filling_more}
+use Rattle.report.specs.Tables.{Tables, query, project_length, projected_before, relations_end}
 use Rattle.report.specs.Typing.{joined_set, project_set, set_rule, set_of}
-use Rattle.report.specs.Configuring.{written}
 use Rattle.report.specs.Formed.{FreePair}
 use Rattle.report.specs.declared.Query.{Query}
 use Rattle.report.proofs.StepLaws.{set_in}
