@@ -1,4 +1,5 @@
-// How C tells the reading; the words in which it is told an answer, and a refusal told so.
+// How C tells the reading; the words in which it is told an answer, and a refusal told so. No `From` says so of every bool and of
+// any four words: it is the convention of the C interface alone.
 #![tactic(auto)]
 
 ghost use Rattle.std.specs.Prelude.{◌≡◌};

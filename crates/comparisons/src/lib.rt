@@ -14,6 +14,7 @@ use sets::AttributeSet;
 use verdicts::refuse_if;
 
 // What is gathered from all that a comparison reaches: the attributes that are named, or the left attributes that are compared with another kind.
+// It says what is asked, and is no step to run: definitions go by cases on it (`own_of`, `shows`).
 #[derive(Clone, Copy)]
 pub enum Gathered {
     Names,

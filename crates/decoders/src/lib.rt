@@ -1,4 +1,5 @@
-// One form of each table, from its words.
+// One form of each table, from its words. The kinds are numbers there, since the tables are C's. The words of an entry and of a relation are two terms each of
+// docs/FORMAT.md, so each has a function, of one expression.
 #![tactic(auto)]
 
 ghost use Rattle.std.specs.Prelude.{◌≡◌, ◌/◌, ◌<◌, length};

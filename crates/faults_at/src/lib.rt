@@ -1,5 +1,6 @@
 // What is worked out at one configuration c: what is gathered from comparisons, the sets of relations and query forms, the items at fault in one
-// form in each phase. Sets lie one after another, one word a form. Forms go bottom up, each from the sets of lower ones.
+// form in each phase. Sets lie one after another, one word a form. Forms go bottom up, each from the sets of lower ones. What attribute_rows and fault_rows say of
+// all configurations by rows is said here of one by sets: a row joins both alternatives of a choice, a set takes one, so a trait over both would be the longer.
 #![tactic(auto)]
 
 ghost use Rattle.std.specs.Prelude.{◌≡◌, cond, ℕ, ◌+◌, ◌^◌, ◌<◌, length, get_or};

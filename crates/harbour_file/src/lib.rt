@@ -30,7 +30,8 @@ pub struct Sizes {
     pub kinds: usize,
 }
 
-// The first bad line of a file, by its number from 1; the number 0 says that the file is too long.
+// The first bad line of a file, by its number from 1; the number 0 says that the file is too long, as the
+// definition and the print do.
 #[derive(Clone, Copy, Debug, PartialEq, Eq)]
 pub struct BadLine {
     pub number: usize,
@@ -92,7 +93,7 @@ fn read_kinds(s: &[u8], m: usize, from: Place, kinds: &mut [u16]) -> Place
     Place { end: count, ..k }
 }
 
-// The head, from its three words.
+// The head, from its three words. It is no `From`: three words are a head in a file alone.
 pub fn decode_head(words: &[u16]) -> Head
     requires { 3 ≤ length words.now }
     ensures { result ≡ head_of words.now }

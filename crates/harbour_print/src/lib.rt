@@ -16,6 +16,7 @@ use sets::AttributeSet;
 use writing::put_unread;
 
 // How the columns of an accepted report are printed: as lists, or as the wall page.
+// It says what is asked, and is no step to run: definitions go by cases on it (`accepted_as`).
 #[derive(Clone, Copy)]
 pub enum Layout {
     Columns,

@@ -25,6 +25,7 @@ fn print_columns(n: usize, permitted: Row, layout: Layout, columns: &[u64], out:
 }
 
 // The print of the answer for these tables: a refusal, or the columns of each permitted configuration, in the layout.
+// It takes any bytes so long, and not `PrintRoom` alone, which is one length.
 pub fn print_tables(tables: &TableWords, layout: Layout, out: &mut [u8]) -> usize
     requires { 201653 ≤ length out.old }
     ensures { Prints

@@ -191,6 +191,7 @@ pub fn judge_tables_into_columns(
 
 // Checks 1 to 10, 24, 12 to 19 and 25. Fills `columns`, which is all 0, with the column rows, unless 1 to 10, 24 or 12 to 14 refuse. No configuration is
 // permitted where 1 to 10 or 24 refuse.
+// No `?` hands the first refusal on: a row is answered beside it.
 pub fn check_into_columns(tables: &TableWords, reading: Reading, columns: &mut [u64]) -> Judgement
     requires { columns.old ≡ replicate 1024 0 }
     ensures { ColumnsChecked

@@ -1,4 +1,5 @@
-// What configuring keeps of comparisons and queries at one configuration, with their new numbers, written into lent tables.
+// What configuring keeps of comparisons and queries at one configuration, with their new numbers, written into lent tables. The kinds of forms
+// are numbers, since they are words of these tables, which are C's.
 #![tactic(auto)]
 
 ghost use Rattle.std.specs.Prelude.{◌≡◌, ◌&&◌, cond, not, [], ◌∷◌, ℕ, ◌<◌, length, get_or};
@@ -64,6 +65,7 @@ pub fn number_comparisons(
 }
 
 // The new number of what each query form leads to at c, into `numbers`: a choice has that of the alternative it takes.
+// With `number_comparisons` it shares `form_number` and `kept_if`; one function for both would take the decoder and the reach as closures, and be longer.
 pub fn number_queries(
     c: usize,
     expression_rows: &[u64],

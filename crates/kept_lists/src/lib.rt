@@ -1,4 +1,5 @@
-// What configuring keeps of lists and relations at one configuration, written into lent tables. Each writer returns the position after what it wrote.
+// What configuring keeps of lists and relations at one configuration, written into lent tables. Each writer returns the position after what it wrote,
+// which its promise names, as those of `writing` do.
 #![tactic(auto)]
 
 ghost use Rattle.std.specs.Prelude.{◌≡◌, ℕ, ◌+◌};

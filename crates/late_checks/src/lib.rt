@@ -20,6 +20,7 @@ fn is_permitted(permitted: Row, c: u64) -> bool
 }
 
 // How many words each of the tables lent for writing has.
+// Not `FormCounts` of configuring, which counts forms: one name for both units would say less.
 #[derive(Clone, Copy)]
 pub struct LentWords {
     pub entries: usize,

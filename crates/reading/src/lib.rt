@@ -57,6 +57,7 @@ pub fn scan_number(s: &[u8], at: usize) -> Result<(u16, usize), Broken>
 
 // The word at a position. Answers the position after it.
 #[tactic(auto, unfolding(crate::specs::Scanning::word_at, crate::specs::Scanning::word_from))]
+// The position is no index of the word: it is where the text is read, and the answer is where that stopped.
 pub fn scan_word(word: &[u8], s: &[u8], at: usize) -> Result<usize, Broken>
     ensures { result ≡ word_at word.now s.now at }
 {

@@ -97,6 +97,7 @@ pub enum Sides {
 
 // How a report is read. Strict: a relation that is absent, or a projected attribute that the operand lacks, is a fault wherever it is reached. Filled: the
 // relation counts as empty there, and the attribute is dropped.
+// It says what is asked, and is no step to run: definitions go by cases on it (`faults_by`).
 #[derive(Clone, Copy)]
 pub enum Reading {
     Strict,

@@ -6,7 +6,8 @@ ghost use Rattle.sets.specs.Rows.{row_lowest, row_lowest_from, row_count, row_in
 
 use std::array::from_fn;
 
-// A set of configurations below 1,024: configuration c is bit c mod 64 of word c div 64.
+// A set of configurations below 1,024: configuration c is bit c mod 64 of word c div 64. Many rows lie in words one after another, as
+// C is handed the column rows (`load`, `meets`, `store`).
 #[derive(Clone, Copy)]
 pub struct Row {
     pub words: [u64; Row::WORDS],

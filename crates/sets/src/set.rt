@@ -5,7 +5,8 @@ ghost use Rattle.sets.specs.Search.{lowest};
 ghost use Rattle.sets.specs.Bits.{bit, difference, member_count, has_from};
 
 // A set of attributes: attribute a is in it where bit a is 1. MOST_ATTRIBUTES is how many a set has room for. MOST_FEATURES says nothing of a set: it
-// stands here because the specification names the two limits in one breath. The limits of tables are constants of `report::Limits`.
+// stands here because the specification names the two limits in one breath. The limits of tables are constants of `report::Limits`. An attribute is a
+// number, below 64 where a function asks so: a type of attributes would ask it of every caller.
 #[derive(Clone, Copy)]
 pub struct AttributeSet {
     pub bits: u64,

@@ -21,6 +21,7 @@ use report::{Limits, Query, Reading};
 use sets::AttributeSet;
 
 // Relation r if it is present at c, as a set of items.
+// `absent_item` of faults_at is its like, of the other case: each is a definition's own term.
 fn present_item(c: usize, r: usize, expression_rows: &[u64], relations: &[u16]) -> AttributeSet
     requires { PresentReadable expression_rows.now relations.now c (r + 1) }
     ensures { (T : Tables) → PresentReads T expression_rows.now relations.now c → result.bits ≡ cond (present T c r) (2 ^ r) 0 }

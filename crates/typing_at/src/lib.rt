@@ -23,6 +23,7 @@ use sets::AttributeSet;
 use verdicts::refuse_items;
 
 // The number of a query form's rule, the first that is looked for.
+// 0 for a form without a rule, as the definition has it.
 fn rule_number(x: Query) -> u64
     ensures { result ≡ rule_number x }
 {
@@ -100,6 +101,7 @@ fn forms_here(
 }
 
 // What typing finds at one configuration alone: its answer there, and the report's set, that of the last form.
+// No Result has both: the set is promised where the verdict refuses too (`HereFilled`).
 #[derive(Clone, Copy)]
 pub struct Here {
     pub verdict: Verdict,

@@ -39,6 +39,7 @@ fn check_with(
         → Checked T scope.reading result columns.new }
 {
     let permitted = scope.permitted;
+    // No heap: an array with room for all, and how many are in it.
     let mut gathered = [SetAt {
         configuration: 0,
         set: AttributeSet::empty(),

@@ -30,6 +30,7 @@ fn show_print(rt: &impl Print, text: &[u8], layout: Layout) {
 }
 
 // Reads until `text` is full, the file ends or a read fails. Answers how many bytes were read.
+// Not `program::read_input`, which says that a read failed: here what was read is shown all the same.
 fn read_full<R: Read>(file: &mut R, text: &mut [u8]) -> usize
     ensures { IsPrefixLen result text.new }
 {

@@ -29,6 +29,7 @@ pub fn refuse_if(bad: bool, number: u64, place: usize) -> Verdict
 }
 
 // The lowest of the items at fault; 0 stands for none.
+// It is no Option: a field that a refusal does not name is 0.
 fn lowest_item(found: AttributeSet) -> u64
     ensures { result ≡ lowest_member found.bits }
 {
@@ -54,7 +55,7 @@ pub fn refuse_items(number: u64, q: usize, found: AttributeSet, c: usize) -> Ver
 fn goes_before(s: Refusal, r: Refusal) -> bool
     ensures { result ≡ precedes s r }
 {
-    (s.place < r.place) | ((s.place == r.place) & (s.number < r.number))
+    (s.place, s.number) < (r.place, r.number)
 }
 
 // The answer from that at lower configurations and that at one more.

@@ -1,4 +1,5 @@
-// Numbers and the lines of the print, written into lent bytes. Each function writes at a position and returns the position after.
+// Numbers and the lines of the print, written into lent bytes. Each function writes at a position and returns the position after, which
+// its promise names (`WrittenAt`): a cursor that holds the bytes would need a clause in each that it is the same one, and `Display` has no word for where.
 #![tactic(auto)]
 
 ghost use Rattle.std.specs.Prelude.{◌<◌, ◌∷◌};
