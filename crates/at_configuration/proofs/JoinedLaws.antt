@@ -48,9 +48,3 @@ module _ {expression_rows entries : List ℕ} {c start count bits : ℕ} where
       most = omega arith;
       joined = λ T offset R. entry_more R h p (d T offset (each_entry R h)) (S.joined T offset R) e;
     }
-
-    pub joined_all : count ≤ i → (T : Tables) (offset : ℕ) → ListReads T offset expression_rows entries c start count
-        → bits ≡ joined_set T c (offset + start) count
-    joined_all h T offset R =
-        let e : i ≡ count = (let l = S.most in omega arith) in
-        S.joined T offset R ∙ ap (joined_set T c (offset + start)) e

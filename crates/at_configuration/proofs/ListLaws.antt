@@ -11,9 +11,9 @@ use Rattle.report.specs.Tables.{relation_length, relation_start, project_length,
 use Rattle.report.specs.Typing.{at, entry_holds}
 use Rattle.report.specs.Formed.{QueryLower}
 use Rattle.report.specs.declared.Query.{Query}
-use Rattle.report.proofs.FormedFacts.{entry_narrow, entry_expression_lem, query_at}
+use Rattle.report.proofs.FormedFacts.{entry_expression_lem, query_at}
 use Rattle.report.proofs.EntryParts.{relation_part, relation_in_part, project_part, project_in_part}
-use Rattle.at_configuration.specs.AtConfiguration.{ListReads, ListReadable, PresentReads, RelationReads, FormAt}
+use Rattle.at_configuration.specs.AtConfiguration.{ListReads, PresentReads, RelationReads, FormAt}
 use Rattle.at_configuration.proofs.HoldLaws.{rowed, holds_in}
 
 -- ---- one entry
@@ -34,9 +34,6 @@ module _ {T : Tables} {offset : ℕ} {expression_rows entries : List ℕ} {c sta
       pub attribute_is : a ≡ entry_attribute T.entries (offset + start + i)
       attribute_is = p ∙ R.part.attribute (start + i) entry_read ∙ ap (entry_attribute T.entries) entry_place
 
-      pub attribute_small : a < 64
-      attribute_small = rw attribute_is (entry_narrow R.reads.formed (offset + start + i) entry_in)
-
     module _ {e : ℕ} (p : e ≡ entry_expression entries (start + i)) where
       expression_is : e ≡ entry_expression T.entries (offset + start + i)
       expression_is = p ∙ R.part.expression (start + i) entry_read ∙ ap (entry_expression T.entries) entry_place
@@ -53,14 +50,6 @@ module _ {T : Tables} {offset : ℕ} {expression_rows entries : List ℕ} {c sta
     -- the entries of a list up to entry i
     pub each_entry : ListReads T offset expression_rows entries c start (i + 1)
     each_entry = record { reads = R.reads; part = R.part; lies = let l = R.lies in omega arith }
-
-  -- the length of a list is a word
-  pub list_small : count < 65536
-  list_small = let l = R.lies in let m = R.part.inside in let k = R.reads.formed.sized1.fits in omega arith
-
-pub some_entry : {expression_rows entries : List ℕ} {c start count : ℕ} → ListReadable expression_rows entries c start count → {i : ℕ} → i < count
-    → ListReadable expression_rows entries c start (i + 1)
-some_entry A h = record { tables = A.tables; offset = A.offset; reads = each_entry A.reads h }
 
 -- ---- the list of a relation
 

@@ -14,14 +14,13 @@ use Rattle.report.specs.Tables.{Tables}
 use Rattle.report.specs.Verdicts.{Verdict, refusal, refuse_if, or_else, after}
 use Rattle.report.specs.FormChecks.{form_check}
 use Rattle.report.specs.ColumnRows.{column_rows}
-use Rattle.report.specs.Checks.{typing_check, model_and_schema_check}
 use Rattle.report.specs.Calls.{answer, checking}
 use Rattle.report.specs.declared.Refusal.{Refusal}
 use Rattle.report.specs.declared.Reading.{Reading}
-use Rattle.report.proofs.VerdictLaws.{or_else_accepted, both_accepted, then_next, accepted_if}
+use Rattle.report.proofs.VerdictLaws.{or_else_accepted, then_next, accepted_if}
 use Rattle.report.proofs.FirstFault.{first_none, first_one}
 use Rattle.forms.proofs.Chain.{stops, goes_on}
-use Rattle.judging.specs.Judging.{meaning_check, ColumnsJudged}
+use Rattle.judging.specs.Judging.{meaning_check}
 use Rattle.judging.proofs.JudgingLaws.{answer_parts}
 use Rattle.checking.specs.Promises.{Checks}
 use Rattle.checking.specs.Meaning.{Meant}
@@ -70,18 +69,3 @@ module _ (T : Tables) (R : Reading) where
               goes_on forms passed
               (M.answers ∙ sym (then_next (accepted_if _ (ap not (eq-eqb (length lent) 1024 room)))))
               ∙ sym (parts (length lent))
-
--- ---- 12 to 19 and 25, where judging leaves the column rows in `columns`
-
-module _ {T : Tables} {R : Reading} {v : Verdict} {lent_columns columns : List ℕ} (J : ColumnsJudged T R v lent_columns columns) (lent : List ℕ) where
-  pub meaning_refused : {r : Refusal} → v ≡ Err r → Meant T R v lent lent
-  meaning_refused f = record { answers = J.answers; shows = ap (λ (x : Verdict). after x (column_rows T) lent) (sym f) }
-
-  pub meaning_accepted : v ≡ Ok tt → {rows : List ℕ} → rows ≡ columns → Meant T R (Ok tt) lent rows
-  meaning_accepted f e = record {
-    answers = sym f ∙ J.answers;
-    shows = e ∙ J.shows ∙ ap (λ (x : Verdict). after x (column_rows T) lent_columns) early;
-  }
-    where
-      early : model_and_schema_check T ≡ Ok tt
-      early = (both_accepted (model_and_schema_check T) (typing_check T R) (sym J.answers ∙ f)).0

@@ -1,7 +1,6 @@
 // The entry point `check`.
 #![tactic(auto)]
 
-ghost use Rattle.std.specs.Prelude.{◌≡◌, length};
 ghost use Rattle.report.specs.Expressions.{tables_in};
 ghost use Rattle.checking.specs.Promises.{Checks};
 ghost use Rattle.checking.specs.Meaning.{MeaningReads, Meant};

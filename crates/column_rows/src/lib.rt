@@ -65,7 +65,7 @@ fn store_column(a: usize, shown: AttributeSet, gathered: &[SetAt], columns: &mut
         return;
     }
     let row = column_row(a, gathered);
-    row.store(&mut *columns, a);
+    row.store(columns, a);
 }
 
 // Stores the column rows of the attributes below `items`.
@@ -75,6 +75,6 @@ pub fn store_columns(items: usize, gathered: &[SetAt], columns: &mut [u64])
 {
     let shown = shown_anywhere(gathered);
     for a in 0..items {
-        store_column(a, shown, gathered, &mut *columns);
+        store_column(a, shown, gathered, columns);
     }
 }

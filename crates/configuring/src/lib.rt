@@ -45,7 +45,7 @@ fn write_entries(
     ensures { (T : Tables) → EntriesReads T tables.now reach.now form_sets.now c
         → WrittenAt (relation_lists T c ++ project_lists T c) out.old 0 out.new result }
 {
-    let lists = write_relation_lists(c, tables, &mut *out);
+    let lists = write_relation_lists(c, tables, out);
     write_project_lists(c, tables, reach, form_sets, out, lists)
 }
 
@@ -162,15 +162,7 @@ fn configure_judged(
         queries: new_queries.len(),
     };
     let permitted = Row::load(expression_rows, tables.head.model);
-    check_late(
-        permitted,
-        c,
-        lent,
-        tables.entries,
-        tables.relations,
-        tables.comparisons,
-        tables.queries,
-    )?;
+    check_late(permitted, c, lent, tables)?;
     let split = split_tables(tables, expression_rows);
     write_kept(
         c as usize,

@@ -20,7 +20,7 @@ use Rattle.report.specs.Verdicts.{Verdict, refusal, refuse_if, refuse_at, or_els
 use Rattle.report.specs.Checks.{apart_everywhere, relation_check, schema_check}
 use Rattle.report.specs.Formed.{Formed, EntriesFrom}
 use Rattle.report.specs.declared.Refusal.{Refusal}
-use Rattle.report.proofs.VerdictLaws.{then_next, then_refused, accepted_if, accepted_first, refused_first}
+use Rattle.report.proofs.VerdictLaws.{then_next, then_refused, accepted_first, refused_first}
 use Rattle.report.proofs.FormedFacts.{entry_expression_lem, relation_expression_lem}
 use Rattle.report.proofs.EntryParts.{relation_part, relation_in_part}
 use Rattle.expression_rows.specs.ExpressionRows.{TruthFilled, SchemaReads, SchemaReadable}
@@ -52,9 +52,6 @@ pub record Listed (rows present entries : List ℕ) (from n i : ℕ) : Type 0 wh
   pub each : (j : ℕ) → from ≤ j → j < from + i → apart_in rows present entries j ≡ false
 
 module _ (rows present entries : List ℕ) (from n : ℕ) where
-  pub listed_none : Listed rows present entries from n 0
-  listed_none = record { most = omega arith; each = λ j l h. absurd (omega arith) }
-
   -- one entry more: what the code found of it
   module _ {i x : ℕ} {t : Bool} (S : Listed rows present entries from n i) (h : i < n) (p : x ≡ entry_expression entries (from + i))
       (e : t ≡ not (row_is_empty 16 (row_intersect 16 present (row_in 16 rows x)))) where

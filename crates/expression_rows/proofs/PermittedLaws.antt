@@ -1,5 +1,5 @@
 -- The permitted configurations as a row: what is empty there is nowhere, and what the expression rows say among them.
-use Prim.Native.Nat.{ℕ, ◌+◌, ◌*◌, ◌/◌, ◌^◌, ◌<◌, ◌≤◌}
+use Prim.Native.Nat.{ℕ, ◌/◌, ◌^◌, ◌<◌, ◌≤◌}
 use mathlib.Core.Path.{◌≡◌, refl, sym, ap, ap₂, ◌∙◌}
 use mathlib.Core.Bool.{Bool, true, false, not, ◌&&◌, and-true}
 use mathlib.Core.List.{List}
@@ -69,9 +69,6 @@ module _ {T : Tables} (F : Formed T) {rows : List ℕ} (L : TruthFilled T rows) 
 
   -- the row of the model is that of the permitted configurations
   module _ {model : ℕ} (number : model ≡ T.model) where
-    pub model_room : model * 16 + 16 ≤ length rows
-    model_room = let m = L.room in let i = F.model_in in omega arith
-
     pub model_row : row_in 16 rows model ≡ row_of 16 (permitted T)
     unfolding permitted
     model_row = ap (row_in 16 rows) number ∙ L.each T.model F.model_in

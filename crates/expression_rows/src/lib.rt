@@ -40,6 +40,7 @@ fn expression_row(x: Expression, full: Row, expression_rows: &[u64]) -> Row
 }
 
 // Fills `expression_rows` with the rows of the expressions of table 0, bottom up.
+#[tactic(auto, using(crate::proofs::FillLaws::filling_lower, crate::proofs::FillLaws::filling_more, crate::proofs::FillLaws::filling_all))]
 pub fn fill_expression_rows(n: usize, expressions: &[u16], expression_rows: &mut [u64])
     requires { ExpressionsFillable n expressions.now expression_rows.old }
     ensures { expression_rows.new ≡ written (fresh_rows n expressions.now) expression_rows.old }
@@ -47,8 +48,8 @@ pub fn fill_expression_rows(n: usize, expressions: &[u16], expression_rows: &mut
     let full = Row::full(n);
     for f in 0..expressions.len() / 3 {
         let x = decode_expression(expressions, f);
-        let r = expression_row(x, full, &*expression_rows);
-        r.store(&mut *expression_rows, f);
+        let r = expression_row(x, full, expression_rows);
+        r.store(expression_rows, f);
     }
 }
 
@@ -118,6 +119,7 @@ fn check_relation(permitted: Row, r: usize, start: usize, tables: &SplitTables) 
 }
 
 // Checks 13 and 14, relation by relation, of tables that have passed the form checks.
+#[tactic(auto, using(crate::proofs::CheckLaws::related_here))]
 pub fn check_schema(permitted: Row, tables: &SplitTables) -> Verdict
     requires { SchemaReadable tables.now.expression_rows.now permitted.words tables.now.relation_entries.now tables.now.relations.now }
     ensures { (T : Tables)

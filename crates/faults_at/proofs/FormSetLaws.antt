@@ -3,25 +3,16 @@ use Prim.Native.Nat.{ℕ, ◌/◌, ◌≤◌}
 use mathlib.Core.Path.{◌≡◌, ap}
 use mathlib.Core.List.{List}
 use native.Mathlib.Omega.{arith}
-use lib.ListN.{length, replicate, length-replicate}
+use lib.ListN.{length, replicate}
 use Rattle.sets.specs.Lists.{table}
 use Rattle.sets.proofs.ListLaws.{numbers_are}
 use Rattle.report.specs.Tables.{Tables, relation_count, query_count}
 use Rattle.report.specs.Configuring.{written}
-use Rattle.report.proofs.FormedFacts.{counts}
 use Rattle.at_configuration.specs.AtConfiguration.{RelationReads}
-use Rattle.faults_at.specs.SetsAt.{present_set, RelationSetsReadable, SetsReads, SetsReadable, FormSetsReads}
+use Rattle.faults_at.specs.SetsAt.{present_set, SetsReads, SetsReadable, FormSetsReads}
 
 module _ {T : Tables} {c : ℕ} {expression_rows relation_entries project_entries relations queries : List ℕ}
     (R : FormSetsReads T c expression_rows relation_entries project_entries relations queries) where
-  -- words for the sets of 32 relations are enough
-  pub relations_readable : RelationSetsReadable expression_rows relation_entries relations c (replicate 32 0)
-  relations_readable = record {
-    tables = T;
-    reads = R.related;
-    room = rw R.related.relations_are (let m = (counts R.related.reads.formed).most2 in omega (arith, length-replicate {A = ℕ} 32 0));
-  }
-
   pub form_count : length queries / 4 ≡ query_count T
   form_count = ap (λ (t : List ℕ). length t / 4) R.queries_are
 

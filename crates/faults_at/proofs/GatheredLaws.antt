@@ -1,22 +1,19 @@
 -- Laws of what is gathered from comparisons.
-use Prim.Native.Nat.{ℕ, ◌+◌, ◌/◌, ◌<◌, ◌≤◌}
+use Prim.Native.Nat.{ℕ, ◌+◌, ◌/◌, ◌<◌}
 use mathlib.Core.Path.{◌≡◌, sym, ap, ap₂, ◌∙◌}
 use mathlib.Core.List.{List}
 use lib.ListN.{length, set}
-use Rattle.sets.specs.Lists.{table}
-use Rattle.sets.proofs.ListLaws.{NumbersFilling, filling_none, filling_below, filling_place, filling_more, filling_all}
+use Rattle.sets.proofs.ListLaws.{NumbersFilling, filling_below, filling_more}
 use Rattle.report.specs.Tables.{Tables, comparison, kind_of, comparison_count, expression_count, kind_in}
 use Rattle.report.specs.Operands.{comparison_operands}
 use Rattle.report.specs.Typing.{gathered_of, gathered}
-use Rattle.report.specs.Configuring.{written}
 use Rattle.report.specs.Formed.{OperandsBelow}
 use Rattle.report.specs.declared.Comparison.{Comparison}
 use Rattle.report.specs.declared.Operands.{Operands}
 use Rattle.report.proofs.FormedFacts.{comparison_at, comparison_operands_lem}
 use Rattle.report.proofs.StepLaws.{gathered_in}
 use Rattle.report.proofs.OperandLaws.{choice_comparison}
-use Rattle.comparisons.specs.Gathering.{own_of, Narrow}
-use Rattle.comparisons.proofs.OwnLaws.{narrow_at}
+use Rattle.comparisons.specs.Gathering.{own_of}
 use Rattle.comparisons.specs.declared.Gathered.{Gathered}
 use Rattle.faults_at.specs.SetsAt.{ComparisonAt, SomeComparison, GatheredReadable, GatheredReads}
 
@@ -40,9 +37,6 @@ module _ {T : Tables} {expression_rows comparisons kinds : List ℕ} {c : ℕ} (
     comparison_is : x ≡ comparison T.comparisons f
     comparison_is = e ∙ ap (λ (t : List ℕ). comparison t f) R.compared.comparisons_are
 
-    pub comparison_narrow : Narrow x
-    comparison_narrow = rw comparison_is (narrow_at R.compared.reads.formed f comparison_in)
-
     own_is : (what : Gathered) → own_of (kind_in kinds) what x ≡ own_of (kind_of T) what (comparison T.comparisons f)
     own_is what = ap₂ (λ (t : List ℕ) (y : Comparison). own_of (kind_in t) what y) R.kinds_are comparison_is
 
@@ -53,16 +47,9 @@ pub record Gathering (what : Gathered) (expression_rows comparisons kinds : List
   pub filling : NumbersFilling (λ T. GatheredReads T expression_rows comparisons kinds c) (λ T. gathered T c (own_of (kind_of T) what))
       (length comparisons / 5) lent sets f
 
-pub gathering_none : {what : Gathered} {expression_rows comparisons kinds : List ℕ} {c : ℕ} {lent : List ℕ}
-    → Gathering what expression_rows comparisons kinds c lent lent 0
-gathering_none = record { filling = filling_none }
-
 module _ {what : Gathered} {expression_rows comparisons kinds : List ℕ} {c : ℕ} {lent sets : List ℕ} {f : ℕ}
     (S : Gathering what expression_rows comparisons kinds c lent sets f) where
   module _ (A : GatheredReadable expression_rows comparisons kinds c lent) (h : f < length comparisons / 5) where
-    pub gathering_place : f < length sets
-    gathering_place = filling_place S.filling A.room h
-
     module _ {x : Comparison} (e : x ≡ comparison comparisons f) {to : Operands} (o : to ≡ comparison_operands x) where
       gathering_here : {T : Tables} → GatheredReads T expression_rows comparisons kinds c
           → ComparisonAt T f (gathered T c (own_of (kind_of T) what)) expression_rows c sets to
@@ -87,7 +74,3 @@ module _ {what : Gathered} {expression_rows comparisons kinds : List ℕ} {c : �
             s T f (gathered T c own) a ∙ ap₂ (gathered_of T c (gathered T c own)) (p ∙ own_is R h e what) a.refers
             ∙ sym (gathered_in R.compared.reads.formed c f a.inside own));
       }
-
-  pub gathering_all : length comparisons / 5 ≤ f → (T : Tables) → GatheredReads T expression_rows comparisons kinds c
-      → sets ≡ written (table (comparison_count T) (gathered T c (own_of (kind_of T) what))) lent
-  gathering_all h T R = filling_all S.filling h T R (ap (λ (t : List ℕ). length t / 5) R.compared.comparisons_are)

@@ -3,4 +3,3 @@ pub mod ListLaws
 pub mod GatheredLaws
 pub mod SetLaws
 pub mod FormSetLaws
-pub mod FaultLaws

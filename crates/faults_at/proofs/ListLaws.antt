@@ -4,15 +4,14 @@ use mathlib.Core.Path.{◌≡◌, refl, sym, ap, ap₂, ◌∙◌}
 use mathlib.Core.Bool.{Bool, cond}
 use mathlib.Core.List.{List}
 use native.Mathlib.Numerals.{add-one}
-use native.Mathlib.Omega.{arith}
 use lib.ListN.{length, set}
 use Rattle.sets.specs.Lists.{table}
-use Rattle.sets.proofs.ListLaws.{NumbersFilling, filling_none, filling_place, filling_more, filling_all}
+use Rattle.sets.proofs.ListLaws.{NumbersFilling, filling_none, filling_more, filling_all}
 use Rattle.report.specs.Tables.{Tables, relation_length, relation_start, relation_count}
 use Rattle.report.specs.Typing.{joined_set, present, relation_set}
 use Rattle.report.specs.Configuring.{written}
-use Rattle.at_configuration.specs.AtConfiguration.{ListReads, PresentReads, PresentReadable, RelationReads}
-use Rattle.at_configuration.proofs.ListLaws.{reads_present, starts_at, is_long, relation_list_lem}
+use Rattle.at_configuration.specs.AtConfiguration.{ListReads, PresentReads, RelationReads}
+use Rattle.at_configuration.proofs.ListLaws.{starts_at, is_long, relation_list_lem}
 use Rattle.faults_at.specs.SetsAt.{present_set, RelationSetsReadable, RelationSetReadable}
 
 -- ---- one relation
@@ -24,13 +23,6 @@ pub if_present : {T : Tables} {expression_rows relations : List ℕ} {c : ℕ} �
 if_present {T} R r p e x y q = q ∙ ap (λ (t : Bool). cond t x y) (sym e ∙ p T R)
 
 module _ {expression_rows entries relations : List ℕ} {c r start : ℕ} (A : RelationSetReadable expression_rows entries relations c r start) where
-  pub asked_present : PresentReadable expression_rows relations c (r + 1)
-  asked_present = record {
-    tables = A.tables;
-    reads = reads_present A.reads;
-    few = let l = rw A.reads.relations_are at A.inside in omega arith;
-  }
-
   module _ {T : Tables} (R : RelationReads T expression_rows entries relations c) {n : ℕ} (e : n ≡ relation_length relations r) where
     pub asked_list : ListReads T 0 expression_rows entries c start n
     asked_list = relation_list_lem R A.starts A.inside e
@@ -52,16 +44,7 @@ related_none = record { sets = filling_none; starts = refl }
 module _ {expression_rows entries relations : List ℕ} {c : ℕ} {lent relation_sets : List ℕ} {r start : ℕ}
     (S : RelationSetsFilling expression_rows entries relations c lent relation_sets r start) where
   module _ (h : r < length relations / 2) where
-    pub related_some : RelationSetsReadable expression_rows entries relations c lent → RelationSetReadable expression_rows entries relations c r start
-    related_some A = record { tables = A.tables; reads = A.reads; inside = h; starts = S.starts }
-
-    pub related_place : RelationSetsReadable expression_rows entries relations c lent → r < length relation_sets
-    related_place A = filling_place S.sets A.room h
-
     module _ {n : ℕ} (e : n ≡ relation_length relations r) (A : RelationSetsReadable expression_rows entries relations c lent) where
-      pub related_inside : start + n ≤ length entries / 2
-      related_inside = (relation_list_lem A.reads S.starts h e).lies
-
       pub related_more : {s : ℕ} → ((T : Tables) → RelationReads T expression_rows entries relations c → s ≡ present_set T c r)
           → RelationSetsFilling expression_rows entries relations c lent (set relation_sets r s) (r + 1) (start + n)
       related_more s = record {

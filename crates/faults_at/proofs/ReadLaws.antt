@@ -14,9 +14,6 @@ use Rattle.at_configuration.proofs.HoldLaws.{taken_is, taken_in}
 
 -- two of the first n sets
 module _ {n : ℕ} {f : ℕ → ℕ} {sets : List ℕ} (S : NumbersAre n f sets) {a b : ℕ} (l : (a < n) × (b < n)) where
-  pub both_in : (a < length sets) × (b < length sets)
-  both_in = let m = S.room in omega arith
-
   pub both_are : (op : ℕ → ℕ → ℕ) {s : ℕ} → s ≡ op (get_or sets a 0) (get_or sets b 0) → s ≡ op (f a) (f b)
   both_are op p = p ∙ ap₂ op (S.each a l.0) (S.each b l.1)
 

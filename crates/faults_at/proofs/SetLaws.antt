@@ -1,14 +1,12 @@
 -- Laws of the sets of query forms.
 use Prim.Native.Nat.{ℕ, ◌+◌, ◌/◌, ◌<◌, ◌≤◌}
-use mathlib.Core.Path.{◌≡◌, refl, sym, ap, ap₂, ◌∙◌}
+use mathlib.Core.Path.{◌≡◌, sym, ap, ap₂, ◌∙◌}
 use mathlib.Core.List.{List}
 use native.Mathlib.Numerals.{add-one}
 use lib.ListN.{length, set}
-use Rattle.sets.specs.Lists.{table}
-use Rattle.sets.proofs.ListLaws.{NumbersFilling, filling_none, filling_below, filling_place, filling_more, filling_all}
-use Rattle.report.specs.Tables.{Tables, query, query_count, project_length, projected_before, relations_end}
+use Rattle.sets.proofs.ListLaws.{NumbersFilling, filling_below, filling_more}
+use Rattle.report.specs.Tables.{Tables, query, project_length, projected_before, relations_end}
 use Rattle.report.specs.Typing.{joined_set, project_set, set_rule, set_of}
-use Rattle.report.specs.Configuring.{written}
 use Rattle.report.specs.Formed.{FreePair}
 use Rattle.report.specs.declared.Query.{Query}
 use Rattle.report.proofs.StepLaws.{set_in}
@@ -36,16 +34,9 @@ pub record QueriesFilling (expression_rows entries queries relation_sets : List 
   pub formed : NumbersFilling (λ T. SetsReads T expression_rows entries queries relation_sets c) (λ T. set_of T c) (length queries / 4) lent sets q
   pub starts : start ≡ projected_before queries q
 
-pub setting_none : {expression_rows entries queries relation_sets : List ℕ} {c : ℕ} {lent : List ℕ}
-    → QueriesFilling expression_rows entries queries relation_sets c lent lent 0 0
-setting_none = record { formed = filling_none; starts = refl }
-
 module _ {expression_rows entries queries relation_sets : List ℕ} {c : ℕ} {lent sets : List ℕ} {q start : ℕ}
     (S : QueriesFilling expression_rows entries queries relation_sets c lent sets q start) where
   module _ (A : SetsReadable expression_rows entries queries relation_sets c lent) (h : q < length queries / 4) where
-    pub setting_place : q < length sets
-    setting_place = filling_place S.formed A.room h
-
     module _ {x : Query} (e : x ≡ query queries q) where
       setting_here : {T : Tables} → SetsReads T expression_rows entries queries relation_sets c
           → QueryAt T q expression_rows entries relation_sets c sets start x
@@ -78,7 +69,3 @@ module _ {expression_rows entries queries relation_sets : List ℕ} {c : ℕ} {l
               s T q a ∙ ap (set_rule T c (set_of T c) q) a.at.form ∙ sym (set_in R.reads.formed c q a.at.inside));
           starts = ap₂ ◌+◌ S.starts (l ∙ ap project_length e) ∙ ap (projected_before queries) (sym (add-one q));
         }
-
-  pub setting_all : length queries / 4 ≤ q → (T : Tables) → SetsReads T expression_rows entries queries relation_sets c
-      → sets ≡ written (table (query_count T) (set_of T c)) lent
-  setting_all h T R = filling_all S.formed h T R (ap (λ (t : List ℕ). length t / 4) R.queries_are)

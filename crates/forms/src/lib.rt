@@ -1,7 +1,7 @@
 // Checks 6 and 8 to 10 of the table of refusals (docs/FORMAT.md, "Refusals"), and checks 1 to 10 and 24 one after another.
 #![tactic(auto)]
 
-ghost use Rattle.std.specs.Prelude.{◌≡◌, [], ◌/◌, ◌<◌, ◌≤◌, length};
+ghost use Rattle.std.specs.Prelude.{◌≡◌, ◌/◌, ◌<◌, ◌≤◌, length};
 ghost use Rattle.report.specs.Tables.{relation_start};
 ghost use Rattle.report.specs.Expressions.{tables_in};
 ghost use Rattle.report.specs.Verdicts.{or_else};
@@ -188,8 +188,8 @@ fn check_lists(tables: &TableWords) -> Verdict
         tables.comparisons,
     )?;
     let split = relations_end(tables.relations);
-    let entries = tables.entries;
-    check_queries(counts, split, &entries[split * 2..], tables.queries)
+    let project_entries = &tables.entries[split * 2..];
+    check_queries(counts, split, project_entries, tables.queries)
 }
 
 // Checks 3 to 10.
@@ -210,13 +210,7 @@ fn check_tables(tables: &TableWords) -> Verdict
     ensures { result ≡ tables_check (tables_in tables.now) }
 {
     check_head(tables.head.features, tables.head.attributes)?;
-    check_lengths(
-        tables.expressions,
-        tables.entries,
-        tables.relations,
-        tables.comparisons,
-        tables.queries,
-    )?;
+    check_lengths(tables)?;
     check_contents(tables)
 }
 

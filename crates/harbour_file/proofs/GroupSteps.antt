@@ -1,18 +1,18 @@
 -- The steps of reading the lines of a group, the groups and a file.
-use Prim.Native.Nat.{ℕ, suc, ◌+◌, ◌-◌, ◌*◌, ◌≤◌, ◌<◌, min}
+use Prim.Native.Nat.{ℕ, suc, ◌+◌, ◌-◌, ◌*◌, ◌≤◌, ◌<◌}
 use mathlib.Core.Path.{◌≡◌, refl, sym, ap, subst, ◌∙◌}
 use mathlib.Core.Bool.{Bool, cond}
 use mathlib.Core.List.{List, [], ◌∷◌, ◌++◌, append_assoc, append-nil}
 use native.Mathlib.Nat.{le_refl, suc-mul, mul-le-mul_right}
 use native.Mathlib.Numerals.{add-one}
 use native.Mathlib.Omega.{arith}
-use lib.ListN.{length, get_or, take, drop, set, replicate, length-append, length-replicate, take-append-drop}
+use lib.ListN.{length, get_or, take, drop, set, length-append, take-append-drop}
 use lib.Seq.{sets, sets-eq, take-set-le, take_at, drop_at, drop-drop, take-append_seam, length-take-le, get_or-take}
 use lib.Dec.{ltb}
 use borrow.Author.Tests.{eq-eqb, ne_eqb, lt-ltb, le-ltb}
 use Rattle.report.specs.Configuring.{written}
 use Rattle.report.specs.HarbourFile.{kinds_or}
-use Rattle.report.proofs.FileLaws.{kinds_none, kinds_stand}
+use Rattle.report.proofs.FileLaws.{kinds_stand}
 use Rattle.std.specs.Prelude.{Result, Ok, Err}
 use Rattle.reading.specs.declared.Broken.{Broken}
 use Rattle.reading.specs.Scanning.{on_step, line_at, Stored}
@@ -181,19 +181,6 @@ module _ (m : ℕ) {part : Part} {left : List ℕ} {most : ℕ} {answer : Place}
         few = t.few;
         long = rw e t.long;
         stored = t.stored ∙ sym (written_again start) ∙ ap (λ (ws : List ℕ). written ws left) (sym e);
-      }
-
-  -- or none was, and the words were cleared
-  pub kinds_cleared : answer.end ≡ 0 → {count : ℕ} → count ≡ min m 64 → {after : List ℕ} → after ≡ written (replicate count 0) kinds
-      → GroupTaken (kind_part m part) (written (kinds_or m part.words) left) most (record { at = answer.at; line = answer.line; end = count }) after
-  kinds_cleared z {count} c w =
-      let e : kinds_or m part.words ≡ replicate count 0 = kinds_none m part.words (sym t.long ∙ z) ∙ rw c in
-      record {
-        place = t.place;
-        number = t.number;
-        few = t.few;
-        long = sym (ap length e ∙ length-replicate count 0);
-        stored = w ∙ (λ i. written (sym e i) (t.stored i));
       }
 
 -- ---- the head: where it was read, its words stand in the first three

@@ -1,3 +1,2 @@
 pub mod PrintedLaws
-pub mod CountLaws
 pub mod LayoutLaws

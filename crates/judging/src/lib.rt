@@ -45,7 +45,7 @@ fn check_model_and_schema(permitted: Row, tables: &SplitTables) -> Verdict
 
 // ---- given expression rows
 
-// Checks 12 to 19 and 25 of tables that have passed the form checks, whose expression rows `expression_rows` starts with. Fills `reach` with the reach
+// Checks 12 to 19 and 25 of split tables, whose expression rows the first of their parts starts with. Fills `reach` with the reach
 // rows and `columns` with the column rows, unless 12 to 14 refuse; before, both are all 0.
 pub fn judge_into_rows(
     head: Head,
@@ -61,14 +61,14 @@ pub fn judge_into_rows(
 {
     let permitted = Row::load(tables.expression_rows, head.model);
     check_model_and_schema(permitted, tables)?;
-    fill_reach(permitted, tables, &mut *reach);
+    fill_reach(permitted, tables, reach);
     let scope = Scope {
         full: Row::full(head.features),
         permitted: permitted,
         items: head.attributes.max(tables.relations.len() / 2),
         reading: reading,
     };
-    check_typing(scope, tables, &*reach, columns)
+    check_typing(scope, tables, reach, columns)
 }
 
 // The same with reach rows of its own, in WORDS words, of tables that have no more query forms than these have rows for.
@@ -87,7 +87,7 @@ fn judge_with_reach<const WORDS: usize>(
     judge_into_rows(head, reading, tables, &mut reach, columns)
 }
 
-// Checks 12 to 19 and 25 of tables that have passed the form checks, whose expression rows `expression_rows` starts with. Fills `columns`, which is all 0,
+// Checks 12 to 19 and 25 of split tables, whose expression rows the first of their parts starts with. Fills `columns`, which is all 0,
 // with the column rows, unless 12 to 14 refuse.
 pub fn judge_into_columns(
     head: Head,
@@ -148,11 +148,7 @@ fn fill_and_judge(
         (tables_in tables.now)
         reading result expression_rows.old columns.old expression_rows.new columns.new }
 {
-    fill_expression_rows(
-        tables.head.features,
-        tables.expressions,
-        &mut *expression_rows,
-    );
+    fill_expression_rows(tables.head.features, tables.expressions, expression_rows);
     let split = split_tables(tables, expression_rows);
     judge_into_columns(tables.head, reading, &split, columns)
 }
@@ -226,11 +222,7 @@ pub fn check_into_rows(
         columns.new }
 {
     check_forms(tables)?;
-    fill_expression_rows(
-        tables.head.features,
-        tables.expressions,
-        &mut *expression_rows,
-    );
+    fill_expression_rows(tables.head.features, tables.expressions, expression_rows);
     let split = split_tables(tables, expression_rows);
     judge_into_rows(tables.head, reading, &split, reach, columns)
 }

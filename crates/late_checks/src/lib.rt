@@ -8,7 +8,7 @@ ghost use Rattle.report.specs.Verdicts.{first_of};
 ghost use Rattle.report.specs.Calls.{permitted_condition, room_conditions};
 ghost use Rattle.late_checks.specs.LateReads.{SourceReads, LateReads, LateReadable};
 
-use report::{Refusal, Verdict};
+use report::{Refusal, TableWords, Verdict};
 use sets::Row;
 use verdicts::refuse_if;
 
@@ -29,35 +29,21 @@ pub struct LentWords {
 }
 
 // Check 21: each table lent for writing has as many words as its source.
-fn check_room(
-    lent: LentWords,
-    entries: &[u16],
-    relations: &[u16],
-    comparisons: &[u16],
-    queries: &[u16],
-) -> Verdict
-    ensures { (T : Tables) → SourceReads T entries.now relations.now comparisons.now queries.now
+fn check_room(lent: LentWords, tables: &TableWords) -> Verdict
+    ensures { (T : Tables) → SourceReads T tables.now.entries.now tables.now.relations.now tables.now.comparisons.now tables.now.queries.now
         → result ≡ first_of (room_conditions lent.entries lent.relations lent.comparisons lent.queries T) }
 {
-    refuse_if(lent.entries < entries.len(), 21, 1)?;
-    refuse_if(lent.relations < relations.len(), 21, 2)?;
-    refuse_if(lent.comparisons < comparisons.len(), 21, 3)?;
-    refuse_if(lent.queries < queries.len(), 21, 4)
+    refuse_if(lent.entries < tables.entries.len(), 21, 1)?;
+    refuse_if(lent.relations < tables.relations.len(), 21, 2)?;
+    refuse_if(lent.comparisons < tables.comparisons.len(), 21, 3)?;
+    refuse_if(lent.queries < tables.queries.len(), 21, 4)
 }
 
 // Checks 20 and 21, where these configurations are permitted.
-pub fn check_late(
-    permitted: Row,
-    c: u64,
-    lent: LentWords,
-    entries: &[u16],
-    relations: &[u16],
-    comparisons: &[u16],
-    queries: &[u16],
-) -> Verdict
-    requires { LateReadable permitted.words entries.now relations.now comparisons.now queries.now }
+pub fn check_late(permitted: Row, c: u64, lent: LentWords, tables: &TableWords) -> Verdict
+    requires { LateReadable permitted.words tables.now.entries.now tables.now.relations.now tables.now.comparisons.now tables.now.queries.now }
     ensures { (T : Tables)
-        → LateReads T permitted.words entries.now relations.now comparisons.now queries.now
+        → LateReads T permitted.words tables.now.entries.now tables.now.relations.now tables.now.comparisons.now tables.now.queries.now
         → result ≡ first_of (permitted_condition c T ++ room_conditions lent.entries lent.relations lent.comparisons lent.queries T) }
 {
     if !is_permitted(permitted, c) {
@@ -68,5 +54,5 @@ pub fn check_late(
             configuration: c,
         });
     }
-    check_room(lent, entries, relations, comparisons, queries)
+    check_room(lent, tables)
 }

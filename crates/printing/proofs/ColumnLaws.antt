@@ -4,14 +4,13 @@ use mathlib.Core.Path.{◌≡◌, refl, sym, ap, ap₂, ◌∙◌}
 use mathlib.Core.Bool.{Bool, true, false, cond, ◌&&◌}
 use mathlib.Core.List.{List, [], ◌++◌}
 use native.Mathlib.Omega.{arith}
-use borrow.Author.Tests.{le-ltb}
 use lib.Bits.{bit_or}
 use lib.Dec.{ltb}
 use lib.ListN.{get_or}
 use Rattle.sets.specs.Lists.{concat}
 use Rattle.sets.specs.Bits.{bit}
 use Rattle.sets.specs.Rows.{row_bit, row_in}
-use Rattle.sets.proofs.BitLaws.{bit_none, one_more, all_below}
+use Rattle.sets.proofs.BitLaws.{one_more, all_below}
 use Rattle.sets.proofs.ListLaws.{table_at}
 use Rattle.report.specs.ColumnRows.{shown}
 use Rattle.report.specs.Text.{bytes, line}
@@ -29,12 +28,6 @@ module _ (rows : List ℕ) (c : ℕ) where
   -- the bit of row a for c, as it is read
   row_bit_lem : (a : ℕ) → c < 1024 → bit (get_or rows (a * 16 + c / 64) 0) (c % 64) ≡ row_bit (row_in 16 rows a) c
   row_bit_lem a h = ap (λ (w : ℕ). bit w (c % 64)) (sym (table_at 16 (λ i. get_or rows (a * 16 + i) 0) 0 (c / 64) (omega arith)))
-
-  pub showing_none : {found : ℕ} → found ≡ 0 → Showing rows c found 0
-  showing_none e = record {
-    most = omega arith;
-    has = λ i. ap (λ (x : ℕ). bit x i) e ∙ bit_none i ∙ sym (ap (λ (t : Bool). t && row_bit (row_in 16 rows i) c) (le-ltb i 0 (omega arith)));
-  }
 
   pub showing_more : {found a : ℕ} → Showing rows c found a → a < 64 → c < 1024
       → {next : ℕ} → next ≡ cond (bit (get_or rows (a * 16 + c / 64) 0) (c % 64)) (bit_or found (2 ^ a)) found → Showing rows c next (a + 1)

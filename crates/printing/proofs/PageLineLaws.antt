@@ -48,9 +48,6 @@ pub record TableWriting (n : ℕ) (f : ℕ → ℕ) (first : List ℕ) (at : ℕ
   pub written : WrittenAt (table i f) first at out (at + i)
 
 module _ {n : ℕ} {f : ℕ → ℕ} {first : List ℕ} {at : ℕ} where
-  pub table_none : TableWriting n f first at first 0
-  table_none = record { written = record { place = refl; stored = refl } }
-
   module _ {out : List ℕ} {i : ℕ} (w : TableWriting n f first at out i) where
     -- there is a place for the next number
     pub table_place : Room (table n f) first at → i < n → at + i < length out

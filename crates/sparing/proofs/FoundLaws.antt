@@ -9,34 +9,19 @@ use lib.ListN.{length, get_or, set, drop}
 use lib.Seq.{drop-cons, get_or_at}
 use Rattle.sets.specs.Rows.{row_bit, row_in}
 use Rattle.sets.specs.Lists.{table}
-use Rattle.sets.proofs.ListLaws.{table-length, NumbersFilling, filling_place, filling_more, filling_all}
+use Rattle.sets.proofs.ListLaws.{table-length, NumbersFilling, filling_more, filling_all}
 use Rattle.report.specs.Tables.{Tables, query, query_count}
 use Rattle.report.specs.Typing.{reached, set_rule, set_of}
 use Rattle.report.specs.Configuring.{written}
 use Rattle.report.specs.Readings.{found_in, found_below}
 use Rattle.report.specs.declared.Query.{Query}
 use Rattle.report.proofs.StepLaws.{set_in}
-use Rattle.report.proofs.FormedFacts.{query_at}
-use Rattle.at_configuration.specs.AtConfiguration.{PresentReads, PresentReadable}
 use Rattle.at_configuration.proofs.HoldLaws.{reach_row, reach_has}
-use Rattle.sparing.specs.FoundAt.{FoundReads, FoundHereReads, FoundHereReadable, AddReads, AddReadable}
+use Rattle.sparing.specs.FoundAt.{FoundReads, FoundHereReads, AddReads, AddReadable}
 
 -- ---- one form
 
 module _ {T : Tables} {x : Query} {q c : ℕ} {expression_rows relations form_sets : List ℕ} (R : FoundReads T x q c expression_rows relations form_sets) where
-  pub found_present : PresentReads T expression_rows relations c
-  found_present = record { reads = R.reads; relations_are = R.relations_are }
-
-  pub found_relation : {r : ℕ} → x ≡ Query.Relation r → PresentReadable expression_rows relations c (r + 1)
-  found_relation e = record {
-    tables = T;
-    reads = found_present;
-    few = let l = rw (sym R.form ∙ e) at (query_at R.reads.formed q R.inside) in omega arith;
-  }
-
-  pub found_place : q < length form_sets
-  found_place = let l = R.inside in let m = R.formed.room in omega arith
-
   -- what a project finds is its own set
   pub found_project : {a b s : ℕ} → x ≡ Query.Project a b → s ≡ get_or form_sets q 0 → s ≡ found_in T c q (Query.Project a b)
   found_project e p = p ∙ R.formed.each q R.inside ∙ set_in R.reads.formed c q R.inside ∙ ap (set_rule T c (set_of T c) q) (sym R.form ∙ e)
@@ -70,9 +55,6 @@ module _ {c : ℕ} {expression_rows relations queries reach form_sets lent : Lis
 
   module _ {spared_sets : List ℕ} {q : ℕ} (S : Adding c expression_rows relations queries reach form_sets lent spared_sets q) where
     module _ (A : AddReadable c expression_rows relations queries reach form_sets lent) (h : q < length queries / 4) where
-      pub adding_place : q < length spared_sets
-      adding_place = filling_place S (add_room A) h
-
       module _ {x : Query} (e : x ≡ query queries q) where
         adding_here : {T : Tables} → AddReads T c expression_rows relations queries reach form_sets lent
             → FoundHereReads T x q c expression_rows relations reach form_sets
@@ -86,9 +68,6 @@ module _ {c : ℕ} {expression_rows relations queries reach form_sets lent : Lis
           };
           reaching = R.reaching;
         }
-
-        pub adding_some : FoundHereReadable x q c expression_rows relations reach form_sets
-        adding_some = record { tables = A.tables; reads = adding_here A.reads }
 
         -- what it finds below c stands there still
         waiting : {T : Tables} → AddReads T c expression_rows relations queries reach form_sets lent → get_or spared_sets q 0 ≡ found_below T c q

@@ -1,14 +1,14 @@
 // Checks 1 to 5 and 7 of the table of refusals (docs/FORMAT.md, "Refusals"), one function a row. Each answers the first fault.
 #![tactic(auto)]
 
-ghost use Rattle.std.specs.Prelude.{◌≡◌, [], ◌/◌, ◌<◌, length};
+ghost use Rattle.std.specs.Prelude.{◌≡◌, ◌/◌, ◌<◌, length};
 ghost use Rattle.report.specs.Tables.{shape_of};
-ghost use Rattle.report.specs.Expressions.{tables_of};
+ghost use Rattle.report.specs.Expressions.{tables_in};
 ghost use Rattle.report.specs.FormChecks.{head_check, length_check, lengths_check, range_fits, expression_fits, expressions_check, model_form_check};
 ghost use Rattle.report.specs.FormChecks.{entry_fits, entries_check, comparison_fits, comparisons_check};
 
 use decoders::{decode_comparison, decode_expression, entry_attribute, entry_expression};
-use report::{Comparison, Expression, Limits, Verdict};
+use report::{Comparison, Expression, Limits, TableWords, Verdict};
 use sets::AttributeSet;
 use verdicts::refuse_if;
 
@@ -31,21 +31,14 @@ pub fn check_length(width: usize, least: usize, most: usize, table: usize, count
 }
 
 // Check 2.
-pub fn check_lengths(
-    expressions: &[u16],
-    entries: &[u16],
-    relations: &[u16],
-    comparisons: &[u16],
-    queries: &[u16],
-) -> Verdict
-    ensures { result ≡ lengths_check (tables_of 0 0 0 expressions.now entries.now relations.now comparisons.now
-        queries.now []) }
+pub fn check_lengths(tables: &TableWords) -> Verdict
+    ensures { result ≡ lengths_check (tables_in tables.now) }
 {
-    check_length(3, 1, Limits::MOST_EXPRESSIONS, 0, expressions.len())?;
-    check_length(2, 0, Limits::MOST_ENTRIES, 1, entries.len())?;
-    check_length(2, 0, Limits::MOST_RELATIONS, 2, relations.len())?;
-    check_length(5, 0, Limits::MOST_COMPARISONS, 3, comparisons.len())?;
-    check_length(4, 1, Limits::MOST_QUERIES, 4, queries.len())
+    check_length(3, 1, Limits::MOST_EXPRESSIONS, 0, tables.expressions.len())?;
+    check_length(2, 0, Limits::MOST_ENTRIES, 1, tables.entries.len())?;
+    check_length(2, 0, Limits::MOST_RELATIONS, 2, tables.relations.len())?;
+    check_length(5, 0, Limits::MOST_COMPARISONS, 3, tables.comparisons.len())?;
+    check_length(4, 1, Limits::MOST_QUERIES, 4, tables.queries.len())
 }
 
 // A range of `count` features from `first` on, where there are n.

@@ -101,7 +101,7 @@ fn check_by_rows(scope: Scope, tables: &SplitTables, reach: &[u64], columns: &mu
     check_rows(tables, reach, &spared_sets, &fault_rows)
 }
 
-// Checks 15 to 19 and 25 of tables whose expression rows `expression_rows` starts with and whose reach rows `reach` starts with, and the column rows,
+// Checks 15 to 19 and 25 of split tables, whose reach rows `reach` starts with, and the column rows,
 // whatever the answer.
 pub fn check_typing(
     scope: Scope,

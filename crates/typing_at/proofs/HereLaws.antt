@@ -21,7 +21,7 @@ use Rattle.report.specs.Tables.{Tables, query, kind_of, project_length, projecte
 use Rattle.report.specs.Typing.{reached, gathered, set_of, faults_of, clashes_in, faults_in, faults}
 use Rattle.report.specs.Readings.{faults_by}
 use Rattle.report.specs.Configuring.{written}
-use Rattle.report.specs.Verdicts.{Verdict, refusal, refuse_if, or_else}
+use Rattle.report.specs.Verdicts.{Verdict, refusal, refuse_if}
 use Rattle.report.specs.Checks.{rule_number, fault_number, fault_refusal}
 use Rattle.report.specs.declared.Query.{Query}
 use Rattle.report.specs.declared.Refusal.{Refusal}
@@ -31,12 +31,10 @@ use Rattle.report.proofs.ReadingLaws.{faults-spared, faults_later}
 use Rattle.report.proofs.VerdictLaws.{or_else_accepted, accepted_if, accepted_first, refused_first, then_next, then_refused}
 use Rattle.comparisons.specs.Gathering.{own_of}
 use Rattle.comparisons.specs.declared.Gathered.{Gathered}
-use Rattle.at_configuration.proofs.ListLaws.{form_list}
 use Rattle.at_configuration.proofs.PreparedLaws.{at_reads, relation_reads, comparison_reads}
-use Rattle.faults_at.specs.SetsAt.{GatheredReads, GatheredReadable, FormSetsReads, FormSetsReadable, FormClashesReads, FormClashesReadable}
-use Rattle.faults_at.proofs.FormSetLaws.{form_count}
+use Rattle.faults_at.specs.SetsAt.{GatheredReads, GatheredReadable, FormSetsReads, FormClashesReads, FormClashesReadable}
 use Rattle.typing_at.specs.TypingAt.{phase_here, form_here, typing_here, HereReads, HereReadable, SetsLent, HereFillable, HereFilled}
-use Rattle.typing_at.specs.Here.{FormHereReads, FormHereReadable, FormsHereReads, FormsHereReadable}
+use Rattle.typing_at.specs.Here.{FormHereReads, FormsHereReads, FormsHereReadable}
 use Rattle.typing_at.specs.declared.Here.{Here}
 
 -- ---- one form
@@ -68,10 +66,6 @@ module _ {T : Tables} {R : Reading} {q : ℕ} {expression_rows entries relations
   -- what is held against it in the first phase: not what is spared
   less_spared : {rule less : ℕ} → rule ≡ faults_of T c q x → less ≡ get_or spared q 0 → difference rule less ≡ faults_by T R c 0 q
   less_spared b l = ap₂ difference (b ∙ in_form 0) (l ∙ H.sparing.each q H.rule.at.inside) ∙ sym (faults-spared T R c q)
-
-  -- it has a word among those of what is spared
-  pub spared_place : q < length spared
-  spared_place = lt_of_lt_of_le H.rule.at.inside H.sparing.room
 
   -- a bit of the form's reach row was read
   module _ {t : Bool} (read : t ≡ row_bit (row_in 16 reach q) c) where
@@ -121,9 +115,6 @@ pub record FormsPassed (expression_rows entries relations queries reach spared :
       → form_here T R c k ≡ Ok tt
 
 module _ {expression_rows entries relations queries reach spared : List ℕ} {c : ℕ} {named clashing sets : List ℕ} where
-  pub forms_none : FormsPassed expression_rows entries relations queries reach spared c named clashing sets 0 0
-  forms_none = record { most = omega arith; starts = refl; none = λ T R H k h. absurd (omega arith) }
-
   module _ {q start : ℕ} (S : FormsPassed expression_rows entries relations queries reach spared c named clashing sets q start) where
     module _ (h : q < length queries / 4) {x : Query} (e : x ≡ query queries q) where
       here : {T : Tables} {R : Reading} → FormsHereReads T R expression_rows entries relations queries reach spared c named clashing sets
@@ -148,10 +139,6 @@ module _ {expression_rows entries relations queries reach spared : List ℕ} {c 
             sparing = H.sparing;
           }
 
-      pub here_readable : FormsHereReadable expression_rows entries relations queries reach spared c named clashing sets
-          → FormHereReadable q expression_rows entries relations reach spared c named clashing sets start x
-      here_readable A = record { tables = A.tables; reading = A.reading; reads = here A.reads }
-
       module _ {v : Verdict}
           (answers : (T : Tables) (R : Reading) → FormHereReads T R q expression_rows entries relations reach spared c named clashing sets start x
           → v ≡ form_here T R c q) where
@@ -168,9 +155,6 @@ module _ {expression_rows entries relations queries reach spared : List ℕ} {c 
 
         -- it does not
         module _ {n : ℕ} (l : n ≡ project_length x) where
-          pub forms_inside : FormsHereReadable expression_rows entries relations queries reach spared c named clashing sets → start + n ≤ length entries / 2
-          forms_inside A = (form_list (here A.reads).rule.at l).lies
-
           pub forms_more : v ≡ Ok tt → FormsPassed expression_rows entries relations queries reach spared c named clashing sets (q + 1) (start + n)
           forms_more f = record {
             most = omega arith;
@@ -203,14 +187,6 @@ module _ {T : Tables} {R : Reading} {c : ℕ} {expression_rows relation_entries 
     queries_are = H.report.prepared.queries_are;
   }
 
-  pub form_sets_readable : {lent : List ℕ} → query_count T ≤ length lent
-      → FormSetsReadable c expression_rows relation_entries project_entries relations queries lent
-  form_sets_readable h = record { tables = T; reads = reads_form_sets; room = h }
-
-  -- there is a form, and not more than there can be
-  pub report_form : (1 ≤ length queries / 4) × (length queries / 4 ≤ 256)
-  report_form = let e = form_count reads_form_sets in let n = counts H.report.prepared.formed in omega arith
-
   -- what is gathered and the sets of the forms were worked out
   module _ (lent_named lent_clashing lent_sets : List ℕ) {named clashing sets : List ℕ}
       (names : (T : Tables) → GatheredReads T expression_rows comparisons kinds c
@@ -235,10 +211,6 @@ module _ {T : Tables} {R : Reading} {c : ℕ} {expression_rows relation_entries 
 
       pub forms_readable : FormsHereReadable expression_rows project_entries relations queries reach spared c named clashing sets
       forms_readable = record { tables = T; reading = R; reads = reads_forms }
-
-      -- the report's number, that of the last form, has a word among the sets
-      pub report_place : length queries / 4 - 1 < length sets
-      report_place = let e = form_count reads_form_sets in let n = report_form in let m = reads_forms.formed.room in omega arith
 
       pub here_filled : {here : Here}
           → ((T : Tables) (R : Reading) → FormsHereReads T R expression_rows project_entries relations queries reach spared c named clashing sets

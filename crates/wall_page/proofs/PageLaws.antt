@@ -1,6 +1,6 @@
 -- The lines of the page counted, and what the call answers and leaves.
 use Rattle.std.specs.Prelude.{Ok, Err}
-use Prim.Native.Nat.{ℕ, suc, ◌+◌, ◌*◌, ◌%◌, ◌^◌, ◌≤◌, ◌<◌}
+use Prim.Native.Nat.{ℕ, ◌*◌, ◌%◌, ◌^◌}
 use mathlib.Core.Path.{◌≡◌, refl, sym, ap, ◌∙◌}
 use mathlib.Core.List.{List}
 use native.Mathlib.Omega.{arith}
@@ -23,7 +23,7 @@ use Rattle.report.proofs.FirstFault.{first_none, first_one}
 use Rattle.report.proofs.TypingLaws.{rows_length}
 use Rattle.printing.specs.Page.{page}
 use Rattle.printing.specs.PageRows.{page_text, permitted_count, PageRead}
-use Rattle.printing.proofs.PageLaws.{permitted_count_lem, text_length, rows_page, rows_count, page_bytes}
+use Rattle.printing.proofs.PageLaws.{text_length, rows_page, rows_count, page_bytes}
 use Rattle.judging.specs.Judging.{report_check}
 use Rattle.judging.proofs.JudgingLaws.{call_refused, call_late, Columns, shifted_configurations, shifted_few}
 use Rattle.wall_page.specs.Page.{PageAnswer, line_count, writing_page, page_answer, PageWritten}
@@ -38,10 +38,6 @@ pub page-length : {T : Tables} → Formed T → length (page T) ≡ line_count T
 page-length {T} F = page_bytes F ∙ ap (λ (k : ℕ). k * 73) (sym (line_count_lem T))
 
 -- ---- the answer
-
--- a refused call leaves what was lent
-pub refused_left : {v : Verdict} {r : Refusal} (new lent : List ℕ) → v ≡ Err r → lent ≡ after v new lent
-refused_left new lent f = ap (λ (x : Verdict). after x new lent) (sym f)
 
 module _ (T : Tables) (R : Reading) {checked : Verdict} (before : checked ≡ report_check T R) (lent : List ℕ) where
   -- what is promised, where the call's answer is known

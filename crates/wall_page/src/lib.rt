@@ -19,6 +19,7 @@ pub type PageAnswer = Result<usize, Refusal>;
 const LINE_BYTES: usize = 73;
 
 // How many of the configurations below `count` the row has.
+#[tactic(auto, using(sets::proofs::SearchLaws::count_le), unfolding(printing::specs::PageRows::permitted_count))]
 fn permitted_count(row: Row, count: usize) -> usize
     requires { count ≤ 1024 }
     ensures { result ≡ permitted_count row.words count }

@@ -1,4 +1,4 @@
-// Texts, numbers and the lines of the print, written into lent bytes. Each function writes at a position and returns the position after.
+// Numbers and the lines of the print, written into lent bytes. Each function writes at a position and returns the position after.
 #![tactic(auto)]
 
 ghost use Rattle.std.specs.Prelude.{◌<◌, ◌∷◌};

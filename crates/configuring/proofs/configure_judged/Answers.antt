@@ -12,9 +12,6 @@ returns-in_err-check_late c =
     let told : c.from_residual.result ≡ Err c.in_err-check_late.field-0.0 = search rules in
     rw told (leaves_refused (c.in_err-check_late.ensures _ (late_reads c.args.tables.now c.requires c.load-permitted.ensures)))
 
-pub split_tables-split-requires : goal.split_tables-split-requires
-split_tables-split-requires c = c.requires.formed
-
 pub write_kept-requires : goal.write_kept-requires
 write_kept-requires c =
     let a = c.args in

@@ -1,4 +1,3 @@
-use Prim.Native.Nat.{◌-◌}
 use Rattle.expression_rows.proofs.CheckLaws.{Listed}
 use Rattle.expression_rows.proofs.check_list.Given as goal
 

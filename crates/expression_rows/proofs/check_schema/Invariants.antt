@@ -1,5 +1,3 @@
-use Prim.Native.Nat.{◌/◌, ◌-◌}
-use lib.ListN.{length}
 use Rattle.expression_rows.proofs.CheckLaws.{RelationsChecked}
 use Rattle.expression_rows.proofs.check_schema.Given as goal
 

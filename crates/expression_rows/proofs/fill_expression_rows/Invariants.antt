@@ -1,5 +1,3 @@
-use Prim.Native.Nat.{◌/◌, ◌-◌}
-use lib.ListN.{length}
 use Rattle.expression_rows.proofs.FillLaws.{ExpressionsFilling}
 use Rattle.expression_rows.proofs.fill_expression_rows.Given as goal
 

@@ -1,4 +1,4 @@
-use Rattle.std.proofs.Common.{rules, ◌≡◌, ◌∙◌, Err, sym, refl}
+use Rattle.std.proofs.Common.{rules, ◌≡◌, ◌∙◌, Err, refl}
 use Rattle.typing_at.proofs.HereLaws.{forms_refused, forms_more, forms_all}
 use Rattle.typing_at.proofs.forms_here.Goals as goal
 
