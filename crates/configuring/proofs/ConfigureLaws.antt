@@ -24,8 +24,10 @@ use Rattle.report.proofs.Formed.{formed}
 use Rattle.report.proofs.VerdictLaws.{both_accepted, if_accepted}
 use Rattle.report.proofs.SameTables.{same_tables}
 use Rattle.report.proofs.FirstFault.{first_none, room_fits, first_own}
-use Rattle.judging.specs.Judging.{meaning_check, report_check}
-use Rattle.judging.proofs.JudgingLaws.{call_refused, call_late, Rows}
+use Rattle.expression_rows.specs.SplitTables.{of_split}
+use Rattle.expression_rows.specs.declared.SplitTables.{SplitTables}
+use Rattle.judging.specs.Judging.{meaning_check, report_check, IsSplit}
+use Rattle.judging.proofs.JudgingLaws.{call_refused, call_late, Rows, split_prepared}
 use Rattle.configuring.specs.declared.FormCounts.{FormCounts}
 use Rattle.configuring.specs.Promises.{Configured, form_counts, configured_answer, Rooms, Leaves, Configures, is_configured_fault}
 use Rattle.configuring.specs.AfterTyping.{late_verdict, ConfigureReads}
@@ -91,8 +93,9 @@ written_late T c new_entries new_relations new_comparisons new_queries e f L =
     rw (← e, f) (L (late_accepted T c new_entries new_relations new_comparisons new_queries (sym e ∙ f)).0)
 
 -- what 20, 21 and the writing read of a report that has passed the checks before
-pub judged_reads : {T : Tables} {expression_rows reach columns : List ℕ} → Rows T expression_rows reach columns → ConfigureReads T expression_rows reach
-judged_reads R = record { formed = R.formed; filled = R.filled; reaching = R.reaching }
+pub judged_reads : {T : Tables} {expression_rows reach columns : List ℕ} → Rows T expression_rows reach columns
+    → {split : SplitTables} → of_split split (IsSplit T expression_rows) → ConfigureReads T T.model split reach
+judged_reads R S = record { prepared = split_prepared R.formed S R.filled; number = refl; reaching = R.reaching }
 
 -- ---- for those who read the answer
 

@@ -1,11 +1,11 @@
 -- The writing of configured tables: what each writer reads, that there is room, and that together they write the tables of `configured`.
 use Rattle.std.specs.Prelude.{Ok}
-use Prim.Native.Nat.{ℕ, ◌+◌, ◌-◌, ◌*◌, ◌/◌, ◌≤◌}
-use mathlib.Core.Path.{◌≡◌, refl, sym, ap, ◌∙◌}
+use Prim.Native.Nat.{ℕ, ◌+◌, ◌*◌, ◌/◌, ◌≤◌}
+use mathlib.Core.Path.{◌≡◌, refl, sym, ap, ap₂, ◌∙◌}
 use mathlib.Core.Bool.{true}
 use mathlib.Core.List.{List, ◌++◌}
 use native.Mathlib.Omega.{arith}
-use lib.ListN.{length, take, drop, replicate, length-append, take-append-drop}
+use lib.ListN.{length, replicate, length-append, take-append-drop}
 use Rattle.sets.specs.Lists.{table, NumbersAre}
 use Rattle.sets.specs.Rows.{row_in}
 use Rattle.sets.specs.Writing.{Room, WrittenAt}
@@ -13,14 +13,12 @@ use Rattle.sets.proofs.ListLaws.{numbers_are}
 use Rattle.sets.proofs.WritingLaws.{from_start}
 use Rattle.report.specs.Tables.{Tables, comparison_count, query_count, relations_end, entries_of_relations, entries_of_projects}
 use Rattle.report.specs.Typing.{set_of}
-use Rattle.report.specs.Expressions.{permitted, tables_in}
+use Rattle.report.specs.Expressions.{permitted}
 use Rattle.report.specs.Configuring.{new_comparison, new_query, configured, written}
 use Rattle.report.specs.Formed.{Formed}
 use Rattle.report.specs.declared.Reading.{Reading}
-use Rattle.report.specs.declared.TableWords.{TableWords}
 use Rattle.report.proofs.TypingLaws.{permitted_within}
 use Rattle.report.proofs.WrittenQueries.{entries_room, relations_room, comparisons_room, queries_room}
-use Rattle.expression_rows.specs.SplitTables.{of_split}
 use Rattle.expression_rows.specs.declared.SplitTables.{SplitTables}
 use Rattle.expression_rows.proofs.PermittedLaws.{model_row}
 use Rattle.at_configuration.specs.AtConfiguration.{RelationReads, ComparisonReads}
@@ -30,8 +28,6 @@ use Rattle.kept_lists.specs.Keeping.{relation_lists, project_lists, relation_for
 use Rattle.kept_forms.specs.Numbering.{comparison_forms, query_forms, ComparisonFormReads, ComparisonFormWritable}
 use Rattle.kept_forms.specs.Numbering.{QueryReads, QueryFormReads, QueryFormWritable}
 use Rattle.late_checks.specs.LateReads.{LateReads}
-use Rattle.judging.specs.Judging.{IsSplit}
-use Rattle.judging.proofs.JudgingLaws.{tables_read}
 use Rattle.configuring.specs.Promises.{form_counts, Rooms, Leaves}
 use Rattle.configuring.specs.AfterTyping.{ConfigureReads, EntriesReads, EntriesWritable, KeptReads, KeptWritable, TypedReads, TypedWritable}
 
@@ -210,22 +206,24 @@ module _ {split : SplitTables} {reach form_sets : List ℕ} {c : ℕ} {new_entri
         queries_writable e =
             record { tables = W.tables; reads = form_reads W.reads first_numbers e; room = queries_fit formed c W.rooms }
 
--- ---- from the tables
+-- ---- from the prepared tables
 
-module _ (words : TableWords) {expression_rows reach : List ℕ} (R : ConfigureReads (tables_in words) expression_rows reach) where
-  pub late_reads : {permits : List ℕ} → permits ≡ row_in 16 expression_rows words.head.model
-      → LateReads (tables_in words) permits words.entries.now words.relations.now words.comparisons.now words.queries.now
-  late_reads load = record {
-    few = R.formed.few;
-    permitting = load ∙ model_row R.formed R.filled refl;
-    source = record { entries_are = refl; relations_are = refl; comparisons_are = refl; queries_are = refl };
-  }
+module _ {T : Tables} {model : ℕ} {split : SplitTables} {reach : List ℕ} (R : ConfigureReads T model split reach) where
+  pub late_reads : {permits : List ℕ} → permits ≡ row_in 16 split.expression_rows.now model
+      → LateReads T permits (split.relation_entries.now ++ split.project_entries.now) split.relations.now split.comparisons.now split.queries.now
+  late_reads load =
+      let P = R.prepared in
+      record {
+        few = P.formed.few;
+        permitting = load ∙ model_row P.formed P.filled R.number;
+        source = record {
+          entries_are = ap₂ (λ (k l : List ℕ). k ++ l) P.relation_entries_are P.project_entries_are ∙ take-append-drop (relations_end T * 2) T.entries;
+          relations_are = P.relations_are;
+          comparisons_are = P.comparisons_are;
+          queries_are = P.queries_are;
+        };
+      }
 
-  -- split, at a permitted configuration
-  pub kept_reads : {split : SplitTables} → of_split split (IsSplit (tables_in words) expression_rows) → {c : ℕ} → permitted (tables_in words) c ≡ true
-      → KeptReads (tables_in words) split reach c
-  kept_reads S {c} p = record {
-    prepared = (tables_read R.formed S R.filled {head = words.head} refl refl refl).prepared;
-    inside = permitted_within (tables_in words) c p;
-    reaching = R.reaching;
-  }
+  -- at a permitted configuration
+  pub kept_reads : {c : ℕ} → permitted T c ≡ true → KeptReads T split reach c
+  kept_reads {c} p = record { prepared = R.prepared; inside = permitted_within T c p; reaching = R.reaching }

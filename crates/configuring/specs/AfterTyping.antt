@@ -1,5 +1,5 @@
 -- The parts of the call after typing.
-use Rattle.std.specs.Prelude.{ℕ, ◌<◌, List, ◌++◌, length}
+use Rattle.std.specs.Prelude.{ℕ, ◌<◌, ◌≡◌, List, ◌++◌, length}
 use Rattle.sets.specs.Lists.{NumbersAre}
 use Rattle.sets.specs.Writing.{Room}
 use Rattle.report.specs.Tables.{Tables, query_count}
@@ -7,8 +7,7 @@ use Rattle.report.specs.Typing.{set_of}
 use Rattle.report.specs.Expressions.{configurations}
 use Rattle.report.specs.Verdicts.{Verdict, first_of}
 use Rattle.report.specs.Calls.{permitted_condition, room_conditions}
-use Rattle.report.specs.Formed.{Formed}
-use Rattle.expression_rows.specs.ExpressionRows.{TruthFilled, Prepared, ReachFilled}
+use Rattle.expression_rows.specs.ExpressionRows.{Prepared, ReachFilled}
 use Rattle.expression_rows.specs.declared.SplitTables.{SplitTables}
 use Rattle.at_configuration.specs.AtConfiguration.{RelationReads}
 use Rattle.kept_lists.specs.Keeping.{relation_lists, project_lists, ProjectReads}
@@ -19,11 +18,17 @@ abbrev pub late_verdict : Tables → ℕ → List ℕ → List ℕ → List ℕ 
 late_verdict T c new_entries new_relations new_comparisons new_queries =
     first_of (permitted_condition c T ++ room_conditions (length new_entries) (length new_relations) (length new_comparisons) (length new_queries) T)
 
--- tables that have passed the form checks, with their expression rows and their reach rows
-pub record ConfigureReads (T : Tables) (expression_rows reach : List ℕ) : Type 0 where
-  pub formed : Formed T
-  pub filled : TruthFilled T expression_rows
+-- the prepared tables, with their model and their reach rows
+pub record ConfigureReads (T : Tables) (model : ℕ) (split : SplitTables) (reach : List ℕ) : Type 0 where
+  pub prepared : Prepared T split.expression_rows.now split.relation_entries.now split.project_entries.now split.relations.now split.comparisons.now
+      split.queries.now
+  pub number : model ≡ T.model
   pub reaching : ReachFilled T reach
+
+-- there are such tables
+pub record ConfigureReadable (model : ℕ) (split : SplitTables) (reach : List ℕ) : Type 0 where
+  pub tables : Tables
+  pub reads : ConfigureReads tables model split reach
 
 -- what table 1 is written from: its parts, tables 2 and 4, and the sets of the query forms
 pub record EntriesReads (T : Tables) (split : SplitTables) (reach form_sets : List ℕ) (c : ℕ) : Type 0 where

@@ -9,7 +9,7 @@ ghost use Rattle.report.specs.Configuring.{configured};
 ghost use Rattle.report.specs.declared.Reading.{Reading};
 ghost use Rattle.kept_lists.specs.Keeping.{relation_lists, project_lists};
 ghost use Rattle.configuring.specs.Promises.{Leaves, Configures};
-ghost use Rattle.configuring.specs.AfterTyping.{late_verdict, ConfigureReads};
+ghost use Rattle.configuring.specs.AfterTyping.{late_verdict, ConfigureReads, ConfigureReadable};
 ghost use Rattle.configuring.specs.AfterTyping.{EntriesReads, EntriesWritable, TypedReads, TypedWritable, KeptReads, KeptWritable};
 
 use expression_rows::SplitTables;
@@ -140,19 +140,19 @@ fn write_kept(
 // The four tables lent for writing are no struct: one that holds a `&mut` needs a clause in each function that it is the same one.
 // 20, 21 and the tables at c, of a report that has passed the checks before, from its expression rows and its reach rows.
 fn configure_judged(
-    tables: &TableWords,
+    model: usize,
     c: u64,
-    expression_rows: &[u64],
+    tables: &SplitTables,
     reach: &[u64],
     new_entries: &mut [u16],
     new_relations: &mut [u16],
     new_comparisons: &mut [u16],
     new_queries: &mut [u16],
 ) -> Configured
-    requires { ConfigureReads (tables_in tables.now) expression_rows.now reach.now }
-    ensures { Leaves
-        (late_verdict (tables_in tables.now) c new_entries.old new_relations.old new_comparisons.old new_queries.old)
-        (configured (tables_in tables.now) c Reading.Filled)
+    requires { ConfigureReadable model tables.now reach.now }
+    ensures { (T : Tables) → ConfigureReads T model tables.now reach.now
+        → Leaves (late_verdict T c new_entries.old new_relations.old new_comparisons.old new_queries.old)
+        (configured T c Reading.Filled)
         new_entries.old new_relations.old new_comparisons.old new_queries.old result
         new_entries.new new_relations.new new_comparisons.new new_queries.new }
 {
@@ -162,12 +162,11 @@ fn configure_judged(
         comparisons: new_comparisons.len(),
         queries: new_queries.len(),
     };
-    let permitted = Row::load(expression_rows, tables.head.model);
+    let permitted = Row::load(tables.expression_rows, model);
     check_late(permitted, c, lent, tables)?;
-    let split = split_tables(tables, expression_rows);
     write_kept(
         c as usize,
-        &split,
+        tables,
         reach,
         new_entries,
         new_relations,
@@ -201,10 +200,18 @@ pub fn configure(
         &mut reach,
         &mut columns,
     )?;
-    configure_judged(
-        tables,
-        c,
+    let split = split_tables(
         &expression_rows,
+        tables.entries,
+        tables.relations,
+        tables.comparisons,
+        tables.queries,
+        tables.kinds,
+    );
+    configure_judged(
+        tables.head.model,
+        c,
+        &split,
         &reach,
         new_entries,
         new_relations,

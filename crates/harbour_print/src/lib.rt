@@ -30,7 +30,7 @@ pub const LONGEST_PRINT: usize = 201653;
 pub type PrintRoom = [u8; LONGEST_PRINT];
 
 // The print of tables that were read, which are so many of the first words of the lent ones.
-fn print_read(sizes: Sizes, layout: Layout, lent: &TableWords, out: &mut [u8]) -> usize
+fn print_read(lent: &TableWords, sizes: Sizes, layout: Layout, out: &mut [u8]) -> usize
     requires { HeldReadable sizes (words_in lent.now) out.old }
     ensures { (T : Tables) → Held T sizes (words_in lent.now) → Prints (file_as layout (File.holds T)) out.old out.new result }
 {
@@ -79,7 +79,7 @@ pub fn print_file(text: &[u8], layout: Layout, out: &mut PrintRoom) -> usize
                 queries: &queries,
                 kinds: &kinds,
             };
-            print_read(sizes, layout, &lent, out)
+            print_read(&lent, sizes, layout, out)
         }
     }
 }

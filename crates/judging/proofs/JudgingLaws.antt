@@ -6,11 +6,11 @@ use mathlib.Core.Bool.{true, false}
 use mathlib.Core.List.{List}
 use native.Mathlib.Nat.{le_refl, le-max_left, le-max_right, max-le}
 use native.Mathlib.Omega.{arith}
-use lib.ListN.{length, take, drop, replicate, length-replicate}
+use lib.ListN.{length, replicate, length-replicate}
 use lib.Pow.{pow_mono}
 use Rattle.sets.specs.Rows.{row_of, row_in, row_is_empty, within}
 use Rattle.sets.proofs.BitLaws.{shl_one}
-use Rattle.report.specs.Tables.{Tables, expression_count, relation_count, query_count, relations_end}
+use Rattle.report.specs.Tables.{Tables, expression_count, relation_count, query_count}
 use Rattle.report.specs.Expressions.{configurations, permitted}
 use Rattle.report.specs.ColumnRows.{column_rows}
 use Rattle.report.specs.Configuring.{written}
@@ -26,7 +26,7 @@ use Rattle.report.proofs.Formed.{formed}
 use Rattle.report.proofs.FormedFacts.{counts}
 use Rattle.report.proofs.VerdictLaws.{or_else_assoc, both_accepted, then_next, then_refused}
 use Rattle.report.proofs.CallLaws.{answer_run}
-use Rattle.expression_rows.specs.ExpressionRows.{rows_of, TruthFilled, SchemaReads, ReachFilled}
+use Rattle.expression_rows.specs.ExpressionRows.{rows_of, TruthFilled, SchemaReads, ReachFilled, Prepared}
 use Rattle.expression_rows.proofs.FillLaws.{filled}
 use Rattle.expression_rows.proofs.PermittedLaws.{model_check_lem, model_row}
 use Rattle.reach.specs.Reach.{reach_rows, ReachReads}
@@ -34,7 +34,7 @@ use Rattle.reach.proofs.ReachRows.{reach_rows_lem}
 use Rattle.forms.proofs.Chain.{stops, goes_on}
 use Rattle.expression_rows.specs.TypingReads.{Items, TypingReads, Checked}
 use Rattle.expression_rows.specs.declared.Scope.{Scope}
-use Rattle.judging.specs.Judging.{IsSplit, meaning_check, report_check, early_check, JudgeReads, JudgeReadable, Judged, ColumnsReadable}
+use Rattle.judging.specs.Judging.{SplitReads, IsSplit, meaning_check, report_check, early_check, JudgeReads, JudgeReadable, Judged, ColumnsReadable}
 use Rattle.judging.specs.Judging.{TablesFillable, TablesFilled, TablesReadable, TablesJudged, ColumnsChecked, RowsLent, RowsChecked}
 
 -- ---- the answer of any call
@@ -170,21 +170,31 @@ any_forms {T} R unshown = record {
 -- ---- whole tables, with expression rows of its own
 
 module _ {T : Tables} (F : Formed T) where
+  -- what `split_tables` is given
+  pub split_reads : SplitReads T T.entries T.relations T.comparisons T.queries T.kinds
+  split_reads = record { formed = F; entries_are = refl; relations_are = refl; comparisons_are = refl; queries_are = refl; kinds_are = refl }
+
   -- the tables, split
+  pub split_prepared : {rows expression_rows relation_entries project_entries relations comparisons queries kinds : List ℕ}
+      → IsSplit T rows expression_rows relation_entries project_entries relations comparisons queries kinds → TruthFilled T rows
+      → Prepared T expression_rows relation_entries project_entries relations comparisons queries
+  split_prepared S C = record {
+    formed = F;
+    filled = subst (TruthFilled T) (sym S.rows_are) C;
+    relation_entries_are = S.relation_entries_are;
+    project_entries_are = S.project_entries_are;
+    relations_are = S.relations_are;
+    comparisons_are = S.comparisons_are;
+    queries_are = S.queries_are;
+  }
+
+  -- with their head
   pub tables_read : {rows expression_rows relation_entries project_entries relations comparisons queries kinds : List ℕ}
       → IsSplit T rows expression_rows relation_entries project_entries relations comparisons queries kinds → TruthFilled T rows → {head : Head}
       → head.features ≡ T.features → head.attributes ≡ T.attributes → head.model ≡ T.model
       → JudgeReads T head expression_rows relation_entries project_entries relations comparisons queries kinds
   tables_read S C n m k = record {
-    prepared = record {
-      formed = F;
-      filled = subst (TruthFilled T) (sym S.rows_are) C;
-      relation_entries_are = S.relation_entries_are;
-      project_entries_are = S.project_entries_are;
-      relations_are = S.relations_are;
-      comparisons_are = S.comparisons_are;
-      queries_are = S.queries_are;
-    };
+    prepared = split_prepared S C;
     features = n;
     attributes = m;
     model = k;

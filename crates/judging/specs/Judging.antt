@@ -68,6 +68,20 @@ pub record ColumnsJudged (T : Tables) (R : Reading) (answer : Verdict) (lent_col
 
 -- ---- whole tables
 
+-- tables that have passed the form checks: these are their tables 1 to 4 and their kind table
+pub record SplitReads (T : Tables) (entries relations comparisons queries kinds : List ℕ) : Type 0 where
+  pub formed : Formed T
+  pub entries_are : entries ≡ T.entries
+  pub relations_are : relations ≡ T.relations
+  pub comparisons_are : comparisons ≡ T.comparisons
+  pub queries_are : queries ≡ T.queries
+  pub kinds_are : kinds ≡ T.kinds
+
+-- there are such tables
+pub record SplitReadable (entries relations comparisons queries kinds : List ℕ) : Type 0 where
+  pub tables : Tables
+  pub reads : SplitReads tables entries relations comparisons queries kinds
+
 -- the parts of split tables: these expression rows, table 1 in its two parts, and the others as they are
 pub record IsSplit (T : Tables) (rows expression_rows relation_entries project_entries relations comparisons queries kinds : List ℕ) : Type 0 where
   pub rows_are : expression_rows ≡ rows

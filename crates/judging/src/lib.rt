@@ -7,12 +7,11 @@
 ghost use Rattle.std.specs.Prelude.{◌≡◌, ◌≤◌, ◌/◌, replicate};
 ghost use Rattle.report.specs.Tables.{Tables};
 ghost use Rattle.report.specs.Expressions.{tables_in};
-ghost use Rattle.report.specs.Formed.{Formed};
 ghost use Rattle.report.specs.Checks.{model_and_schema_check};
 ghost use Rattle.expression_rows.specs.ExpressionRows.{SchemaReads, SchemaReadable};
 ghost use Rattle.expression_rows.specs.SplitTables.{of_split};
 ghost use Rattle.judging.specs.Judging.{JudgeReads, JudgeReadable, Judged, ColumnsReadable, ColumnsJudged};
-ghost use Rattle.judging.specs.Judging.{IsSplit, TablesFillable, TablesFilled, TablesReadable, TablesJudged, ColumnsChecked, RowsLent, RowsChecked};
+ghost use Rattle.judging.specs.Judging.{SplitReads, SplitReadable, IsSplit, TablesFillable, TablesFilled, TablesReadable, TablesJudged, ColumnsChecked, RowsLent, RowsChecked};
 
 use expression_rows::{Scope, SplitTables, check_permitted, check_schema, fill_expression_rows};
 use forms::{check_forms, relations_end};
@@ -115,24 +114,30 @@ pub struct Judgement {
     pub permitted: Row,
 }
 
-// Tables that have passed the form checks, with their expression rows: table 1 is split where the lists of the relations end.
+// Tables 1 to 4 and the kind table of tables that have passed the form checks, with their expression rows: table 1 is split where the lists of the
+// relations end. It is not given table 0, in whose place the expression rows stand from here on.
 pub fn split_tables<'r, 't>(
-    tables: &TableWords<'t>,
     expression_rows: &'r [u64],
+    entries: &'t [u16],
+    relations: &'t [u16],
+    comparisons: &'t [u16],
+    queries: &'t [u16],
+    kinds: &'t [u16],
 ) -> SplitTables<'r, 't>
-    requires { Formed (tables_in tables.now) }
-    ensures { of_split result (IsSplit (tables_in tables.now) expression_rows.now) }
+    requires { SplitReadable entries.now relations.now comparisons.now queries.now kinds.now }
+    ensures { (T : Tables)
+        → SplitReads T entries.now relations.now comparisons.now queries.now kinds.now
+        → of_split result (IsSplit T expression_rows.now) }
 {
-    let end = relations_end(tables.relations) * 2;
-    let (relation_entries, project_entries) = tables.entries.split_at(end);
+    let end = relations_end(relations) * 2;
     SplitTables {
         expression_rows,
-        relation_entries,
-        project_entries,
-        relations: tables.relations,
-        comparisons: tables.comparisons,
-        queries: tables.queries,
-        kinds: tables.kinds,
+        relation_entries: &entries[..end],
+        project_entries: &entries[end..],
+        relations,
+        comparisons,
+        queries,
+        kinds,
     }
 }
 
@@ -149,7 +154,14 @@ fn fill_and_judge(
         reading result expression_rows.old columns.old expression_rows.new columns.new }
 {
     fill_expression_rows(tables.head.features, tables.expressions, expression_rows);
-    let split = split_tables(tables, expression_rows);
+    let split = split_tables(
+        expression_rows,
+        tables.entries,
+        tables.relations,
+        tables.comparisons,
+        tables.queries,
+        tables.kinds,
+    );
     judge_into_columns(tables.head, reading, &split, columns)
 }
 
@@ -224,6 +236,13 @@ pub fn check_into_rows(
 {
     check_forms(tables)?;
     fill_expression_rows(tables.head.features, tables.expressions, expression_rows);
-    let split = split_tables(tables, expression_rows);
+    let split = split_tables(
+        expression_rows,
+        tables.entries,
+        tables.relations,
+        tables.comparisons,
+        tables.queries,
+        tables.kinds,
+    );
     judge_into_rows(tables.head, reading, &split, reach, columns)
 }

@@ -1,7 +1,7 @@
 -- How the tests of 20 and 21 make their answer.
 use Rattle.std.specs.Prelude.{Err}
 use Prim.Native.Nat.{ℕ, ◌^◌, ◌≤◌, ◌<◌}
-use mathlib.Core.Path.{◌≡◌, sym, ap, ap₂, ◌∙◌}
+use mathlib.Core.Path.{◌≡◌, sym, ap, ◌∙◌}
 use mathlib.Core.Bool.{Bool, true, false, not, ◌&&◌}
 use mathlib.Core.List.{List, ◌++◌}
 use native.Mathlib.Decide.{dec_lt}
@@ -39,15 +39,15 @@ told_permitted T few {permits} e c = go (dec_lt c 1024)
 
 module _ {T : Tables} {entries relations comparisons queries : List ℕ} (R : SourceReads T entries relations comparisons queries)
     (lent : LentWords) where
-  -- the four tests, one after another
-  pub room_answers : {v : Verdict}
-      → v ≡ or_else (refuse_if (ltb lent.entries (length entries)) (refusal 21 1 0 0))
+  -- the four tests, one after another, where table 1 has n words
+  pub room_answers : {n : ℕ} → n ≡ length entries → {v : Verdict}
+      → v ≡ or_else (refuse_if (ltb lent.entries n) (refusal 21 1 0 0))
       (or_else (refuse_if (ltb lent.relations (length relations)) (refusal 21 2 0 0))
       (or_else (refuse_if (ltb lent.comparisons (length comparisons)) (refusal 21 3 0 0))
       (refuse_if (ltb lent.queries (length queries)) (refusal 21 4 0 0))))
       → v ≡ first_of (room_conditions lent.entries lent.relations lent.comparisons lent.queries T)
-  room_answers e =
-      (rw (R.entries_are, R.relations_are, R.comparisons_are, R.queries_are) at e)
+  room_answers m e =
+      (rw (m, R.entries_are, R.relations_are, R.comparisons_are, R.queries_are) at e)
       ∙ sym (first_room T lent.entries lent.relations lent.comparisons lent.queries)
 
 -- ---- 20 and 21

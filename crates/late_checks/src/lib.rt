@@ -8,7 +8,8 @@ ghost use Rattle.report.specs.Verdicts.{first_of};
 ghost use Rattle.report.specs.Calls.{permitted_condition, room_conditions};
 ghost use Rattle.late_checks.specs.LateReads.{SourceReads, LateReads, LateReadable};
 
-use report::{Refusal, TableWords, Verdict};
+use expression_rows::SplitTables;
+use report::{Refusal, Verdict};
 use sets::Row;
 use verdicts::refuse_if;
 
@@ -29,22 +30,26 @@ pub struct LentWords {
     pub queries: usize,
 }
 
-// Check 21: each table lent for writing has as many words as its source.
-fn check_room(lent: LentWords, tables: &TableWords) -> Verdict
-    ensures { (T : Tables) → SourceReads T tables.now.entries.now tables.now.relations.now tables.now.comparisons.now tables.now.queries.now
+// Check 21: each table lent for writing has as many words as its source, table 1 as many as its two parts.
+fn check_room(lent: LentWords, tables: &SplitTables) -> Verdict
+    ensures { (T : Tables) → SourceReads T (tables.now.relation_entries.now ++ tables.now.project_entries.now) tables.now.relations.now
+        tables.now.comparisons.now tables.now.queries.now
         → result ≡ first_of (room_conditions lent.entries lent.relations lent.comparisons lent.queries T) }
 {
-    refuse_if(lent.entries < tables.entries.len(), 21, 1)?;
+    let entries = tables.relation_entries.len() + tables.project_entries.len();
+    refuse_if(lent.entries < entries, 21, 1)?;
     refuse_if(lent.relations < tables.relations.len(), 21, 2)?;
     refuse_if(lent.comparisons < tables.comparisons.len(), 21, 3)?;
     refuse_if(lent.queries < tables.queries.len(), 21, 4)
 }
 
 // Checks 20 and 21, where these configurations are permitted.
-pub fn check_late(permitted: Row, c: u64, lent: LentWords, tables: &TableWords) -> Verdict
-    requires { LateReadable permitted.words tables.now.entries.now tables.now.relations.now tables.now.comparisons.now tables.now.queries.now }
+pub fn check_late(permitted: Row, c: u64, lent: LentWords, tables: &SplitTables) -> Verdict
+    requires { LateReadable permitted.words (tables.now.relation_entries.now ++ tables.now.project_entries.now) tables.now.relations.now
+        tables.now.comparisons.now tables.now.queries.now }
     ensures { (T : Tables)
-        → LateReads T permitted.words tables.now.entries.now tables.now.relations.now tables.now.comparisons.now tables.now.queries.now
+        → LateReads T permitted.words (tables.now.relation_entries.now ++ tables.now.project_entries.now) tables.now.relations.now
+        tables.now.comparisons.now tables.now.queries.now
         → result ≡ first_of (permitted_condition c T ++ room_conditions lent.entries lent.relations lent.comparisons lent.queries T) }
 {
     if !is_permitted(permitted, c) {
