@@ -1,6 +1,6 @@
 -- How the parts of the check make its answer, and what each part leaves for the next.
 use Rattle.std.specs.Prelude.{Ok, Err}
-use Prim.Native.Nat.{ℕ, ◌+◌}
+use Prim.Native.Nat.{ℕ, ◌+◌, ◌<◌}
 use mathlib.Core.Path.{◌≡◌, sym, ap, ap₂, ◌∙◌}
 use mathlib.Core.Bool.{Bool, not}
 use mathlib.Core.List.{List, ◌++◌, append-nil}
@@ -8,8 +8,10 @@ use native.Mathlib.Nat.{le_refl}
 use native.Mathlib.Omega.{arith}
 use borrow.Author.Tests.{eq-eqb, ne_eqb}
 use lib.Dec.{eqb}
-use lib.ListN.{length, drop}
+use lib.ListN.{length, drop, get_or}
 use lib.Seq.{paste, take_all, drop-length}
+use Rattle.sets.specs.Lists.{table}
+use Rattle.sets.proofs.ListLaws.{table_of}
 use Rattle.report.specs.Tables.{Tables}
 use Rattle.report.specs.Verdicts.{Verdict, refusal, refuse_if, or_else, after}
 use Rattle.report.specs.FormChecks.{form_check}
@@ -30,6 +32,11 @@ pub paste_all : (d s : List ℕ) → length s ≡ length d → paste d 0 s (leng
 paste_all d s e =
     let z : 0 + length s ≡ length d = omega arith in
     ap₂ (λ (a b : List ℕ). a ++ b) (take_all (length s) s (le_refl (length s))) (ap (λ (k : ℕ). drop k d) z ∙ drop-length d) ∙ append-nil s
+
+-- a list of words is the table of its words; only must-fail/configuration_zero_copied.edit cites this, so that its `stored` would be accepted if it gave
+-- the right words
+pub own_table : (n : ℕ) (f : ℕ → ℕ) (l : List ℕ) → length l ≡ n → ((i : ℕ) → i < n → get_or l i 0 ≡ f i) → l ≡ table n f
+own_table n f l = table_of 0 n f l
 
 -- ---- the answer
 

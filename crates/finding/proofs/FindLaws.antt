@@ -13,7 +13,7 @@ use Rattle.report.specs.Tables.{Tables, report}
 use Rattle.report.specs.Expressions.{configurations, permitted}
 use Rattle.report.specs.Typing.{set_of}
 use Rattle.report.specs.ColumnRows.{column_rows, shown}
-use Rattle.report.specs.Verdicts.{Verdict, refusal, refuse_if, or_else, first_of}
+use Rattle.report.specs.Verdicts.{Verdict, refusal, refuse_if}
 use Rattle.report.specs.Formed.{Formed}
 use Rattle.report.specs.Calls.{answer}
 use Rattle.report.specs.declared.Refusal.{Refusal}
@@ -23,7 +23,7 @@ use Rattle.report.proofs.TypingLaws.{shown_columns}
 use Rattle.expression_rows.proofs.PermittedLaws.{permitted_out}
 use Rattle.judging.specs.Judging.{report_check}
 use Rattle.judging.proofs.JudgingLaws.{call_refused, call_late, Columns}
-use Rattle.finding.specs.Finding.{wanted_condition, finding, has_wanted, lowest_wanted, found_answer, Finds}
+use Rattle.finding.specs.Finding.{finding, has_wanted, lowest_wanted, found_answer, Finds}
 use Rattle.finding.specs.ColumnSearch.{shows_wanted, lowest_shown}
 
 -- ---- the configuration, from the rows

@@ -30,6 +30,12 @@ consumed_both (Some all) None after xs ys f g = absurd f
 consumed_both (Some all) (Some rest) None xs ys f g = absurd g
 consumed_both (Some all) (Some rest) (Some last) xs ys f g = rw (f, g) (sym (append_assoc xs ys last))
 
+-- what one read took, before it what stands at the start of the text already
+pub consumed_put : (before between after : Option (List ℕ)) (a k n : ℕ) (xs ys : List ℕ) → a ≤ length xs → n ≤ length ys → Consumes before between (take a xs)
+    → Consumes between after (take n ys) → Consumes before after (take (a + n) (put_mid a k xs ys))
+consumed_put before between after a k n xs ys h f took more =
+    subst (Consumes before after) (sym (take_put a k n xs ys h f)) (consumed_both before between after _ _ took more)
+
 -- the print of the bytes that were read of an input is that of its first, at the room that a program has for them
 pub printed_first : (known : Option (List ℕ)) (layout : Layout) (text : List ℕ) (n count : ℕ) (before after : List ℕ) → length text ≡ 65537
     → IfSome known (λ xs. take n text ≡ take (length text) xs) → Prints (text_as layout (take n text)) before after count
