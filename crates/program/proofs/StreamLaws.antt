@@ -30,7 +30,7 @@ consumed_both (Some all) None after xs ys f g = absurd f
 consumed_both (Some all) (Some rest) None xs ys f g = absurd g
 consumed_both (Some all) (Some rest) (Some last) xs ys f g = rw (f, g) (sym (append_assoc xs ys last))
 
--- what one read took, before it what stands at the start of the text already
+-- what stands at the start of the text, and after it what one read took
 pub consumed_put : (before between after : Option (List ℕ)) (a k n : ℕ) (xs ys : List ℕ) → a ≤ length xs → n ≤ length ys → Consumes before between (take a xs)
     → Consumes between after (take n ys) → Consumes before after (take (a + n) (put_mid a k xs ys))
 consumed_put before between after a k n xs ys h f took more =

@@ -1,19 +1,17 @@
-use Rattle.std.proofs.Common.{rules, ◌≡◌, ◌∙◌, Ok, Err}
+use Rattle.std.proofs.Common.{rules, ◌≡◌, ◌∙◌, Ok}
 use Rattle.judging.proofs.JudgingLaws.{own_columns}
 use Rattle.finding.proofs.FindLaws.{checked_refused, late_refused, found_answers}
 use Rattle.finding.proofs.find.Goals as goal
 
 pub returns-in_err-judged : goal.returns-in_err-judged
 returns-in_err-judged c =
-    let told : c.from_residual.result ≡ Err c.in_err-judged.field-0.0 = search rules in
-    told ∙ checked_refused _ c.args.reading _ c.check_into_columns-judged.ensures.answers c.in_err-judged.was
+    search rules ∙ checked_refused _ c.args.reading _ c.check_into_columns-judged.ensures.answers c.in_err-judged.was
 
--- Here typing has passed: the search finds that among what is known, under whatever name the step has.
+-- Here typing has passed, which the search finds among what is known.
 pub returns-in_err-refuse_if : goal.returns-in_err-refuse_if
 returns-in_err-refuse_if c =
     let passed : c.check_into_columns-judged.result.verdict ≡ Ok tt = search rules in
-    let told : c.from_residual-in_err-refuse_if.result ≡ Err c.in_err-refuse_if.field-0.0 = search rules in
-    told ∙ late_refused _ c.args.reading _ c.check_into_columns-judged.ensures.answers passed c.of_bits-wanted.ensures c.has_from.ensures c.in_err-refuse_if.ensures
+    search rules ∙ late_refused _ c.args.reading _ c.check_into_columns-judged.ensures.answers passed c.of_bits-wanted.ensures c.has_from.ensures c.in_err-refuse_if.ensures
 
 pub returns : goal.returns
 returns c =
