@@ -138,7 +138,7 @@ fn write_kept(
 }
 
 // The four tables lent for writing are no struct: one that holds a `&mut` needs a clause in each function that it is the same one.
-// 20, 21 and the tables at c, of a report that has passed the checks before, from its expression rows and its reach rows.
+// 20, 21 and the tables at c, of a report that has passed the checks before, from its split tables and its reach rows.
 fn configure_judged(
     model: usize,
     c: u64,

@@ -1,6 +1,6 @@
 -- How the tests of 20 and 21 make their answer.
 use Rattle.std.specs.Prelude.{Err}
-use Prim.Native.Nat.{ℕ, ◌^◌, ◌≤◌, ◌<◌}
+use Prim.Native.Nat.{ℕ, ◌+◌, ◌^◌, ◌≤◌, ◌<◌}
 use mathlib.Core.Path.{◌≡◌, sym, ap, ◌∙◌}
 use mathlib.Core.Bool.{Bool, true, false, not, ◌&&◌}
 use mathlib.Core.List.{List, ◌++◌}
@@ -9,7 +9,7 @@ use native.Mathlib.Omega.{arith}
 use borrow.Author.Tests.{lt-ltb, le-ltb}
 use lib.Dec.{ltb}
 use lib.Pow.{pow_mono}
-use lib.ListN.{length}
+use lib.ListN.{length, length-append}
 use Rattle.sets.specs.Rows.{row_bit, row_of}
 use Rattle.sets.proofs.RowLaws.{row_bit-row_of, within_out}
 use Rattle.report.specs.Tables.{Tables}
@@ -18,6 +18,7 @@ use Rattle.report.specs.Verdicts.{Verdict, refusal, refuse_if, or_else, first_of
 use Rattle.report.specs.Calls.{permitted_condition, room_conditions}
 use Rattle.report.proofs.VerdictLaws.{then_next, accepted_if}
 use Rattle.report.proofs.FirstFault.{first_room, first_own}
+use Rattle.expression_rows.specs.declared.SplitTables.{SplitTables}
 use Rattle.late_checks.specs.declared.LentWords.{LentWords}
 use Rattle.late_checks.specs.LateReads.{SourceReads, LateReads}
 
@@ -37,17 +38,18 @@ told_permitted T few {permits} e c = go (dec_lt c 1024)
 
 -- ---- 21
 
-module _ {T : Tables} {entries relations comparisons queries : List ℕ} (R : SourceReads T entries relations comparisons queries)
+module _ {T : Tables} (split : SplitTables)
+    (R : SourceReads T (split.relation_entries.now ++ split.project_entries.now) split.relations.now split.comparisons.now split.queries.now)
     (lent : LentWords) where
-  -- the four tests, one after another, where table 1 has n words
-  pub room_answers : {n : ℕ} → n ≡ length entries → {v : Verdict}
-      → v ≡ or_else (refuse_if (ltb lent.entries n) (refusal 21 1 0 0))
-      (or_else (refuse_if (ltb lent.relations (length relations)) (refusal 21 2 0 0))
-      (or_else (refuse_if (ltb lent.comparisons (length comparisons)) (refusal 21 3 0 0))
-      (refuse_if (ltb lent.queries (length queries)) (refusal 21 4 0 0))))
+  -- the four tests, one after another
+  pub room_answers : {v : Verdict}
+      → v ≡ or_else (refuse_if (ltb lent.entries (length split.relation_entries.now + length split.project_entries.now)) (refusal 21 1 0 0))
+      (or_else (refuse_if (ltb lent.relations (length split.relations.now)) (refusal 21 2 0 0))
+      (or_else (refuse_if (ltb lent.comparisons (length split.comparisons.now)) (refusal 21 3 0 0))
+      (refuse_if (ltb lent.queries (length split.queries.now)) (refusal 21 4 0 0))))
       → v ≡ first_of (room_conditions lent.entries lent.relations lent.comparisons lent.queries T)
-  room_answers m e =
-      (rw (m, R.entries_are, R.relations_are, R.comparisons_are, R.queries_are) at e)
+  room_answers e =
+      (rw (sym (length-append split.relation_entries.now split.project_entries.now), R.entries_are, R.relations_are, R.comparisons_are, R.queries_are) at e)
       ∙ sym (first_room T lent.entries lent.relations lent.comparisons lent.queries)
 
 -- ---- 20 and 21
