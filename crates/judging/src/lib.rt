@@ -166,6 +166,8 @@ fn fill_and_judge(
 }
 
 // The same with expression rows of its own, in WORDS words, of tables that have no more expressions than these have rows for.
+// Not inlined: a call that is refused before would have the rows on its stack.
+#[inline(never)]
 fn judge_with_expression_rows<const WORDS: usize>(
     tables: &TableWords,
     reading: Reading,

@@ -36,6 +36,7 @@ pub fn cases() -> Vec<Aimed> {
         finding(),
         paging(),
         large::cases(),
+        room_of_projects(),
     ];
     groups.into_iter().flatten().collect()
 }
@@ -968,6 +969,18 @@ fn order_of_checks() -> Vec<Aimed> {
         4,
     ));
     calls
+}
+
+fn room_of_projects() -> Vec<Aimed> {
+    let report = of_swaps(&[project(&[[0, TRUE]], 0)]);
+    let case = configure_with(
+        "room for the relation's list, the project has one too, and nothing is written",
+        "refused 21 1 0 0",
+        report,
+        0,
+        [2, 2, 0, 8],
+    );
+    vec![filled(case)]
 }
 
 fn finding() -> Vec<Aimed> {
