@@ -1,4 +1,4 @@
-use Prim.Native.Nat.{ℕ, ◌*◌, ◌/◌, ◌≤◌}
+use Prim.Native.Nat.{ℕ, ◌-◌, ◌*◌, ◌/◌, ◌≤◌}
 use mathlib.Core.Path.{◌≡◌, refl, sym, ap, ap₂, ◌∙◌}
 use mathlib.Core.List.{List}
 use native.Mathlib.Omega.{arith}
@@ -19,6 +19,10 @@ module _ {T : Tables} {entries relations comparisons queries kinds : List ℕ} (
   -- table 1 can be split there
   inside : end * 2 ≤ length entries
   inside = let l = split_in R.formed end_is in let e = ap length R.entries_are in omega arith
+
+-- the words of a slice from n on
+part_from : (l : List ℕ) {n m : ℕ} → n ≡ m → take (length l - n) (drop n l) ≡ drop m l
+part_from l {n} {m} e = ap (λ (k : ℕ). take (length l - k) (drop k l)) e ∙ words_from l m
 
 pub relations_end-end-requires : goal.relations_end-end-requires
 relations_end-end-requires c =
@@ -44,8 +48,8 @@ returns c T R =
     let e = end_is R c.relations_end-end.ensures in
     record {
       rows_are = refl;
-      relation_entries_are = ap₂ (λ (k : ℕ) (l : List ℕ). take (k * 2) l) e R.entries_are;
-      project_entries_are = words_from c.args.entries.now (c.relations_end-end.result * 2) ∙ ap₂ (λ (k : ℕ) (l : List ℕ). drop (k * 2) l) e R.entries_are;
+      relation_entries_are = ap₂ take (omega (arith, e)) R.entries_are;
+      project_entries_are = part_from c.args.entries.now (omega (arith, e)) ∙ ap (drop (relations_end T * 2)) R.entries_are;
       relations_are = R.relations_are;
       comparisons_are = R.comparisons_are;
       queries_are = R.queries_are;
