@@ -217,7 +217,7 @@ fn every_stored_case_has_its_answer() {
         ("check", 541),
         ("configure", 55),
         ("filled check", 89),
-        ("filled configure", 21),
+        ("filled configure", 22),
         ("filled find", 10),
         ("filled page", 4),
         ("find", 71),
